@@ -1,5 +1,6 @@
 -- Kinds, their numbers and their join (document 01, module 1). Assumes nothing: these are definitions.
 use Prim.Native.Nat.{ℕ}
+use mathlib.Core.Bool.{Bool, true, false}
 use mathlib.Core.List.{List, [], _∷_}
 use lib.ListN.{getD}
 use Rattle.kinds.specs.declared.ValueKind.{ValueKind}
@@ -34,3 +35,38 @@ joinTable =
 
 unfoldable pub joinKind : ValueKind → ValueKind → ValueKind
 joinKind a b = kindAt (getD (getD joinTable (codeOf a) []) (codeOf b) 0)
+
+-- "Freeze acts on defined places that are Mutable, Context or MaybeFrozen"
+abbrev pub freezable : ValueKind → Bool
+freezable Mutable = true
+freezable Frozen = false
+freezable Primitive = false
+freezable MaybeFrozen = true
+freezable Global = false
+freezable Context = true
+
+-- "yes if its kind is Mutable or Context, else no"
+abbrev pub writable : ValueKind → Bool
+writable Mutable = true
+writable Frozen = false
+writable Primitive = false
+writable MaybeFrozen = false
+writable Global = false
+writable Context = true
+
+-- copies of such a kind share nothing: no data flow is tracked
+abbrev pub copied : ValueKind → Bool
+copied Mutable = false
+copied Frozen = false
+copied Primitive = true
+copied MaybeFrozen = false
+copied Global = true
+copied Context = false
+
+abbrev pub isFrozen : ValueKind → Bool
+isFrozen Mutable = false
+isFrozen Frozen = true
+isFrozen Primitive = false
+isFrozen MaybeFrozen = false
+isFrozen Global = false
+isFrozen Context = false

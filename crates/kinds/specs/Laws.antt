@@ -9,7 +9,7 @@ use mathlib.Core.List.{List, [], _∷_}
 use lib.Dec.{T, eqb, eqb→eq, eqb-refl, ltb, ltb→lt}
 use lib.ListN.{getD}
 use borrow.Author.Tests.{eq-eqb as eqb-true, ne-eqb as eqb-false}
-use Rattle.orders.specs.Finite.{both-left, both-right}
+use Rattle.orders.specs.Finite.{both, both-left, both-right}
 use Rattle.orders.specs.Join.{Joins, Above, above-refl, above-trans, above-antisym, join-above-left, join-above-right, join-least}
 use Rattle.orders.specs.Union.{or-joins}
 use Rattle.kinds.specs.declared.ValueKind.{ValueKind}
@@ -110,17 +110,13 @@ above-says a b t i =
     mk (eqKind-eq (joinKind (a .kind) (b .kind)) (a .kind) (both-left k r t) i)
     (eqb→eq (joinReasons (a .reason) (b .reason)) (a .reason) (both-right k r t) i)
 
-and-both : (a b : Bool) → T a → T b → T (a && b)
-and-both true b t u = u
-and-both false b t u = absurd t
-
 eqb-of : (m n : ℕ) → m ≡ n → T (eqb m n)
 eqb-of m n e = rw e (eqb-refl n)
 
 pub above-test : (a b : AbstractValue) → Above join a b → T (above a b)
 unfolding above join contains
 above-test a b e =
-    and-both (eqKind (joinKind (a .kind) (b .kind)) (a .kind)) (eqb (joinReasons (a .reason) (b .reason)) (a .reason))
+    both (eqKind (joinKind (a .kind) (b .kind)) (a .kind)) (eqb (joinReasons (a .reason) (b .reason)) (a .reason))
     (eqb-of _ _ (ap (λ (v : AbstractValue). codeOf (v .kind)) e)) (eqb-of _ _ (ap (λ (v : AbstractValue). v .reason) e))
 
 -- the two ways through the test: by the kinds alone, then by the reasons

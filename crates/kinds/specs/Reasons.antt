@@ -1,8 +1,10 @@
 -- Reasons and their sets (document 01, module 1). Assumes nothing: these are definitions.
-use Prim.Native.Nat.{ℕ, _^_, _/_, _%_}
-use mathlib.Core.Bool.{Bool}
+use Prim.Native.Nat.{ℕ, zero, suc, _^_, _/_, _%_}
+use mathlib.Core.Bool.{Bool, true, false}
+use mathlib.Core.List.{List, [], _∷_}
 use lib.Bits.{bitOr}
 use lib.Dec.{eqb, ltb}
+use lib.ListN.{getD}
 
 -- "Reasons 0..11": how many there are, in this one place
 abbrev pub reasonCount : ℕ
@@ -61,3 +63,22 @@ hasReason s r = eqb (s / 2 ^ r % 2) 1
 -- "reasons by union"
 abbrev pub joinReasons : ℕ → ℕ → ℕ
 joinReasons s t = bitOr s t
+
+-- the first reason of a list that a set has: its place in the list, or the list's length
+unfoldable pub firstIn : List ℕ → ℕ → ℕ
+firstIn [] s = 0
+firstIn (r ∷ rs) s = elim (hasReason s r) [ true ↦ 0 | false ↦ suc (firstIn rs s) ]
+
+-- the reasons in the order of their numbers but Other, which comes last (`primary_reason`)
+abbrev pub inOrder : List ℕ
+inOrder = KnownReturnSignature ∷ State ∷ ReducerState ∷ Context ∷ Effect ∷ HookCaptured ∷ HookReturn ∷ Global ∷ JsxCaptured ∷ StoreLocal ∷ ReactiveFunctionArgument ∷ []
+
+unfoldable pub primaryReason : ℕ → ℕ
+primaryReason s = getD inOrder (firstIn inOrder s) Other
+
+-- "one per distinct sentence of `get_write_error_reason`, from 0 in the order of its text": the reasons that it asks for, in turn; 10 where a set has none
+abbrev pub inSentenceOrder : List ℕ
+inSentenceOrder = Global ∷ JsxCaptured ∷ Context ∷ KnownReturnSignature ∷ ReactiveFunctionArgument ∷ State ∷ ReducerState ∷ Effect ∷ HookCaptured ∷ HookReturn ∷ []
+
+unfoldable pub writeErrorSentence : ℕ → ℕ
+writeErrorSentence s = firstIn inSentenceOrder s

@@ -10,3 +10,7 @@ both-left false b t = absurd t
 pub both-right : (a b : Bool) → T (a && b) → T b
 both-right true b t = t
 both-right false b t = absurd t
+
+pub both : (a b : Bool) → T a → T b → T (a && b)
+both true b t u = u
+both false b t u = absurd t

@@ -1,3 +1,4 @@
 pub mod Finite
 pub mod Join
+pub mod Options
 pub mod Union
