@@ -9,3 +9,4 @@ pub mod Instruction
 pub mod Reach
 pub mod Pure
 pub mod Merge
+pub mod Computing
