@@ -6,7 +6,15 @@ pub mod Context
 pub mod Walk
 pub mod Step
 pub mod Instruction
+pub mod Merge
+pub mod Accepted
 pub mod Reach
 pub mod Pure
-pub mod Merge
 pub mod Computing
+pub mod Sim
+pub mod Lawful
+pub mod Worlds
+pub mod Within
+pub mod Isolation
+pub mod PureLaws
+pub mod Cases

@@ -13,15 +13,15 @@ use Rattle.effects.specs.declared.Session.{Session}
 use Rattle.effects.specs.Places.{identifiers}
 use Rattle.effects.specs.Effects.{AliasingEffect}
 use Rattle.effects.specs.Keys.{EffectKey, names, creates, listed}
 use Rattle.transfer.specs.Monad.{Res, ok, refused, Done, _>>_, _>>=_, andThen, restore, atomically}
 use Rattle.transfer.specs.Tables.{Tables, State, Context, Rest, World}
 use Rattle.transfer.specs.State.{valuesOf, fromIdentifier, change}
 use Rattle.transfer.specs.Instruction.{Instruction, startInstruction, run, applySignature}
 use Rattle.transfer.specs.Reach.{Node, val, id, entry, Named, by-effect, Created, by-candidate, by-itself, Reach, in-candidate, lvalue, in-created, its-values, its-own, its-context, cached, fresh, Agree, Untouched, Ends, Alike}
-use Rattle.isolation.specs.Lawful.{Lawful}
-use Rattle.isolation.specs.Sim.{Any, Rel}
-use Rattle.isolation.specs.Worlds.{Reaching, Inv, frame, pointed}
-use Rattle.isolation.specs.Within.{reaching, run-sim}
+use Rattle.transfer.specs.Lawful.{Lawful}
+use Rattle.transfer.specs.Sim.{Any, Rel}
+use Rattle.transfer.specs.Worlds.{Reaching, Inv, frame, pointed}
+use Rattle.transfer.specs.Within.{reaching, run-sim}
 
 module _ {T : Tables} where
   abbrev world : State T → Rest T → World T

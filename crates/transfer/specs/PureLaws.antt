@@ -13,14 +13,14 @@ use Rattle.effects.specs.Places.{identifiers}
 use Rattle.effects.specs.Effects.{AliasingEffect}
 use Rattle.effects.specs.Keys.{EffectKey, effectKey, eqKey}
 use Rattle.effects.specs.KeyLaws.{eqKey-eq}
 use Rattle.transfer.specs.Monad.{Res, Done}
 use Rattle.transfer.specs.Tables.{State, World}
 use Rattle.transfer.specs.State.{valuesOf}
 use Rattle.transfer.specs.Instruction.{Instruction, applySignature}
 use Rattle.transfer.specs.Reach.{Reach, Agree, Alike}
 use Rattle.transfer.specs.Pure.{at, findEffect, isKey, firstCached, Function, readOnly, readOnlyIn, pure}
-use Rattle.isolation.specs.Lawful.{Lawful}
-use Rattle.isolation.specs.Isolation.{isolation}
+use Rattle.transfer.specs.Lawful.{Lawful}
+use Rattle.transfer.specs.Isolation.{isolation}
 
 module _ {A : Type 0} where
   at-cong : (f g : ℕ → A) (i : ℕ) (x : A) (j : ℕ) → f j ≡ g j → at f i x j ≡ at g i x j

@@ -14,20 +14,24 @@ use Rattle.kinds.specs.Values.{mk}
 use Rattle.effects.specs.declared.Place.{Place}
 use Rattle.effects.specs.declared.Session.{Session}
 use Rattle.effects.specs.Places.{noSpan}
-use Rattle.effects.specs.Effects.{AliasingEffect, Freeze, Mutate, Capture, Alias, MaybeAlias, Assign, Create, codeOf}
+use Rattle.effects.specs.Effects.{AliasingEffect, Freeze, Mutate, MutateTransitive, Capture, Alias, MaybeAlias, Assign, Create, codeOf}
 use Rattle.effects.specs.Keys.{eqList}
 use Rattle.transfer.specs.Monad.{Res, ok, refused, Done}
 use Rattle.transfer.specs.Tables.{State, Rest, World}
 use Rattle.transfer.specs.State.{kindWithSpan, freeze, inferPhi}
+use Rattle.transfer.specs.Context.{diagnosticOf}
 use Rattle.transfer.specs.Instruction.{Instruction, applySignature}
 use Rattle.transfer.specs.Merge.{Entries, entriesOf, merge}
 use Rattle.transfer.specs.Pure.{pure, at, Function, Identifier}
 use Rattle.transfer.specs.Computing.{computing}
 
 -- ---- worlds to start from
 
 abbrev place : ℕ → Place
 place i = record { identifier = i; effect = 0; reactive = 0; span = record { start = 10 * i; end = 10 * i + 1 } }
+
+abbrev placeAt : ℕ → ℕ → Place
+placeAt i s = record { identifier = i; effect = 0; reactive = 0; span = record { start = s; end = s + 1 } }
 
 abbrev empty : State pure
 empty = record { values = λ v. none; sets = λ i. none; isFunctionExpression = false }
@@ -98,6 +102,11 @@ found (refused n w) = mk MaybeFrozen 0
 pub codes : List AliasingEffect → List ℕ
 codes [] = []
 codes (e ∷ es) = codeOf e ∷ codes es
+
+-- the instance numbers of the diagnostics that are listed
+pub instances : List AliasingEffect → List ℕ
+instances [] = []
+instances (e ∷ es) = diagnosticOf (record { identity = 99; instance = 99 }) e .instance ∷ instances es
 
 -- the codes of the effects that a call lists
 abbrev lists : List AliasingEffect → World pure → List ℕ
@@ -171,12 +180,15 @@ cases =
     -- 17 Next 511 serves one Create; then 9.
     ∷ eqb (refusal (Create (place 0) Mutable 1 ∷ []) (from 511 empty)) 0
     ∷ eqb (refusal (Create (place 0) Mutable 1 ∷ Create (place 1) Frozen 2 ∷ []) (from 511 empty)) 9
+    -- The first effect under a key is used ever after, spans included: a Frozen place mutated at span A, at span B, and transitively at span B
+    -- lists MutateFrozen with the diagnostics 0, 0 and 1.
+    ∷ eqList (instances (end (applySignature (ins (Mutate (placeAt 0 5) 0 ∷ Mutate (placeAt 0 6) 0 ∷ MutateTransitive (placeAt 0 6) ∷ [])) (on (one Frozen 2))) .rest .work .listed)) (0 ∷ 0 ∷ 1 ∷ [])
     -- 18 f above g: 3 entries.
     ∷ eqb (end (applySignature (ins (Freeze (place 0) 1 ∷ [])) (loop 9 8)) .rest .session .entries) 3
     ∷ []
 
 pub table : T (all cases)
-unfolding computing answer end said found codes is hasValue hasSet sameKind isNone all
+unfolding computing answer end said found codes instances is hasValue hasSet sameKind isNone all
 table = tt
 
 -- 18 f below g never ends in the Rust: 11.

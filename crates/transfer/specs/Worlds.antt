@@ -13,12 +13,12 @@ use Rattle.kinds.specs.declared.AbstractValue.{AbstractValue}
 use Rattle.kinds.specs.Values.{join}
 use Rattle.effects.specs.declared.Place.{Place}
 use Rattle.effects.specs.Places.{identifiers}
 use Rattle.transfer.specs.Monad.{Res, M, Done, _>>=_, each}
 use Rattle.transfer.specs.Tables.{Tables, State, Rest, World}
 use Rattle.transfer.specs.State.{valuesOf, orDefault, joinValues, kindOf, setOf, valueOf, peek, initialize, point, ask, change}
 use Rattle.transfer.specs.Reach.{Node, val, id, Entry, valued, pointing, entry, Agree, Untouched}
-use Rattle.isolation.specs.Lawful.{Lawful}
-use Rattle.isolation.specs.Sim.{Any, Frame, Sim, plain, bind-sim, then-sim, done-sim, each-sim}
+use Rattle.transfer.specs.Lawful.{Lawful}
+use Rattle.transfer.specs.Sim.{Any, Frame, Sim, plain, bind-sim, then-sim, done-sim, each-sim}
 
 abbrev pub pointed : Entry → Option ℕ
 pointed (valued a) = none

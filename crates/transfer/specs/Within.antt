@@ -23,18 +23,18 @@ use Rattle.effects.specs.declared.MutationResult.the-variants as Result
 use Rattle.effects.specs.Places.{identifiers}
 use Rattle.effects.specs.Effects.{AliasingEffect, Freeze, Mutate, MutateConditionally, MutateTransitive, MutateTransitiveConditionally, Capture, Alias, MaybeAlias, Assign, Create, CreateFrom, ImmutableCapture, CreateFunction, MutateFrozen, MutateGlobal, Impure, Render}
 use Rattle.effects.specs.Keys.{EffectKey, effectKey, one, namedBy, names, creates, listed}
 use Rattle.transfer.specs.Monad.{M, Done, _>>=_, _>>_, return, refuse, done, if_then_else_, each}
 use Rattle.transfer.specs.Diagnostics.{Diagnostic}
 use Rattle.transfer.specs.Tables.{Tables, State, Rest, World}
 use Rattle.transfer.specs.State.{isSome, valuesOf, firstAccess, setOf, valueOf, peek, initialize, point, ask, change, recordAccess, isDefined, kindWithSpan, kindAt, kind, define, orInsert, assignSet, assign, freezeValue, toFreeze, freeze, fromIdentifier}
 use Rattle.transfer.specs.Context.{diagnosticOf, refreshed, putEffect, internNew, intern, setNext, freshNumber, cache, orFresh, numberFor, linkTo, functionContext, linkedContext, makeRead, putDiagnostic, newIdentity, newInstance, internDiagnostic, emit, isInitialized, putInitialized, begin, startFreeze, countEntry}
 use Rattle.transfer.specs.Walk.{freezeAndEnter, enterPlace, enterContext, enter, walk}
 use Rattle.transfer.specs.Step.{Flow, Immutable, Same, Maybe, Nothing, Source, FromContext, FromNothing, FromFrozen, FromMutable, Destination, flowOf, create, isWritten, anyWritten, updateContext, byFlow, mutate, flowing, reportModified, reportHoisted, report, mutating, freezing, creating, capturingImmutably, listCreated, creatingFrom, assigning, creatingFunction, act, step}
 use Rattle.transfer.specs.Instruction.{Instruction, has, reportEarly, earlyError, earlyErrors, defineLvalue, run}
 use Rattle.transfer.specs.Reach.{Node, val, id}
-use Rattle.isolation.specs.Lawful.{Lawful}
-use Rattle.isolation.specs.Sim.{Any, bind-sim, then-sim, bind-any, return-sim, done-sim, refuse-sim, if-sim, test-sim, each-sim}
-use Rattle.isolation.specs.Worlds.{Reaching, Keeps, sims, setOf-sim, peek-sim, bind-number, bind-set, bind-places, each-place, each-reached, ask-sim, look-sim, change-sim}
+use Rattle.transfer.specs.Lawful.{Lawful}
+use Rattle.transfer.specs.Sim.{Any, bind-sim, then-sim, bind-any, return-sim, done-sim, refuse-sim, if-sim, test-sim, each-sim}
+use Rattle.transfer.specs.Worlds.{Reaching, Keeps, sims, setOf-sim, peek-sim, bind-number, bind-set, bind-places, each-place, each-reached, ask-sim, look-sim, change-sim}
 
 -- what a set R asks of session and context: N are the identifiers that candidates name, F the functions that they create
 pub record Closed (T : Tables) (R : Node → Type 0) (N F : ℕ → Type 0) (next : ℕ) (cached : T .Cached) (links : T .Links) (functions : T .Functions) : Type 0 where
