@@ -26,8 +26,8 @@ listFrom zero k f = []
 listFrom (suc n) k f = f k ∷ listFrom n (suc k) f
 
 -- a list as a table: entry i, or another where the list is shorter
-unfoldable pub listed : {A : Type 0} → A → List A → ℕ → A
-listed d l i = getD l i d
+unfoldable pub entryOf : {A : Type 0} → A → List A → ℕ → A
+entryOf d l i = getD l i d
 
 abbrev pub span : ℕ → ℕ → Span
 span start end = record { start = start; end = end }
@@ -42,28 +42,34 @@ noFunction = record { context = []; inside = []; tracked = false }
 abbrev pub noIdentifier : Identifier
 noIdentifier = record { ref = false; hoisted = false; access = noSpan; name = 0 }
 
+-- the sets with a value added to that of identifier i
+unfoldable pub withPair : (ℕ → Option ℕ) → ℕ → ℕ → ℕ → Option ℕ
+withPair sets i v = at sets i (some (union (bitsOf (sets i)) (memberOf v)))
+
+-- "own function + 1 or 0"
+abbrev pub ownOf : ℕ → Option ℕ
+ownOf zero = none
+ownOf (suc f) = some f
+
 module _ (im : Image) where
   unfoldable pub placeAt : ℕ → Place
   placeAt k = record { identifier = placeIdentifier im k; effect = placeEffect im k; reactive = placeReactive im k; span = span (placeStart im k) (placeEnd im k) }
 
   -- a run of places: first and count
-  unfoldable pub run : ℕ → ℕ → List Place
-  run first count = listFrom count first placeAt
+  unfoldable pub placesFrom : ℕ → ℕ → List Place
+  placesFrom first count = listFrom count first placeAt
 
   -- ---- the state
 
-  -- the first n values
-  unfoldable pub valuesOf : ℕ → ℕ → Option AbstractValue
-  valuesOf zero = λ v. none
-  valuesOf (suc n) = at (valuesOf n) (valueNumber im n) (some (mk (kindAt (valueKind im n)) (valueReasons im n)))
-
-  unfoldable pub withPair : (ℕ → Option ℕ) → ℕ → ℕ → ℕ → Option ℕ
-  withPair sets i v = at sets i (some (union (bitsOf (sets i)) (memberOf v)))
+  -- the entries of the first n values
+  unfoldable pub valueTable : ℕ → ℕ → Option AbstractValue
+  valueTable zero = λ v. none
+  valueTable (suc n) = at (valueTable n) (valueNumber im n) (some (mk (kindAt (valueKind im n)) (valueReasons im n)))
 
   -- the sets of the first n pairs
-  unfoldable pub setsOf : ℕ → ℕ → Option ℕ
-  setsOf zero = λ i. none
-  setsOf (suc n) = withPair (setsOf n) (pairIdentifier im n) (pairValue im n)
+  unfoldable pub setTable : ℕ → ℕ → Option ℕ
+  setTable zero = λ i. none
+  setTable (suc n) = withPair (setTable n) (pairIdentifier im n) (pairValue im n)
 
   -- ---- the context
 
@@ -71,7 +77,7 @@ module _ (im : Image) where
   identifierAt k = record { ref = flagOne (identifierFlags im k); hoisted = flagTwo (identifierFlags im k); access = span (accessStart im k) (accessEnd im k); name = identifierName im k }
 
   unfoldable pub functionAt : ℕ → Function
-  functionAt k = record { context = run (contextFirst im k) (contextCount im k); inside = run (insideFirst im k) (insideCount im k); tracked = flagTwo (functionFlags im k) }
+  functionAt k = record { context = placesFrom (contextFirst im k) (contextCount im k); inside = placesFrom (insideFirst im k) (insideCount im k); tracked = flagTwo (functionFlags im k) }
 
   -- "(either option on)": the walk
   unfoldable pub transitive : Bool
@@ -80,15 +86,15 @@ module _ (im : Image) where
   -- "Interned effects, cached numbers, links and diagnostics start empty, the function-expression flag as no."
   unfoldable pub worldOf : World pure
   worldOf = record {
-    state = record { values = valuesOf (countOf im values); sets = setsOf (countOf im pairs); isFunctionExpression = false };
+    state = record { values = valueTable (countOf im values); sets = setTable (countOf im pairs); isFunctionExpression = false };
     rest = record {
       session = record { next = next im; access = 0; span = noSpan; entries = 0 };
       context = record {
         interned = [];
         cached = λ n. none;
         links = λ v. none;
-        functions = listed noFunction (listFrom (countOf im functions) 0 functionAt);
-        identifiers = listed noIdentifier (listFrom (countOf im identifiers) 0 identifierAt);
+        functions = entryOf noFunction (listFrom (countOf im functions) 0 functionAt);
+        identifiers = entryOf noIdentifier (listFrom (countOf im identifiers) 0 identifierAt);
         transitive = transitive;
         diagnostics = [];
       };
@@ -124,7 +130,7 @@ module _ (im : Image) where
       ∷ (λ k. CreateFrom (first k) (second k))
       ∷ (λ k. ImmutableCapture (first k) (second k))
       ∷ (λ k. Render (first k))
-      ∷ (λ k. CreateFunction (run (capturesFirst im k) (capturesCount im k)) (function im k) (second k))
+      ∷ (λ k. CreateFunction (placesFrom (capturesFirst im k) (capturesCount im k)) (function im k) (second k))
       ∷ (λ k. MutateFrozen (first k) (diagnostic k))
       ∷ (λ k. MutateGlobal (first k) (diagnostic k))
       ∷ (λ k. Impure (first k) (diagnostic k))
@@ -132,11 +138,6 @@ module _ (im : Image) where
 
   unfoldable pub effectAt : ℕ → AliasingEffect
   effectAt k = getD makers (code im k) (λ j. Render (first j)) k
-
-  -- "own function + 1 or 0"
-  abbrev pub ownOf : ℕ → Option ℕ
-  ownOf zero = none
-  ownOf (suc f) = some f
 
   unfoldable pub instructionOf : Instruction
   instructionOf = record { candidates = listFrom (countOf im candidates) 0 effectAt; lvalue = placeAt (lvalue im); own = ownOf (own im) }

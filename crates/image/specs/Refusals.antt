@@ -5,11 +5,25 @@ use mathlib.Core.Bool.{Bool, true, false, not, _&&_, _||_}
 use mathlib.Core.List.{List, [], _∷_}
 use lib.Dec.{eqb, leb, ltb}
 use lib.ListN.{getD, length}
-use Rattle.kinds.specs.Reasons.{reasonCount, isReason, areReasons}
+use Rattle.kinds.specs.Reasons.{reasonCount, areReasons}
 use Rattle.transfer.specs.State.{fromIdentifier}
 use Rattle.transfer.specs.Instruction.{has}
 use Rattle.transfer.specs.Merge.{anyBelow}
 use Rattle.image.specs.Layout.{Image, wrongLength, wordsOf, headerWords, edition, options, next, lvalue, own, identifiers, values, pairs, places, functions, candidates, sectionCount, countOf, offsetOf, endOf, startOf, cell, identifierFlags, identifierName, accessStart, accessEnd, valueNumber, valueKind, valueReasons, pairIdentifier, pairValue, placeIdentifier, placeEffect, placeReactive, functionFlags, contextFirst, contextCount, insideFirst, insideCount, code, detail, reason, function, capturesFirst, capturesCount, codeCount, Mutate, Create, Apply, CreateFunction, flagOne, flagTwo}
+
+-- "Kinds 0..5"; "`Effect` in declared order from 0", of which the Rust has eight; "0 for none, else 1 + its place in `MutationReason`", of which it has one
+abbrev pub kindCount : ℕ
+kindCount = 6
+
+abbrev pub effectCount : ℕ
+effectCount = 8
+
+abbrev pub mutationCodes : ℕ
+mutationCodes = 2
+
+-- "A diagnostic must already stand in the table, else 3": "diagnostics start empty"
+abbrev pub diagnosticCount : ℕ
+diagnosticCount = 0
 
 -- ---- the words of a candidate that its code uses: "Unused words are zero"
 
@@ -37,13 +51,26 @@ usedWords =
     ∷ (1 ∷ [])
     ∷ []
 
-module _ (im : Image) where
-  unfoldable pub some : ℕ → (ℕ → Bool) → Bool
-  some s test = anyBelow (countOf im s) test
+-- two flags
+unfoldable pub areFlags : ℕ → Bool
+areFlags w = ltb w 4
 
-  -- the same of each record and the one after it
-  unfoldable pub someNeighbours : ℕ → (ℕ → Bool) → Bool
-  someNeighbours s test = anyBelow (countOf im s - 1) test
+-- "kind or mutation reason or diagnostic", by the code: what the word has to be below
+unfoldable pub detailsOf : ℕ → ℕ
+detailsOf c = elim (eqb c Mutate) [ true ↦ mutationCodes | false ↦ elim (eqb c Create) [ true ↦ kindCount | false ↦ diagnosticCount ] ]
+
+-- "the first of a run with count 0 is unused"
+unfoldable pub strayFirst : ℕ → ℕ → Bool
+strayFirst first count = eqb count 0 && not (eqb first 0)
+
+module _ (im : Image) where
+  -- a record of a section passes a test
+  unfoldable pub anyRecord : ℕ → (ℕ → Bool) → Bool
+  anyRecord s test = anyBelow (countOf im s) test
+
+  -- the same, of the records that have one after them
+  unfoldable pub anyNeighbours : ℕ → (ℕ → Bool) → Bool
+  anyNeighbours s test = anyBelow (countOf im s - 1) test
 
   unfoldable pub isApply : ℕ → Bool
   isApply k = eqb (code im k) Apply
@@ -84,17 +111,13 @@ module _ (im : Image) where
   wrongHeader = wrongEdition || (tooManyRecords || (anyBelow sectionCount misplaced || wrongEnd))
 
   unfoldable pub earnsTwo : Bool
-  earnsTwo = wrongHeader || (some functions longFunction || some candidates longCandidate)
+  earnsTwo = wrongHeader || (anyRecord functions longFunction || anyRecord candidates longCandidate)
 
   -- ---- class 3: "a code, flag, number, index or reason bit lies outside its range, or a run of places passes their end"
 
   -- a record of a section: its index is below the section's count
   unfoldable pub isIn : ℕ → ℕ → Bool
   isIn s i = ltb i (countOf im s)
-
-  -- two flags
-  unfoldable pub areFlags : ℕ → Bool
-  areFlags w = ltb w 4
 
   -- "Value numbers are 1..1023"; "here and in pairs 512 + i needs identifier i in the list, else 3"
   unfoldable pub isNumber : ℕ → Bool
@@ -115,15 +138,15 @@ module _ (im : Image) where
 
   -- "values: number, kind, reasons"
   unfoldable pub badValue : ℕ → Bool
-  badValue k = not (isNumber (valueNumber im k)) || (not (ltb (valueKind im k) 6) || not (areReasons (valueReasons im k)))
+  badValue k = not (isNumber (valueNumber im k)) || (not (ltb (valueKind im k) kindCount) || not (areReasons (valueReasons im k)))
 
   -- "pairs: identifier, value ..; value 0 .. means defined with an empty set"
   unfoldable pub badPair : ℕ → Bool
   badPair k = not (isIn identifiers (pairIdentifier im k)) || not (eqb (pairValue im k) 0 || isNumber (pairValue im k))
 
-  -- "places: identifier, `Effect` in declared order from 0, reactive 0 or 1"; the Rust's `Effect` has eight
+  -- "places: identifier, `Effect` in declared order from 0, reactive 0 or 1"
   unfoldable pub badPlace : ℕ → Bool
-  badPlace k = not (isIn identifiers (placeIdentifier im k)) || (not (ltb (placeEffect im k) 8) || not (ltb (placeReactive im k) 2))
+  badPlace k = not (isIn identifiers (placeIdentifier im k)) || (not (ltb (placeEffect im k) effectCount) || not (ltb (placeReactive im k) 2))
 
   -- "flags (1 effects known, 2 tracked side effect; 2, and any place mutated inside, needs 1, else 3)"
   unfoldable pub needsKnown : ℕ → Bool
@@ -134,12 +157,7 @@ module _ (im : Image) where
       not (areFlags (functionFlags im k))
       || ((needsKnown k && not (flagOne (functionFlags im k))) || (passesEnd (contextFirst im k) (contextCount im k) || passesEnd (insideFirst im k) (insideCount im k)))
 
-  -- "A mutation reason is 0 for none, else 1 + its place in `MutationReason`", which has one; a kind;
-  -- "A diagnostic must already stand in the table, else 3": the table is empty
-  unfoldable pub detailsOf : ℕ → ℕ
-  detailsOf c = elim (eqb c Mutate) [ true ↦ 2 | false ↦ elim (eqb c Create) [ true ↦ 6 | false ↦ 0 ] ]
-
-  -- what word j of a candidate has to be below: a place, a place, one of the above, a reason, a function
+  -- what word j of a candidate has to be below: a place, a place, kind or mutation reason or diagnostic, a reason, a function
   unfoldable pub limitOf : ℕ → ℕ → ℕ
   limitOf c j = getD (0 ∷ countOf im places ∷ countOf im places ∷ detailsOf c ∷ reasonCount ∷ countOf im functions ∷ []) j 0
 
@@ -153,7 +171,7 @@ module _ (im : Image) where
 
   unfoldable pub earnsThree : Bool
   earnsThree =
-      badHeader || (some identifiers badIdentifier || (some values badValue || (some pairs badPair || (some places badPlace || (some functions badFunction || some candidates badCandidate)))))
+      badHeader || (anyRecord identifiers badIdentifier || (anyRecord values badValue || (anyRecord pairs badPair || (anyRecord places badPlace || (anyRecord functions badFunction || anyRecord candidates badCandidate)))))
 
   -- ---- class 4: "two entries of one key, wrong order, an unused word not zero, or a fresh number not below next"
 
@@ -178,10 +196,6 @@ module _ (im : Image) where
   unfoldable pub emptyNotAlone : ℕ → Bool
   emptyNotAlone k = eqb (pairValue im k) 0 && eqb (pairIdentifier im (suc k)) (pairIdentifier im k)
 
-  -- "the first of a run with count 0 is unused"
-  unfoldable pub strayFirst : ℕ → ℕ → Bool
-  strayFirst first count = eqb count 0 && not (eqb first 0)
-
   unfoldable pub strayInFunction : ℕ → Bool
   strayInFunction k = strayFirst (contextFirst im k) (contextCount im k) || strayFirst (insideFirst im k) (insideCount im k)
 
@@ -195,16 +209,16 @@ module _ (im : Image) where
 
   unfoldable pub earnsFour : Bool
   earnsFour =
-      some identifiers strayAccess
-      || (some values (λ k. notYetFresh (valueNumber im k))
-      || (some pairs (λ k. notYetFresh (pairValue im k))
-      || (someNeighbours values valuesUnordered
-      || (someNeighbours pairs pairsUnordered || (someNeighbours pairs emptyNotAlone || (some functions strayInFunction || some candidates strayInCandidate))))))
+      anyRecord identifiers strayAccess
+      || (anyRecord values (λ k. notYetFresh (valueNumber im k))
+      || (anyRecord pairs (λ k. notYetFresh (pairValue im k))
+      || (anyNeighbours values valuesUnordered
+      || (anyNeighbours pairs pairsUnordered || (anyNeighbours pairs emptyNotAlone || (anyRecord functions strayInFunction || anyRecord candidates strayInCandidate))))))
 
   -- ---- class 5: "a candidate is Apply"
 
   unfoldable pub earnsFive : Bool
-  earnsFive = some candidates isApply
+  earnsFive = anyRecord candidates isApply
 
   -- the lowest of the classes 2 to 5 that the words earn, 0 where they earn none
   unfoldable pub refusalOfWords : ℕ

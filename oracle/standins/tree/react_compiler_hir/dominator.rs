@@ -1,0 +1,1 @@
+//! Stand-in: dominators. Nothing of it is named by the given files.

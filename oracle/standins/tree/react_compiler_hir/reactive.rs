@@ -1,0 +1,1 @@
+//! Stand-in: the reactive tree. Nothing of it is named by the given files.
