@@ -1,14 +1,24 @@
 -- Abstract values: a kind and a set of reasons, their join and its order (document 01, modules 1 and 2). Assumes nothing.
 use Prim.Native.Nat.{ℕ}
 use mathlib.Core.Bool.{Bool, _&&_}
+use mathlib.Core.Option.{Option, none, some}
 use lib.Dec.{eqb}
 use Rattle.kinds.specs.declared.ValueKind.{ValueKind}
+use Rattle.kinds.specs.declared.ValueKind.the-variants.{Mutable}
 use Rattle.kinds.specs.declared.AbstractValue.{AbstractValue}
 use Rattle.kinds.specs.Kinds.{codeOf, joinKind}
-use Rattle.kinds.specs.Reasons.{joinReasons}
+use Rattle.kinds.specs.Reasons.{joinReasons, single, Other}
 
 abbrev pub mk : ValueKind → ℕ → AbstractValue
 mk k s = record { kind = k; reason = s }
+
+-- "with none, Mutable {Other}": what is known of a value of which nothing is known
+abbrev pub default : AbstractValue
+default = mk Mutable (single Other)
+
+abbrev pub orDefault : Option AbstractValue → AbstractValue
+orDefault none = default
+orDefault (some a) = a
 
 -- "kinds by the table below, reasons by union"
 unfoldable pub join : AbstractValue → AbstractValue → AbstractValue

@@ -12,7 +12,7 @@ use Rattle.effects.specs.Effects.{AliasingEffect, Freeze, Mutate, MutateConditi
 use Rattle.effects.specs.Keys.{EffectKey, effectKey}
 use Rattle.transfer.specs.Monad.{M, Done, _>>=_, _>>_, return, refuse, done, if_then_else_}
 use Rattle.transfer.specs.Diagnostics.{Diagnostic}
-use Rattle.transfer.specs.Tables.{Tables, Context, Work, Rest, World}
+use Rattle.transfer.specs.Tables.{Tables, Work, Rest, World}
 use Rattle.transfer.specs.State.{ask, change, onSession}
 
 -- the diagnostic of an effect, or another where it has none
@@ -59,7 +59,7 @@ abbrev pub withNext : ℕ → Session → Session
 withNext n s = record { next = n; access = s .access; span = s .span; entries = s .entries }
 
 module _ {T : Tables} where
-  abbrev pub onContext : (Context T → Context T) → Rest T → Rest T
+  abbrev pub onContext : (T .Context → T .Context) → Rest T → Rest T
   onContext f r = record { session = r .session; context = f (r .context); work = r .work }
 
   abbrev pub onWork : (Work T → Work T) → Rest T → Rest T
@@ -68,19 +68,19 @@ module _ {T : Tables} where
   -- ---- interned effects
 
   unfoldable pub putEffect : AliasingEffect → M (World T) Done
-  putEffect e = change (onContext λ c. record { interned = T .addEffect (c .interned) e; cached = c .cached; links = c .links; functions = c .functions; identifiers = c .identifiers; transitive = c .transitive; diagnostics = c .diagnostics })
+  putEffect e = change (onContext λ c. T .addEffect c e)
 
   -- "a 2,049th key to intern": 8
   unfoldable pub internNew : AliasingEffect → Option AliasingEffect → M (World T) AliasingEffect
   internNew e (some x) = return (refreshed e x)
   internNew e none = do
-    n ← ask (λ r. T .internedCount (r .context .interned))
+    n ← ask (λ r. T .internedCount (r .context))
     if leb 2048 n then refuse 8 else (putEffect e >> return e)
 
   -- "The first effect under a key of `effect_key` is used ever after, spans included" (`intern_effect`)
   unfoldable pub intern : AliasingEffect → M (World T) AliasingEffect
   intern e = do
-    o ← ask (λ r. T .findEffect (r .context .interned) (effectKey e))
+    o ← ask (λ r. T .findEffect (r .context) (effectKey e))
     internNew e o
 
   -- ---- value numbers
@@ -95,7 +95,7 @@ module _ {T : Tables} where
     if leb 512 n then refuse 9 else (setNext (suc n) >> return n)
 
   unfoldable pub cache : EffectKey → ℕ → M (World T) Done
-  cache k n = change (onContext λ c. record { interned = c .interned; cached = T .putKey (c .cached) n k; links = c .links; functions = c .functions; identifiers = c .identifiers; transitive = c .transitive; diagnostics = c .diagnostics })
+  cache k n = change (onContext λ c. T .putKey c n k)
 
   unfoldable pub orFresh : EffectKey → Option ℕ → M (World T) ℕ
   orFresh k (some n) = return n
@@ -107,48 +107,48 @@ module _ {T : Tables} where
   -- the number cached under a key, or a fresh one (`get_or_create_value_id`)
   unfoldable pub numberFor : EffectKey → M (World T) ℕ
   numberFor k = do
-    o ← ask (λ r. T .findNumber (r .context .cached) k)
+    o ← ask (λ r. T .findNumber (r .context) k)
     orFresh k o
 
   -- ---- links and contexts of functions
 
   unfoldable pub linkTo : ℕ → ℕ → M (World T) Done
-  linkTo v f = change (onContext λ c. record { interned = c .interned; cached = c .cached; links = T .putLink (c .links) v f; functions = c .functions; identifiers = c .identifiers; transitive = c .transitive; diagnostics = c .diagnostics })
+  linkTo v f = change (onContext λ c. T .putLink c v f)
 
   unfoldable pub functionContext : ℕ → Rest T → List Place
-  functionContext f r = T .contextOf (r .context .functions) f
+  functionContext f r = T .contextOf (r .context) f
 
   -- the context places of a value's function, none where it has none
   unfoldable pub linkedContext : ℕ → Rest T → List Place
-  linkedContext v r = elim (T .linkOf (r .context .links) v) [ none ↦ [] | some f ↦ functionContext f r ]
+  linkedContext v r = elim (T .linkOf (r .context) v) [ none ↦ [] | some f ↦ functionContext f r ]
 
   -- "turns a Capture context place of its function into Read": each place of that identifier, in the function's own copy
   unfoldable pub makeRead : ℕ → ℕ → M (World T) Done
-  makeRead f i = change (onContext λ c. record { interned = c .interned; cached = c .cached; links = c .links; functions = T .downgrade (c .functions) f i; identifiers = c .identifiers; transitive = c .transitive; diagnostics = c .diagnostics })
+  makeRead f i = change (onContext λ c. T .makeRead c f i)
 
   -- ---- diagnostics (`intern_aliasing_diagnostic`)
 
   unfoldable pub putDiagnostic : ℕ → Diagnostic → M (World T) Done
-  putDiagnostic n d = change (onContext λ c. record { interned = c .interned; cached = c .cached; links = c .links; functions = c .functions; identifiers = c .identifiers; transitive = c .transitive; diagnostics = T .addDiagnostic (c .diagnostics) n d })
+  putDiagnostic n d = change (onContext λ c. T .addDiagnostic c n d)
 
   -- "a 257th diagnostic or instance": 10
   unfoldable pub newIdentity : Option ℕ → M (World T) ℕ
   newIdentity (some n) = return n
   newIdentity none = do
-    n ← ask (λ r. T .identityCount (r .context .diagnostics))
+    n ← ask (λ r. T .identityCount (r .context))
     if leb 256 n then refuse 10 else return n
 
   unfoldable pub newInstance : ℕ → Diagnostic → Option ℕ → M (World T) ℕ
   newInstance identity d (some n) = return n
   newInstance identity d none = do
-    n ← ask (λ r. T .instanceCount (r .context .diagnostics))
+    n ← ask (λ r. T .instanceCount (r .context))
     if leb 256 n then refuse 10 else (putDiagnostic identity d >> return n)
 
   unfoldable pub internDiagnostic : Diagnostic → M (World T) AliasingDiagnostic
   internDiagnostic d = do
-    o ← ask (λ r. T .findIdentity (r .context .diagnostics) d)
+    o ← ask (λ r. T .findIdentity (r .context) d)
     identity ← newIdentity o
-    p ← ask (λ r. T .findInstance (r .context .diagnostics) identity d)
+    p ← ask (λ r. T .findInstance (r .context) identity d)
     instance ← newInstance identity d p
     return (record { identity = identity; instance = instance })
 

@@ -32,7 +32,7 @@ module _ {T : Tables} where
   reportEarly p = do
     o ← setOf (p .identifier)
     a ← peek (p .identifier)
-    name ← ask (λ r. T .nameOf (r .context .identifiers) (p .identifier))
+    name ← ask (λ r. T .nameOf (r .context) (p .identifier))
     if isSome o && isFrozen (a .kind)
         then (do
           d ← internDiagnostic (modified p name a)
@@ -48,7 +48,7 @@ module _ {T : Tables} where
   unfoldable pub earlyErrors : Option ℕ → M (World T) Done
   earlyErrors none = done
   earlyErrors (some f) = do
-    places ← ask (λ r. T .mutatedInside (r .context .functions) f)
+    places ← ask (λ r. T .mutatedInside (r .context) f)
     each places (earlyError f)
 
   -- "Last, an undefined lvalue becomes defined as its own value, Mutable {Other}."

@@ -14,7 +14,7 @@ use Rattle.effects.specs.Places.{identifiers}
 use Rattle.effects.specs.Effects.{AliasingEffect}
 use Rattle.effects.specs.Keys.{EffectKey, names, creates, listed}
 use Rattle.transfer.specs.Monad.{Res, ok, refused, Done, _>>_, _>>=_, andThen, restore, atomically}
-use Rattle.transfer.specs.Tables.{Tables, State, Context, Rest, World}
+use Rattle.transfer.specs.Tables.{Tables, State, Rest, World}
 use Rattle.transfer.specs.State.{valuesOf, fromIdentifier, change}
 use Rattle.transfer.specs.Instruction.{Instruction, startInstruction, run, applySignature}
 use Rattle.transfer.specs.Reach.{Node, val, id, entry, Named, by-effect, Created, by-candidate, by-itself, Reach, in-candidate, lvalue, in-created, its-values, its-own, its-context, cached, fresh, Agree, Untouched, Ends, Alike}
@@ -29,7 +29,7 @@ module _ {T : Tables} where
 
   -- ---- "it is then the other's reach too"
 
-  module _ (ins : Instruction) (session : Session) (context : Context T) (s t : State T) (a : (n : Node) → Reach T ins session context s n → entry T s n ≡ entry T t n) where
+  module _ (ins : Instruction) (session : Session) (context : T .Context) (s t : State T) (a : (n : Node) → Reach T ins session context s n → entry T s n ≡ entry T t n) where
     over : (n : Node) → Reach T ins session context s n → Reach T ins session context t n
     over n (in-candidate m) = in-candidate m
     over n lvalue = lvalue
@@ -55,17 +55,17 @@ module _ {T : Tables} where
 
   -- ---- "The smallest set": the reach lies in every set that is closed under the rules
 
-  pub record ClosedUnder (ins : Instruction) (session : Session) (context : Context T) (s : State T) (P : Node → Type 0) : Type 0 where
+  pub record ClosedUnder (ins : Instruction) (session : Session) (context : T .Context) (s : State T) (P : Node → Type 0) : Type 0 where
     pub on-candidate : (i : ℕ) → Named ins i → P (id i)
     pub on-lvalue : P (id (ins .lvalue .identifier))
-    pub on-created : (f j : ℕ) → Created ins f → List·Memᴰ j (identifiers (T .contextOf (context .functions) f)) → P (id j)
+    pub on-created : (f j : ℕ) → Created ins f → List·Memᴰ j (identifiers (T .contextOf context f)) → P (id j)
     pub on-values : (i v l : ℕ) → P (id i) → T .setOf (s .sets) i ≡ some l → List·Memᴰ v (members l) → P (val v)
     pub on-own : (i : ℕ) → P (id i) → P (val (fromIdentifier i))
-    pub on-context : (v f j : ℕ) → P (val v) → T .linkOf (context .links) v ≡ some f → List·Memᴰ j (identifiers (T .contextOf (context .functions) f)) → P (id j)
-    pub on-cached : (n i : ℕ) (k : EffectKey) → T .keyAt (context .cached) n ≡ some k → k .into ≡ some i → Named ins i → P (val n)
+    pub on-context : (v f j : ℕ) → P (val v) → T .linkOf context v ≡ some f → List·Memᴰ j (identifiers (T .contextOf context f)) → P (id j)
+    pub on-cached : (n i : ℕ) (k : EffectKey) → T .keyAt context n ≡ some k → k .into ≡ some i → Named ins i → P (val n)
     pub on-fresh : (n : ℕ) → session .next ≤ n → n < 512 → P (val n)
 
-  pub reach-least : (ins : Instruction) (session : Session) (context : Context T) (s : State T) (P : Node → Type 0) → ClosedUnder ins session context s P → (n : Node) → Reach T ins session context s n → P n
+  pub reach-least : (ins : Instruction) (session : Session) (context : T .Context) (s : State T) (P : Node → Type 0) → ClosedUnder ins session context s P → (n : Node) → Reach T ins session context s n → P n
   reach-least ins session context s P c n (in-candidate {i = i} m) = c .on-candidate i m
   reach-least ins session context s P c n lvalue = c .on-lvalue
   reach-least ins session context s P c n (in-created {f = f} {j = j} d m) = c .on-created f j d m
@@ -99,8 +99,8 @@ module _ {T : Tables} (L : Lawful T) where
       okay = record {
         fresh-in = λ n l m. fresh l m;
         cached-in = λ n i k e d m. cached e d m;
-        links-in = λ v c f e. all-of (identifiers (T .contextOf (r .context .functions) f)) (λ j m. its-context c e m);
-        created-in = λ f c. all-of (identifiers (T .contextOf (r .context .functions) f)) (λ j m. in-created c m);
+        links-in = λ v c f e. all-of (identifiers (T .contextOf (r .context) f)) (λ j m. its-context c e m);
+        created-in = λ f c. all-of (identifiers (T .contextOf (r .context) f)) (λ j m. in-created c m);
       };
       fits = (p .values, q .values, p .sets, q .sets);
       inside = λ i c. inside i c (T .setOf (s .sets) i) refl;
@@ -180,8 +180,8 @@ module _ {T : Tables} (L : Lawful T) where
         okay = record {
           fresh-in = λ n l m. tt;
           cached-in = λ n i k e d m. tt;
-          links-in = λ v c f e. every (λ j. tt) (identifiers (T .contextOf (w .rest .context .functions) f));
-          created-in = λ f c. every (λ j. tt) (identifiers (T .contextOf (w .rest .context .functions) f));
+          links-in = λ v c f e. every (λ j. tt) (identifiers (T .contextOf (w .rest .context) f));
+          created-in = λ f c. every (λ j. tt) (identifiers (T .contextOf (w .rest .context) f));
         };
         fits = (p .values, p .values, p .sets, p .sets);
         inside = λ i c. every (λ v. tt) (valuesOf (T .setOf (w .state .sets) i));

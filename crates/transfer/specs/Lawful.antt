@@ -10,8 +10,15 @@ use Rattle.kinds.specs.declared.AbstractValue.{AbstractValue}
 use Rattle.effects.specs.Places.{identifiers}
 use Rattle.effects.specs.Effects.{AliasingEffect}
 use Rattle.effects.specs.Keys.{EffectKey, effectKey}
+use Rattle.transfer.specs.Diagnostics.{Diagnostic}
 use Rattle.transfer.specs.Tables.{Tables}
 use Rattle.transfer.specs.State.{valuesOf}
+
+-- a changed context d leads nowhere that c does not lead: its cached keys and links are c's, and each function has context places of the same identifiers
+pub record SameLinks (T : Tables) (c d : T .Context) : Type 0 where
+  pub keys : (n : ℕ) (k : EffectKey) → T .keyAt d n ≡ some k → T .keyAt c n ≡ some k
+  pub links : (v f : ℕ) → T .linkOf d v ≡ some f → T .linkOf c v ≡ some f
+  pub contexts : (f : ℕ) → identifiers (T .contextOf d f) ≡ identifiers (T .contextOf c f)
 
 pub record Lawful (T : Tables) : Type 1 where
   -- tables of the right size
@@ -26,9 +33,15 @@ pub record Lawful (T : Tables) : Type 1 where
   -- what was written has no members but those given
   pub set-has : (P : ℕ → Type 0) (t : T .Sets) (i s j : ℕ) → All P (members s) → All P (valuesOf (T .setOf t j)) → All P (valuesOf (T .setOf (T .putSet t i s) j))
   -- what is found under a key has that key
-  pub effect-found : (t : T .Interned) (k : EffectKey) (e : AliasingEffect) → T .findEffect t k ≡ some e → k ≡ effectKey e
-  pub number-found : (t : T .Cached) (k : EffectKey) (n : ℕ) → T .findNumber t k ≡ some n → T .keyAt t n ≡ some k
-  pub key-put : (t : T .Cached) (n m : ℕ) (k j : EffectKey) → T .keyAt (T .putKey t n k) m ≡ some j → (n ≡ m) ⊎ (T .keyAt t m ≡ some j)
-  pub link-put : (t : T .Links) (v f x g : ℕ) → T .linkOf (T .putLink t v f) x ≡ some g → (f ≡ g) ⊎ (T .linkOf t x ≡ some g)
-  -- a place made Read keeps its identifier
-  pub context-same : (t : T .Functions) (f i g : ℕ) → identifiers (T .contextOf (T .downgrade t f i) g) ≡ identifiers (T .contextOf t g)
+  pub effect-found : (c : T .Context) (k : EffectKey) (e : AliasingEffect) → T .findEffect c k ≡ some e → k ≡ effectKey e
+  pub number-found : (c : T .Context) (k : EffectKey) (n : ℕ) → T .findNumber c k ≡ some n → T .keyAt c n ≡ some k
+  -- each of the five ways to change a context: what it leads to that it did not lead to before
+  pub effect-same : (c : T .Context) (e : AliasingEffect) → SameLinks T c (T .addEffect c e)
+  pub diagnostic-same : (c : T .Context) (n : ℕ) (d : Diagnostic) → SameLinks T c (T .addDiagnostic c n d)
+  pub read-same : (c : T .Context) (f i : ℕ) → SameLinks T c (T .makeRead c f i)
+  pub key-put : (c : T .Context) (n m : ℕ) (k j : EffectKey) → T .keyAt (T .putKey c n k) m ≡ some j → (n ≡ m) ⊎ (T .keyAt c m ≡ some j)
+  pub key-links : (c : T .Context) (n : ℕ) (k : EffectKey) (v f : ℕ) → T .linkOf (T .putKey c n k) v ≡ some f → T .linkOf c v ≡ some f
+  pub key-contexts : (c : T .Context) (n : ℕ) (k : EffectKey) (g : ℕ) → identifiers (T .contextOf (T .putKey c n k) g) ≡ identifiers (T .contextOf c g)
+  pub link-put : (c : T .Context) (v f x g : ℕ) → T .linkOf (T .putLink c v f) x ≡ some g → (f ≡ g) ⊎ (T .linkOf c x ≡ some g)
+  pub link-keys : (c : T .Context) (v f n : ℕ) (k : EffectKey) → T .keyAt (T .putLink c v f) n ≡ some k → T .keyAt c n ≡ some k
+  pub link-contexts : (c : T .Context) (v f g : ℕ) → identifiers (T .contextOf (T .putLink c v f) g) ≡ identifiers (T .contextOf c g)

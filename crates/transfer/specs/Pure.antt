@@ -81,6 +81,32 @@ unfoldable pub findInstance : ℕ → List Interned → ℕ → Diagnostic → O
 findInstance i [] n d = none
 findInstance i (x ∷ xs) n d = elim (eqb n (x .identity) && sameLabels d (x .diagnostic)) [ true ↦ some i | false ↦ findInstance (suc i) xs n d ]
 
+-- ---- the context
+
+pub record Context : Type 0 where
+  pub interned : List AliasingEffect
+  pub cached : ℕ → Option EffectKey
+  pub links : ℕ → Option ℕ
+  pub functions : ℕ → Function
+  pub identifiers : ℕ → Identifier
+  pub transitive : Bool
+  pub diagnostics : List Interned
+
+abbrev pub withInterned : List AliasingEffect → Context → Context
+withInterned l c = record { interned = l; cached = c .cached; links = c .links; functions = c .functions; identifiers = c .identifiers; transitive = c .transitive; diagnostics = c .diagnostics }
+
+abbrev pub withCached : (ℕ → Option EffectKey) → Context → Context
+withCached l c = record { interned = c .interned; cached = l; links = c .links; functions = c .functions; identifiers = c .identifiers; transitive = c .transitive; diagnostics = c .diagnostics }
+
+abbrev pub withLinks : (ℕ → Option ℕ) → Context → Context
+withLinks l c = record { interned = c .interned; cached = c .cached; links = l; functions = c .functions; identifiers = c .identifiers; transitive = c .transitive; diagnostics = c .diagnostics }
+
+abbrev pub withFunctions : (ℕ → Function) → Context → Context
+withFunctions l c = record { interned = c .interned; cached = c .cached; links = c .links; functions = l; identifiers = c .identifiers; transitive = c .transitive; diagnostics = c .diagnostics }
+
+abbrev pub withDiagnostics : List Interned → Context → Context
+withDiagnostics l c = record { interned = c .interned; cached = c .cached; links = c .links; functions = c .functions; identifiers = c .identifiers; transitive = c .transitive; diagnostics = l }
+
 abbrev pub pure : Tables
 pure = record {
   Values = ℕ → Option AbstractValue;
@@ -89,33 +115,29 @@ pure = record {
   Sets = ℕ → Option ℕ;
   setOf = λ t i. t i;
   putSet = λ t i s. at t i (some s);
-  Interned = List AliasingEffect;
-  internedCount = length;
-  findEffect = findEffect;
-  addEffect = λ t e. t ++ (e ∷ []);
-  Cached = ℕ → Option EffectKey;
-  keyAt = λ t n. t n;
-  findNumber = firstCached 511 1;
-  putKey = λ t n k. at t n (some k);
-  Links = ℕ → Option ℕ;
-  linkOf = λ t v. t v;
-  putLink = λ t v f. at t v (some f);
-  Functions = ℕ → Function;
-  contextOf = λ t f. t f .context;
-  mutatedInside = λ t f. t f .inside;
-  hasTrackedSideEffect = λ t f. t f .tracked;
-  downgrade = λ t f i. at t f (readOnlyIn i (t f));
-  Identifiers = ℕ → Identifier;
-  isRef = λ t i. t i .ref;
-  isHoisted = λ t i. t i .hoisted;
-  accessSpan = λ t i. t i .access;
-  nameOf = λ t i. t i .name;
-  Diagnostics = List Interned;
-  identityCount = identities;
-  instanceCount = length;
-  findIdentity = findIdentity;
-  findInstance = findInstance 0;
-  addDiagnostic = λ t n d. t ++ (record { identity = n; diagnostic = d } ∷ []);
+  Context = Context;
+  internedCount = λ c. length (c .interned);
+  findEffect = λ c. findEffect (c .interned);
+  addEffect = λ c e. withInterned (c .interned ++ (e ∷ [])) c;
+  keyAt = λ c n. c .cached n;
+  findNumber = λ c. firstCached 511 1 (c .cached);
+  putKey = λ c n k. withCached (at (c .cached) n (some k)) c;
+  linkOf = λ c v. c .links v;
+  putLink = λ c v f. withLinks (at (c .links) v (some f)) c;
+  contextOf = λ c f. c .functions f .context;
+  mutatedInside = λ c f. c .functions f .inside;
+  hasTrackedSideEffect = λ c f. c .functions f .tracked;
+  makeRead = λ c f i. withFunctions (at (c .functions) f (readOnlyIn i (c .functions f))) c;
+  isRef = λ c i. c .identifiers i .ref;
+  isHoisted = λ c i. c .identifiers i .hoisted;
+  accessSpan = λ c i. c .identifiers i .access;
+  nameOf = λ c i. c .identifiers i .name;
+  isTransitive = λ c. c .transitive;
+  identityCount = λ c. identities (c .diagnostics);
+  instanceCount = λ c. length (c .diagnostics);
+  findIdentity = λ c. findIdentity (c .diagnostics);
+  findInstance = λ c. findInstance 0 (c .diagnostics);
+  addDiagnostic = λ c n d. withDiagnostics (c .diagnostics ++ (record { identity = n; diagnostic = d } ∷ [])) c;
   Initialized = List ℕ;
   noneInitialized = [];
   isInitialized = λ t i. has i t;

@@ -18,7 +18,7 @@ use Rattle.transfer.specs.Tables.{State, World}
 use Rattle.transfer.specs.State.{valuesOf}
 use Rattle.transfer.specs.Instruction.{Instruction, applySignature}
 use Rattle.transfer.specs.Reach.{Reach, Agree, Alike}
-use Rattle.transfer.specs.Pure.{at, findEffect, isKey, firstCached, Function, readOnly, readOnlyIn, pure}
+use Rattle.transfer.specs.Pure.{at, findEffect, isKey, firstCached, Function, Context, readOnly, readOnlyIn, pure}
 use Rattle.transfer.specs.Lawful.{Lawful}
 use Rattle.transfer.specs.Isolation.{isolation}
 
@@ -79,6 +79,9 @@ unfolding readOnly
 readOnly-same i [] = refl
 readOnly-same i (p ∷ ps) = ap (λ (r : List ℕ). p .identifier ∷ r) (readOnly-same i ps)
 
+read-contexts : (c : Context) (f i g : ℕ) → identifiers (pure .contextOf (pure .makeRead c f i) g) ≡ identifiers (pure .contextOf c g)
+read-contexts c f i g = at-cases (λ (y : Function). identifiers (y .context) ≡ identifiers (c .functions g .context)) (c .functions) f (readOnlyIn i (c .functions f)) g (λ e. readOnly-same i (c .functions f .context) ∙ ap (λ (x : ℕ). identifiers (c .functions x .context)) e) refl
+
 pub pure-lawful : Lawful pure
 pure-lawful = record {
   FitValues = λ t. Unit {0};
@@ -90,11 +93,17 @@ pure-lawful = record {
   set-cong = λ t u i s j p q e. at-cong t u i (some s) j e;
   set-other = λ t i s j h. at-other t i (some s) j h;
   set-has = λ P t i s j a b. at-cases (λ o. All P (valuesOf o)) t i (some s) j (λ e. a) b;
-  effect-found = found-key;
-  number-found = found-number 511 1;
-  key-put = λ t n m k j. at-cases (λ o. o ≡ some j → (n ≡ m) ⊎ (t m ≡ some j)) t n (some k) m (λ e h. inl e) (λ h. inr h);
-  link-put = λ t v f x g. at-cases (λ o. o ≡ some g → (f ≡ g) ⊎ (t x ≡ some g)) t v (some f) x (λ e h. inl (some-eq f g h)) (λ h. inr h);
-  context-same = λ t f i g. at-cases (λ (y : Function). identifiers (y .context) ≡ identifiers (t g .context)) t f (readOnlyIn i (t f)) g (λ e. readOnly-same i (t f .context) ∙ ap (λ (x : ℕ). identifiers (t x .context)) e) refl;
+  effect-found = λ c. found-key (c .interned);
+  number-found = λ c. found-number 511 1 (c .cached);
+  effect-same = λ c e. record { keys = λ n k h. h; links = λ v f h. h; contexts = λ f. refl };
+  diagnostic-same = λ c n d. record { keys = λ n k h. h; links = λ v f h. h; contexts = λ f. refl };
+  read-same = λ c f i. record { keys = λ n k e. e; links = λ v g e. e; contexts = read-contexts c f i };
+  key-put = λ c n m k j. at-cases (λ o. o ≡ some j → (n ≡ m) ⊎ (c .cached m ≡ some j)) (c .cached) n (some k) m (λ e h. inl e) (λ h. inr h);
+  key-links = λ c n k v f e. e;
+  key-contexts = λ c n k g. refl;
+  link-put = λ c v f x g. at-cases (λ o. o ≡ some g → (f ≡ g) ⊎ (c .links x ≡ some g)) (c .links) v (some f) x (λ e h. inl (some-eq f g h)) (λ h. inr h);
+  link-keys = λ c v f n k e. e;
+  link-contexts = λ c v f g. refl;
 }
 
 -- demand 3 of the definition over functions

@@ -11,7 +11,7 @@ use Rattle.effects.specs.Places.{identifiers}
 use Rattle.effects.specs.Effects.{AliasingEffect}
 use Rattle.effects.specs.Keys.{EffectKey, names, creates}
 use Rattle.transfer.specs.Monad.{Res, ok, refused, Done}
-use Rattle.transfer.specs.Tables.{Tables, State, Context, World}
+use Rattle.transfer.specs.Tables.{Tables, State, World}
 use Rattle.transfer.specs.State.{fromIdentifier}
 use Rattle.transfer.specs.Instruction.{Instruction}
 
@@ -39,18 +39,18 @@ module _ (T : Tables) where
   entry s (id i) = pointing (T .setOf (s .sets) i)
 
   -- "The smallest set with:"
-  pub data Reach (ins : Instruction) (session : Session) (context : Context T) (s : State T) : Node → Type 0 where
+  pub data Reach (ins : Instruction) (session : Session) (context : T .Context) (s : State T) : Node → Type 0 where
     -- "identifiers in candidates, the lvalue, and contexts of functions that candidates or the instruction create"
     in-candidate : {i : ℕ} → Named ins i → Reach ins session context s (id i)
     lvalue : Reach ins session context s (id (ins .lvalue .identifier))
-    in-created : {f j : ℕ} → Created ins f → List·Memᴰ j (identifiers (T .contextOf (context .functions) f)) → Reach ins session context s (id j)
+    in-created : {f j : ℕ} → Created ins f → List·Memᴰ j (identifiers (T .contextOf context f)) → Reach ins session context s (id j)
     -- "of each identifier i in it, however it came in, its values and 512 + i"
     its-values : {i v l : ℕ} → Reach ins session context s (id i) → T .setOf (s .sets) i ≡ some l → List·Memᴰ v (members l) → Reach ins session context s (val v)
     its-own : {i : ℕ} → Reach ins session context s (id i) → Reach ins session context s (val (fromIdentifier i))
     -- "of each value in it with a function, that function's context identifiers"
-    its-context : {v f j : ℕ} → Reach ins session context s (val v) → T .linkOf (context .links) v ≡ some f → List·Memᴰ j (identifiers (T .contextOf (context .functions) f)) → Reach ins session context s (id j)
+    its-context : {v f j : ℕ} → Reach ins session context s (val v) → T .linkOf context v ≡ some f → List·Memᴰ j (identifiers (T .contextOf context f)) → Reach ins session context s (id j)
     -- "numbers cached under a key whose destination a candidate names"
-    cached : {i n : ℕ} {k : EffectKey} → T .keyAt (context .cached) n ≡ some k → k .into ≡ some i → Named ins i → Reach ins session context s (val n)
+    cached : {i n : ℕ} {k : EffectKey} → T .keyAt context n ≡ some k → k .into ≡ some i → Named ins i → Reach ins session context s (val n)
     -- "all fresh numbers from the session's next number up, handed out before or not"
     fresh : {n : ℕ} → session .next ≤ n → n < 512 → Reach ins session context s (val n)
 

@@ -12,20 +12,13 @@ use Rattle.kinds.specs.declared.AbstractValue.{AbstractValue}
 use Rattle.kinds.specs.Kinds.{freezable, writable}
 use Rattle.kinds.specs.Reasons as Reasons
 use Rattle.kinds.specs.Values.{mk, join}
+pub use Rattle.kinds.specs.Values.{default, orDefault}
 use Rattle.effects.specs.declared.Span.{Span}
 use Rattle.effects.specs.declared.Place.{Place}
 use Rattle.effects.specs.declared.Session.{Session}
 use Rattle.effects.specs.Places.{noSpan}
 use Rattle.transfer.specs.Monad.{Res, ok, M, Done, _>>=_, _>>_, return, done, if_then_else_, each}
 use Rattle.transfer.specs.Tables.{Tables, State, Rest, World}
-
--- "with none, Mutable {Other}"
-abbrev pub default : AbstractValue
-default = mk Mutable (Reasons.single Reasons.Other)
-
-abbrev pub orDefault : Option AbstractValue → AbstractValue
-orDefault none = default
-orDefault (some a) = a
 
 abbrev pub isSome : {A : Type 0} → Option A → Bool
 isSome none = false

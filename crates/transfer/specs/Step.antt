@@ -88,7 +88,7 @@ hoistedAccess p name access = record { identifier = p .identifier; case = access
 
 module _ {T : Tables} where
   abbrev pub refFlag : ℕ → Rest T → Bool
-  refFlag i r = T .isRef (r .context .identifiers) i
+  refFlag i r = T .isRef (r .context) i
 
   -- ---- parts of the step
 
@@ -149,15 +149,15 @@ module _ {T : Tables} where
     -- a value that cannot be modified: MutateFrozen where it is Frozen, else MutateGlobal
     unfoldable pub reportModified : Place → AbstractValue → M (World T) Done
     reportModified p a = do
-      name ← ask (λ r. T .nameOf (r .context .identifiers) (p .identifier))
+      name ← ask (λ r. T .nameOf (r .context) (p .identifier))
       d ← internDiagnostic (modified p name a)
       if isFrozen (a .kind) then again (MutateFrozen p d) else again (MutateGlobal p d)
 
     -- an access before the declaration
     unfoldable pub reportHoisted : Place → M (World T) Done
     reportHoisted p = do
-      name ← ask (λ r. T .nameOf (r .context .identifiers) (p .identifier))
-      access ← ask (λ r. T .accessSpan (r .context .identifiers) (p .identifier))
+      name ← ask (λ r. T .nameOf (r .context) (p .identifier))
+      access ← ask (λ r. T .accessSpan (r .context) (p .identifier))
       d ← internDiagnostic (hoistedAccess p name access)
       again (MutateFrozen p d)
 
@@ -171,7 +171,7 @@ module _ {T : Tables} where
       reportModified p a
     report e p Result.MutateFrozen = do
       a ← kind (p .identifier)
-      hoisted ← ask (λ r. T .isHoisted (r .context .identifiers) (p .identifier))
+      hoisted ← ask (λ r. T .isHoisted (r .context) (p .identifier))
       if hoisted then reportHoisted p else reportModified p a
 
     unfoldable pub mutating : MutateVariant → AliasingEffect → Place → M (World T) Done
@@ -186,7 +186,7 @@ module _ {T : Tables} where
       if acts
           then (do
             emit (Freeze p reason)
-            transitive ← ask (λ r. r .context .transitive)
+            transitive ← ask (λ r. T .isTransitive (r .context))
             if transitive
                 then (do
                   o ← setOf (p .identifier)
@@ -248,7 +248,7 @@ module _ {T : Tables} where
       emit (CreateFunction captures f into)
       written ← anyWritten captures
       places ← ask (functionContext f)
-      tracked ← ask (λ r. T .hasTrackedSideEffect (r .context .functions) f)
+      tracked ← ask (λ r. T .hasTrackedSideEffect (r .context) f)
       refs ← ask (anyRef places)
       each places (updateContext f)
       v ← numberFor (effectKey (CreateFunction captures f into))

@@ -20,39 +20,37 @@ pub record Tables : Type 1 where
   pub Sets : Type 0
   pub setOf : Sets → ℕ → Option ℕ
   pub putSet : Sets → ℕ → ℕ → Sets
+  -- "The context is all but state and session: interned effects, cached numbers, function links, functions, identifier flags, options, diagnostics."
+  pub Context : Type 0
   -- interned effects: the first effect under a key
-  pub Interned : Type 0
-  pub internedCount : Interned → ℕ
-  pub findEffect : Interned → EffectKey → Option AliasingEffect
-  pub addEffect : Interned → AliasingEffect → Interned
+  pub internedCount : Context → ℕ
+  pub findEffect : Context → EffectKey → Option AliasingEffect
+  pub addEffect : Context → AliasingEffect → Context
   -- cached numbers: the key under which a fresh number was handed out
-  pub Cached : Type 0
-  pub keyAt : Cached → ℕ → Option EffectKey
-  pub findNumber : Cached → EffectKey → Option ℕ
-  pub putKey : Cached → ℕ → EffectKey → Cached
+  pub keyAt : Context → ℕ → Option EffectKey
+  pub findNumber : Context → EffectKey → Option ℕ
+  pub putKey : Context → ℕ → EffectKey → Context
   -- function links: the function of a value
-  pub Links : Type 0
-  pub linkOf : Links → ℕ → Option ℕ
-  pub putLink : Links → ℕ → ℕ → Links
-  -- functions: context places, places mutated inside, a tracked side effect; a Capture place of an identifier made Read
-  pub Functions : Type 0
-  pub contextOf : Functions → ℕ → List Place
-  pub mutatedInside : Functions → ℕ → List Place
-  pub hasTrackedSideEffect : Functions → ℕ → Bool
-  pub downgrade : Functions → ℕ → ℕ → Functions
+  pub linkOf : Context → ℕ → Option ℕ
+  pub putLink : Context → ℕ → ℕ → Context
+  -- functions: context places, places mutated inside, a tracked side effect; the Capture places of an identifier made Read
+  pub contextOf : Context → ℕ → List Place
+  pub mutatedInside : Context → ℕ → List Place
+  pub hasTrackedSideEffect : Context → ℕ → Bool
+  pub makeRead : Context → ℕ → ℕ → Context
   -- identifiers: the answer of `is_ref_or_ref_value`, the hoisted map with its access span, the name
-  pub Identifiers : Type 0
-  pub isRef : Identifiers → ℕ → Bool
-  pub isHoisted : Identifiers → ℕ → Bool
-  pub accessSpan : Identifiers → ℕ → Span
-  pub nameOf : Identifiers → ℕ → ℕ
+  pub isRef : Context → ℕ → Bool
+  pub isHoisted : Context → ℕ → Bool
+  pub accessSpan : Context → ℕ → Span
+  pub nameOf : Context → ℕ → ℕ
+  -- options: either of the two that make a freeze transitive
+  pub isTransitive : Context → Bool
   -- diagnostics: the identity of an equal message, the place of an equal record
-  pub Diagnostics : Type 0
-  pub identityCount : Diagnostics → ℕ
-  pub instanceCount : Diagnostics → ℕ
-  pub findIdentity : Diagnostics → Diagnostic → Option ℕ
-  pub findInstance : Diagnostics → ℕ → Diagnostic → Option ℕ
-  pub addDiagnostic : Diagnostics → ℕ → Diagnostic → Diagnostics
+  pub identityCount : Context → ℕ
+  pub instanceCount : Context → ℕ
+  pub findIdentity : Context → Diagnostic → Option ℕ
+  pub findInstance : Context → ℕ → Diagnostic → Option ℕ
+  pub addDiagnostic : Context → ℕ → Diagnostic → Context
   -- what an instruction has done so far: places initialized in it, effects listed
   pub Initialized : Type 0
   pub noneInitialized : Initialized
@@ -69,16 +67,6 @@ module _ (T : Tables) where
     pub sets : T .Sets
     pub isFunctionExpression : Bool
 
-  -- "The context is all but state and session: interned effects, cached numbers, function links, functions, identifier flags, options, diagnostics."
-  pub record Context : Type 0 where
-    pub interned : T .Interned
-    pub cached : T .Cached
-    pub links : T .Links
-    pub functions : T .Functions
-    pub identifiers : T .Identifiers
-    pub transitive : Bool
-    pub diagnostics : T .Diagnostics
-
   -- the instruction under way: places initialized in it, effects listed, entries of the Freeze under way, entries of all its Freezes
   pub record Work : Type 0 where
     pub initialized : T .Initialized
@@ -88,7 +76,7 @@ module _ (T : Tables) where
 
   pub record Rest : Type 0 where
     pub session : Session
-    pub context : Context
+    pub context : T .Context
     pub work : Work
 
   pub record World : Type 0 where

@@ -32,24 +32,28 @@ use Rattle.transfer.specs.Walk.{freezeAndEnter, enterPlace, enterContext
 use Rattle.transfer.specs.Step.{Flow, Immutable, Same, Maybe, Nothing, Source, FromContext, FromNothing, FromFrozen, FromMutable, Destination, flowOf, create, isWritten, anyWritten, updateContext, byFlow, mutate, flowing, reportModified, reportHoisted, report, mutating, freezing, creating, capturingImmutably, listCreated, creatingFrom, assigning, creatingFunction, act, step}
 use Rattle.transfer.specs.Instruction.{Instruction, has, reportEarly, earlyError, earlyErrors, defineLvalue, run}
 use Rattle.transfer.specs.Reach.{Node, val, id}
-use Rattle.transfer.specs.Lawful.{Lawful}
+use Rattle.transfer.specs.Lawful.{SameLinks, Lawful}
 use Rattle.transfer.specs.Sim.{Any, bind-sim, then-sim, bind-any, return-sim, done-sim, refuse-sim, if-sim, test-sim, each-sim}
 use Rattle.transfer.specs.Worlds.{Reaching, Keeps, sims, setOf-sim, peek-sim, bind-number, bind-set, bind-places, each-place, each-reached, ask-sim, look-sim, change-sim}
 
 -- what a set R asks of session and context: N are the identifiers that candidates name, F the functions that they create
-pub record Closed (T : Tables) (R : Node → Type 0) (N F : ℕ → Type 0) (next : ℕ) (cached : T .Cached) (links : T .Links) (functions : T .Functions) : Type 0 where
+pub record Closed (T : Tables) (R : Node → Type 0) (N F : ℕ → Type 0) (next : ℕ) (context : T .Context) : Type 0 where
   pub fresh-in : (n : ℕ) → next ≤ n → n < 512 → R (val n)
-  pub cached-in : (n i : ℕ) (k : EffectKey) → T .keyAt cached n ≡ some k → k .into ≡ some i → N i → R (val n)
-  pub links-in : (v : ℕ) → R (val v) → (f : ℕ) → T .linkOf links v ≡ some f → All (λ j. R (id j)) (identifiers (T .contextOf functions f))
-  pub created-in : (f : ℕ) → F f → All (λ j. R (id j)) (identifiers (T .contextOf functions f))
+  pub cached-in : (n i : ℕ) (k : EffectKey) → T .keyAt context n ≡ some k → k .into ≡ some i → N i → R (val n)
+  pub links-in : (v : ℕ) → R (val v) → (f : ℕ) → T .linkOf context v ≡ some f → All (λ j. R (id j)) (identifiers (T .contextOf context f))
+  pub created-in : (f : ℕ) → F f → All (λ j. R (id j)) (identifiers (T .contextOf context f))
+
+-- a context that leads nowhere else keeps what R asks
+closed-same : (T : Tables) (R : Node → Type 0) (N F : ℕ → Type 0) (next : ℕ) (c d : T .Context) → SameLinks T c d → Closed T R N F next c → Closed T R N F next d
+closed-same T R N F next c d s h = record {
+  fresh-in = h .fresh-in;
+  cached-in = λ n i k e g a. h .cached-in n i k (s .keys n k e) g a;
+  links-in = λ v q f e. subst (All (λ j. R (id j))) (sym (s .contexts f)) (h .links-in v q f (s .links v f e));
+  created-in = λ f q. subst (All (λ j. R (id j))) (sym (s .contexts f)) (h .created-in f q);
+}
 
 abbrev pub reaching : (T : Tables) → (Node → Type 0) → (ℕ → Type 0) → (ℕ → Type 0) → State T → State T → Reaching T
-reaching T R N F s t = record {
-  R = R;
-  OkRest = λ r. Closed T R N F (r .session .next) (r .context .cached) (r .context .links) (r .context .functions);
-  s₀ = s;
-  t₀ = t;
-}
+reaching T R N F s t = record { R = R; OkRest = λ r. Closed T R N F (r .session .next) (r .context); s₀ = s; t₀ = t }
 
 -- ---- keys
 
@@ -147,7 +151,7 @@ module _ {T : Tables} (L : Lawful T) (R : Node → Type 0) (N F : ℕ → Type 0
 
   recordAccess-sim : (i : ℕ) (span : Span) → Keeps L 𝓡 Any (recordAccess i span)
   unfolding recordAccess
-  recordAccess-sim i span = change-sim _ (λ r k. subst (λ (n : ℕ). Closed T R N F n (r .context .cached) (r .context .links) (r .context .functions)) (sym (first-next i span (r .session))) k)
+  recordAccess-sim i span = change-sim _ (λ r k. subst (λ (n : ℕ). Closed T R N F n (r .context)) (sym (first-next i span (r .session))) k)
 
   emit-sim : (e : AliasingEffect) → Keeps L 𝓡 Any (emit e)
   unfolding emit
@@ -175,7 +179,7 @@ module _ {T : Tables} (L : Lawful T) (R : Node → Type 0) (N F : ℕ → Type 0
 
   putDiagnostic-sim : (n : ℕ) (d : Diagnostic) → Keeps L 𝓡 Any (putDiagnostic n d)
   unfolding putDiagnostic
-  putDiagnostic-sim n d = search sims
+  putDiagnostic-sim n d = change-sim _ (λ r h. closed-same T R N F _ _ _ (L .diagnostic-same (r .context) n d) h)
 
   newIdentity-sim : (o : Option ℕ) → Keeps L 𝓡 Any (newIdentity o)
   unfolding newIdentity
@@ -193,7 +197,7 @@ module _ {T : Tables} (L : Lawful T) (R : Node → Type 0) (N F : ℕ → Type 0
 
   putEffect-sim : (e : AliasingEffect) → Keeps L 𝓡 Any (putEffect e)
   unfolding putEffect
-  putEffect-sim e = search sims
+  putEffect-sim e = change-sim _ (λ r h. closed-same T R N F _ _ _ (L .effect-same (r .context) e) h)
 
   -- the effect that is used has the key of the one that was given
   internNew-sim : (e : AliasingEffect) (o : Option AliasingEffect) → ((x : AliasingEffect) → o ≡ some x → effectKey e ≡ effectKey x) → Keeps L 𝓡 (λ x. effectKey e ≡ effectKey x) (internNew e o)
@@ -204,7 +208,7 @@ module _ {T : Tables} (L : Lawful T) (R : Node → Type 0) (N F : ℕ → Type 0
   intern-sim : (e : AliasingEffect) → Keeps L 𝓡 (λ x. effectKey e ≡ effectKey x) (intern e)
   unfolding intern
   intern-sim e =
-      bind-sim (ask-sim {Q = λ o. (x : AliasingEffect) → o ≡ some x → effectKey e ≡ effectKey x} _ (λ r h. L .effect-found (r .context .interned) (effectKey e))) (internNew-sim e)
+      bind-sim (ask-sim {Q = λ o. (x : AliasingEffect) → o ≡ some x → effectKey e ≡ effectKey x} _ (λ r h. L .effect-found (r .context) (effectKey e))) (internNew-sim e)
 
   setNext-sim : (n : ℕ) → ((m : ℕ) → n ≤ m → m < 512 → R (val m)) → Keeps L 𝓡 Any (setNext n)
   unfolding setNext
@@ -221,9 +225,9 @@ module _ {T : Tables} (L : Lawful T) (R : Node → Type 0) (N F : ℕ → Type 0
   unfolding cache
   cache-sim k n q = change-sim _ (λ r c. record {
     fresh-in = c .fresh-in;
-    cached-in = λ m i j e g a. ⊎-elim (λ z. subst (λ (y : ℕ). R (val y)) z q) (λ z. c .cached-in m i j z g a) (L .key-put (r .context .cached) n m k j e);
-    links-in = c .links-in;
-    created-in = c .created-in;
+    cached-in = λ m i j e g a. ⊎-elim (λ z. subst (λ (y : ℕ). R (val y)) z q) (λ z. c .cached-in m i j z g a) (L .key-put (r .context) n m k j e);
+    links-in = λ v p f e. subst (All (λ j. R (id j))) (sym (L .key-contexts (r .context) n k f)) (c .links-in v p f (L .key-links (r .context) n k v f e));
+    created-in = λ f p. subst (All (λ j. R (id j))) (sym (L .key-contexts (r .context) n k f)) (c .created-in f p);
   })
 
   orFresh-sim : (k : EffectKey) (o : Option ℕ) → All (λ n. R (val n)) (listed o) → Keeps L 𝓡 (λ n. R (val n)) (orFresh k o)
@@ -234,7 +238,7 @@ module _ {T : Tables} (L : Lawful T) (R : Node → Type 0) (N F : ℕ → Type 0
   numberFor-sim : (k : EffectKey) (i : ℕ) → k .into ≡ some i → N i → Keeps L 𝓡 (λ n. R (val n)) (numberFor k)
   unfolding numberFor
   numberFor-sim k i e a =
-      bind-sim (ask-sim {Q = λ o. All (λ n. R (val n)) (listed o)} _ (λ r c. go (T .findNumber (r .context .cached) k) (λ n z. c .cached-in n i k (L .number-found (r .context .cached) k n z) e a))) (orFresh-sim k)
+      bind-sim (ask-sim {Q = λ o. All (λ n. R (val n)) (listed o)} _ (λ r c. go (T .findNumber (r .context) k) (λ n z. c .cached-in n i k (L .number-found (r .context) k n z) e a))) (orFresh-sim k)
     where
       go : (o : Option ℕ) → ((n : ℕ) → o ≡ some n → R (val n)) → All (λ n. R (val n)) (listed o)
       go none h = tt
@@ -246,10 +250,10 @@ module _ {T : Tables} (L : Lawful T) (R : Node → Type 0) (N F : ℕ → Type 0
 
   linkedContext-sim : (v : ℕ) → R (val v) → Keeps L 𝓡 (λ l. All (λ j. R (id j)) (identifiers l)) (ask (linkedContext v))
   unfolding linkedContext functionContext
-  linkedContext-sim v q = ask-sim _ (λ r c. go r (T .linkOf (r .context .links) v) (c .links-in v q))
+  linkedContext-sim v q = ask-sim _ (λ r c. go r (T .linkOf (r .context) v) (c .links-in v q))
     where
-      go : (r : Rest T) (o : Option ℕ) → ((f : ℕ) → o ≡ some f → All (λ j. R (id j)) (identifiers (T .contextOf (r .context .functions) f)))
-          → All (λ j. R (id j)) (identifiers (elim o [ none ↦ [] | some f ↦ T .contextOf (r .context .functions) f ]))
+      go : (r : Rest T) (o : Option ℕ) → ((f : ℕ) → o ≡ some f → All (λ j. R (id j)) (identifiers (T .contextOf (r .context) f)))
+          → All (λ j. R (id j)) (identifiers (elim o [ none ↦ [] | some f ↦ T .contextOf (r .context) f ]))
       go r none h = tt
       go r (some f) h = h f refl
 
@@ -257,19 +261,15 @@ module _ {T : Tables} (L : Lawful T) (R : Node → Type 0) (N F : ℕ → Type 0
   unfolding linkTo
   linkTo-sim v f q = change-sim _ (λ r c. record {
     fresh-in = c .fresh-in;
-    cached-in = c .cached-in;
-    links-in = λ x p g e. ⊎-elim (λ z. subst (λ (y : ℕ). All (λ j. R (id j)) (identifiers (T .contextOf (r .context .functions) y))) z (c .created-in f q)) (c .links-in x p g) (L .link-put (r .context .links) v f x g e);
-    created-in = c .created-in;
+    cached-in = λ n i k e g a. c .cached-in n i k (L .link-keys (r .context) v f n k e) g a;
+    links-in = λ x p g e. subst (All (λ j. R (id j))) (sym (L .link-contexts (r .context) v f g))
+        (⊎-elim (λ z. subst (λ (y : ℕ). All (λ j. R (id j)) (identifiers (T .contextOf (r .context) y))) z (c .created-in f q)) (c .links-in x p g) (L .link-put (r .context) v f x g e));
+    created-in = λ g p. subst (All (λ j. R (id j))) (sym (L .link-contexts (r .context) v f g)) (c .created-in g p);
   })
 
   makeRead-sim : (f i : ℕ) → Keeps L 𝓡 Any (makeRead f i)
   unfolding makeRead
-  makeRead-sim f i = change-sim _ (λ r c. record {
-    fresh-in = c .fresh-in;
-    cached-in = c .cached-in;
-    links-in = λ v q g e. subst (All (λ j. R (id j))) (sym (L .context-same (r .context .functions) f i g)) (c .links-in v q g e);
-    created-in = λ g q. subst (All (λ j. R (id j))) (sym (L .context-same (r .context .functions) f i g)) (c .created-in g q);
-  })
+  makeRead-sim f i = change-sim _ (λ r h. closed-same T R N F _ _ _ (L .read-same (r .context) f i) h)
 
   -- ---- the rest is found by search: each computation is made of those above
 
@@ -402,7 +402,9 @@ module _ {T : Tables} (L : Lawful T) (R : Node → Type 0) (N F : ℕ → Type 0
 
     freezing-sim : (p : Place) (reason : ℕ) → R (id (p .identifier)) → Keeps L 𝓡 Any (freezing again p reason)
     unfolding freezing
-    freezing-sim p reason r = search parts depth 12
+    freezing-sim p reason r =
+        bind-any (freeze-sim _ reason r) (λ acts. if-sim acts (then-sim (emit-sim _) (bind-any (look-sim _) (λ transitive.
+        if-sim transitive (bind-set (setOf-sim _ r) (λ o a. walk-sim (valuesOf o) reason a)) done-sim))) done-sim)
 
     creating-sim : (p : Place) (k : ValueKind) (reason : ℕ) → N (p .identifier) → Keeps L 𝓡 Any (creating again p k reason)
     unfolding creating
@@ -476,7 +478,7 @@ module _ {T : Tables} (L : Lawful T) (R : Node → Type 0) (N F : ℕ → Type 0
   earlyError-sim : (f : ℕ) (p : Place) → F f → Keeps L 𝓡 Any (earlyError f p)
   unfolding earlyError functionContext
   earlyError-sim f p c =
-      bind-sim (ask-sim {Q = λ b. b ≡ true → R (id (p .identifier))} _ (λ r h. has-all (λ i. R (id i)) (p .identifier) (identifiers (T .contextOf (r .context .functions) f)) (h .created-in f c))) (λ b q.
+      bind-sim (ask-sim {Q = λ b. b ≡ true → R (id (p .identifier))} _ (λ r h. has-all (λ i. R (id i)) (p .identifier) (identifiers (T .contextOf (r .context) f)) (h .created-in f c))) (λ b q.
       test-sim b (λ e. reportEarly-sim p (q e)) (λ _. done-sim))
 
   all-any : {A : Type 0} (l : List A) → All Any l
