@@ -8,7 +8,7 @@ M smallest records, then others at random by the seed, N in all, none above BYTE
 For each a test `T (eqList (infer bytes) (ascii "listing"))` is written into a throw-away
 repository, target/compare, and checked there: the prover computes the definition and nothing
 is run. A record is `equal`, or DIFFERENT with what the definition computes, or `not computed`
-where the prover's step limit was met (no option raises it; about 4,000 bytes always pass).
+where the prover's step limit was met (no option raises it; all that were tried below 20,000 bytes stay under it).
 Exit status 0 if none is different.
 """
 
@@ -80,8 +80,8 @@ def pick(records, count, small, seed, most):
     return chosen + rest[:count - len(chosen)]
 
 
-# A fresh throw-away repository with copies of the crates that the tests need.
-# What was proved of them there before is kept where they have not changed.
+# A throw-away repository with copies of the crates that the tests need.
+# What was proved of those crates is kept where they have not changed; of the tests nothing is kept.
 def prepare():
     os.makedirs(os.path.join(PLACE, "crates"), exist_ok=True)
     lines = [line for line in open(os.path.join(ROOT, "crates.txt"), encoding="utf-8")
@@ -89,6 +89,7 @@ def prepare():
     with open(os.path.join(PLACE, "crates.txt"), "w", encoding="utf-8") as f:
         f.writelines(line.rstrip("\n") + "\n" for line in lines)
         f.write("compare: image transfer effects kinds sets orders\n")
+    shutil.rmtree(os.path.join(PLACE, "target", "inc", "compare"), ignore_errors=True)
     for name in NEEDED + ["compare"]:
         shutil.rmtree(os.path.join(PLACE, "crates", name), ignore_errors=True)
     for name in NEEDED:

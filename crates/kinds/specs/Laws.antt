@@ -2,9 +2,10 @@
 -- so "above or equal" is a partial order and the join the least upper bound. Assumes nothing.
 use mathlib.Core.Path.{_≡_, refl, sym, ap, _∙_}
 use mathlib.Core.Bool.{Bool, true, false, _&&_}
-use Prim.Native.Nat.{ℕ, zero, suc, _+_, _*_, _^_, _/_, _%_, _<_, _≤_}
-use native.Mathlib.Nat.{lt-of-lt-of-le, div-eq-of-lt}
-use lib.Pow.{pow-mono}
+use Prim.Native.Nat.{ℕ, zero, suc, _+_, _-_, _*_, _^_, _/_, _%_, _<_, _≤_}
+use native.Mathlib.Nat.{lt-of-lt-of-le, div-eq-of-lt, mul-mod-left}
+use native.Mathlib.Omega.{arith}
+use lib.Pow.{pow-mono, pow-add}
 use mathlib.Core.List.{List, [], _∷_}
 use lib.Dec.{T, eqb, eqb→eq, eqb-refl, ltb, ltb→lt}
 use lib.ListN.{getD}
@@ -16,7 +17,7 @@ use Rattle.kinds.specs.declared.ValueKind.{ValueKind}
 use Rattle.kinds.specs.declared.ValueKind.the-variants.{Mutable, Frozen, Primitive, MaybeFrozen, Global, Context}
 use Rattle.kinds.specs.declared.AbstractValue.{AbstractValue}
 use Rattle.kinds.specs.Kinds.{codeOf, allKinds, kindAt, joinTable, joinKind}
-use Rattle.kinds.specs.Reasons.{joinReasons, hasReason}
+use Rattle.kinds.specs.Reasons.{joinReasons, hasReason, single}
 use Rattle.kinds.specs.Values.{mk, join, contains, above}
 
 -- ---- kinds and their numbers
@@ -153,3 +154,9 @@ value-join-least a b c p q = above-test c (join a b) (join-least join value-join
 pub no-reason : (s n : ℕ) → s < 2 ^ 32 → 32 ≤ n → hasReason s n ≡ false
 unfolding hasReason
 no-reason s n h l = rw (div-eq-of-lt (lt-of-lt-of-le h (pow-mono l)))
+
+-- nor is there a set of a reason past bit 31
+pub no-single : (n : ℕ) → 32 ≤ n → 0 ≡ single n
+no-single n h =
+    let e : n ≡ n - 32 + 32 = omega arith in
+    sym (ap (λ (k : ℕ). 2 ^ k % 4294967296) e ∙ ap (λ (x : ℕ). x % 4294967296) (pow-add 2 (n - 32) 32) ∙ mul-mod-left (2 ^ (n - 32)) 4294967296)

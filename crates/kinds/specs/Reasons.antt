@@ -53,9 +53,9 @@ isReason r = ltb r reasonCount
 unfoldable pub areReasons : ℕ → Bool
 areReasons s = ltb s (2 ^ reasonCount)
 
--- the set of one reason, and whether a set has it
+-- the set of one reason, and whether a set has it; a set is a word of 32 bits, so there is no reason past bit 31
 abbrev pub single : ℕ → ℕ
-single r = 2 ^ r
+single r = 2 ^ r % 4294967296
 
 unfoldable pub hasReason : ℕ → ℕ → Bool
 hasReason s r = eqb (s / 2 ^ r % 2) 1

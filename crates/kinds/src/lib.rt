@@ -1,8 +1,8 @@
 // Kinds and reasons of a value (document 01, module 1): the join of two abstract values, and its order.
 // After type_config.rs, and merge_value_kinds, merge_abstract_values and is_superset of the Rust.
 ghost use mathlib.Core.Path.{_≡_};
-ghost use Rattle.kinds.specs.Kinds.{codeOf, kindAt, joinKind};
-ghost use Rattle.kinds.specs.Reasons.{isReason, areReasons, hasReason};
+ghost use Rattle.kinds.specs.Kinds.{codeOf, kindAt, joinKind, freezable, writable, copied, isFrozen};
+ghost use Rattle.kinds.specs.Reasons.{isReason, areReasons, hasReason, single, primaryReason, writeErrorSentence};
 ghost use Rattle.kinds.specs.Values.{join, contains, above};
 
 // Whether a value may be written: the Rust's ValueKind, in its order.
@@ -80,6 +80,74 @@ impl ValueKind {
             ValueKind::Context => ValueKind::of_code(CONTEXT_WITH[i]),
         }
     }
+
+    // Whether a place of that kind can be frozen.
+    // Freeze and the freeze walk act on no other.
+    pub fn is_freezable(self) -> bool
+        ensures { λ r. ⌜ r ≡ freezable self ⌝ }
+    {
+        match self {
+            ValueKind::Mutable => true,
+            ValueKind::Frozen => false,
+            ValueKind::Primitive => false,
+            ValueKind::MaybeFrozen => true,
+            ValueKind::Global => false,
+            ValueKind::Context => true,
+        }
+    }
+
+    // Whether a place of that kind may be written.
+    // The write test, and what a mutation asks first.
+    pub fn is_writable(self) -> bool
+        ensures { λ r. ⌜ r ≡ writable self ⌝ }
+    {
+        match self {
+            ValueKind::Mutable => true,
+            ValueKind::Frozen => false,
+            ValueKind::Primitive => false,
+            ValueKind::MaybeFrozen => false,
+            ValueKind::Global => false,
+            ValueKind::Context => true,
+        }
+    }
+
+    // Whether a copy of such a value shares nothing with it.
+    // No data flow is tracked from it.
+    pub fn is_copied(self) -> bool
+        ensures { λ r. ⌜ r ≡ copied self ⌝ }
+    {
+        match self {
+            ValueKind::Mutable => false,
+            ValueKind::Frozen => false,
+            ValueKind::Primitive => true,
+            ValueKind::MaybeFrozen => false,
+            ValueKind::Global => true,
+            ValueKind::Context => false,
+        }
+    }
+
+    // Whether it is Frozen, and surely so.
+    // A mutation of it is an error of its own kind.
+    pub fn is_frozen(self) -> bool
+        ensures { λ r. ⌜ r ≡ isFrozen self ⌝ }
+    {
+        match self {
+            ValueKind::Mutable => false,
+            ValueKind::Frozen => true,
+            ValueKind::Primitive => false,
+            ValueKind::MaybeFrozen => false,
+            ValueKind::Global => false,
+            ValueKind::Context => false,
+        }
+    }
+}
+
+// The set of one reason; there is none past bit 31.
+// This is ReasonSet::single.
+pub fn single(n: u32) -> u32
+    ensures { λ r. ⌜ r ≡ single n ⌝ }
+{
+    if n < 32 { 1 << n } else { 0 }
 }
 
 // Whether a number is a reason.

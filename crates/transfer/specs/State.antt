@@ -44,15 +44,14 @@ firstAccess i span s = elim (eqb (s .access) 0) [
   | false ↦ s
 ]
 
-module _ (T : Tables) where
-  -- "joins the values of its set that have an entry": from the lowest value on, onto what is joined already
-  unfoldable pub joinValues : T .Values → List ℕ → Option AbstractValue → Option AbstractValue
-  joinValues vs [] a = a
-  joinValues vs (v ∷ l) a = joinValues vs l (joinOption join a (T .valueOf vs v))
+-- "joins the values of its set that have an entry": from the lowest value on, onto what is joined already
+unfoldable pub joinValues : (ℕ → Option AbstractValue) → List ℕ → Option AbstractValue → Option AbstractValue
+joinValues value [] a = a
+joinValues value (v ∷ vs) a = joinValues value vs (joinOption join a (value v))
 
-  -- "A place's kind joins the values of its set that have an entry; with none, Mutable {Other}. An undefined place gives the same"
-  unfoldable pub kindOf : T .Values → T .Sets → ℕ → AbstractValue
-  kindOf vs ss i = orDefault (joinValues vs (valuesOf (T .setOf ss i)) none)
+-- "A place's kind joins the values of its set that have an entry; with none, Mutable {Other}. An undefined place gives the same"
+unfoldable pub kindOf : (ℕ → Option AbstractValue) → Option ℕ → AbstractValue
+kindOf value o = orDefault (joinValues value (valuesOf o) none)
 
 module _ {T : Tables} where
   -- ---- what touches the state: five computations, and no other
@@ -65,7 +64,7 @@ module _ {T : Tables} where
 
   -- the kind of a place, and no access recorded
   unfoldable pub peek : ℕ → M (World T) AbstractValue
-  peek i w = ok (kindOf T (w .state .values) (w .state .sets) i) w
+  peek i w = ok (kindOf (T .valueOf (w .state .values)) (T .setOf (w .state .sets) i)) w
 
   unfoldable pub initialize : ℕ → AbstractValue → M (World T) Done
   initialize v a w = ok tt (record {

@@ -58,11 +58,10 @@ module _ {T : Tables} (L : Lawful T) (𝓡 : Reaching T) where
     abbrev pub Keeps : (A → Type 0) → M (World T) A → Type 0
     Keeps Q m = Sim frame Q m m
 
-module _ (T : Tables) where
-  join-same : (P : ℕ → Type 0) (f g : T .Values) → ((v : ℕ) → P v → T .valueOf f v ≡ T .valueOf g v) → (l : List ℕ) (a : Option AbstractValue) → All P l → joinValues T f l a ≡ joinValues T g l a
-  unfolding joinValues
-  join-same P f g h [] a p = refl
-  join-same P f g h (v ∷ l) a p = rw (h v (p .0)) (join-same P f g h l (joinOption join a (T .valueOf g v)) (p .1))
+join-same : (P : ℕ → Type 0) (f g : ℕ → Option AbstractValue) → ((v : ℕ) → P v → f v ≡ g v) → (l : List ℕ) (a : Option AbstractValue) → All P l → joinValues f l a ≡ joinValues g l a
+unfolding joinValues
+join-same P f g h [] a p = refl
+join-same P f g h (v ∷ l) a p = rw (h v (p .0)) (join-same P f g h l (joinOption join a (g v)) (p .1))
 
 module _ {T : Tables} {L : Lawful T} {𝓡 : Reaching T} where
   open Reaching 𝓡 using (R, OkRest, s₀, t₀)
@@ -103,8 +102,8 @@ module _ {T : Tables} {L : Lawful T} {𝓡 : Reaching T} where
   unfolding peek kindOf
   peek-sim i r = record {
     runs = λ w u h. (
-      ap orDefault (join-same T (λ v. R (val v)) (w .state .values) (u .state .values) (λ v q. ap abstract (h .agree (val v) q)) (valuesOf (T .setOf (w .state .sets) i)) none (h .inside i r)
-          ∙ ap (λ (o : _). joinValues T (u .state .values) (valuesOf o) none) (ap pointed (h .agree (id i) r))),
+      ap orDefault (join-same (λ v. R (val v)) (T .valueOf (w .state .values)) (T .valueOf (u .state .values)) (λ v q. ap abstract (h .agree (val v) q)) (valuesOf (T .setOf (w .state .sets) i)) none (h .inside i r)
+          ∙ ap (λ (o : _). joinValues (T .valueOf (u .state .values)) (valuesOf o) none) (ap pointed (h .agree (id i) r))),
       tt,
       h,
     );
