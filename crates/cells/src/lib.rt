@@ -8,7 +8,6 @@ use kinds::AbstractValue;
 use kinds::ValueKind;
 use slices::get64;
 use slices::set64;
-use slices::wide32;
 
 // What a value number has: nothing, or its kind and reasons.
 pub enum Entry {
@@ -57,18 +56,18 @@ pub fn word_of(a: AbstractValue) -> u64
 
 // The entry of value v; past the end there is none.
 // This is values.get of the Rust.
-pub fn value_at(values: &[u64], v: u32) -> Entry
+pub fn value_at(values: &[u64], v: usize) -> Entry
     ensures { λ r. ⌜ optionOf r ≡ valueAt (now (values .entry)) v ⌝ }
 {
-    entry_of(get64(values, wide32(v)))
+    entry_of(get64(values, v))
 }
 
 // Value v gets kind and reasons a; past the end nothing happens.
 // This is initialize of the Rust.
-pub fn put_value(values: &mut [u64], v: u32, a: AbstractValue)
+pub fn put_value(values: &mut [u64], v: usize, a: AbstractValue)
     ensures { λ _. ⌜ now (values .exit) ≡ putValue (now (values .entry)) v a ⌝ }
 {
-    set64(values, wide32(v), word_of(a));
+    set64(values, v, word_of(a));
 }
 
 impl Entry {
@@ -92,7 +91,10 @@ impl Entry {
         ensures { λ r. ⌜ r ≡ orDefault (optionOf self) ⌝ }
     {
         match self {
-            Entry::Absent => AbstractValue { kind: ValueKind::Mutable, reason: 2048 },
+            Entry::Absent => AbstractValue {
+                kind: ValueKind::Mutable,
+                reason: 2048,
+            },
             Entry::Present(a) => a,
         }
     }

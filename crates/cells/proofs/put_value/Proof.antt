@@ -6,13 +6,8 @@ use Rattle.cells.proofs.put_value.Reads as reads
 use Rattle.cells.proofs.put_value.Lts as lts
 use Rattle.cells.proofs.word_of.Reads as word-of-reads
 use Rattle.slices.proofs.set64.Reads as set64-reads
-use Rattle.slices.proofs.wide32.Reads as wide32-reads
 
--- src/lib.rt:70:19
-wide32-requires : tie.Need-wide32-requires
-wide32-requires c κs = search needs
-
--- src/lib.rt:70:30
+-- src/lib.rt:70:22
 word-of-requires : tie.Need-word-of-requires
 word-of-requires c κs = search needs
 
@@ -30,5 +25,4 @@ unfolding putValue
 returns c = cc
 
 pub put-value-spec : {M : Type 1} → statement M
-put-value-spec =
-    tie.close (tie.spec wide32-requires word-of-requires set64-requires same-length returns)
+put-value-spec = tie.close (tie.spec word-of-requires set64-requires same-length returns)

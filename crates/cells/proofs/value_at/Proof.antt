@@ -6,11 +6,6 @@ use Rattle.cells.proofs.value_at.Reads as reads
 use Rattle.cells.proofs.value_at.Lts as lts
 use Rattle.cells.proofs.entry_of.Reads as entry-of-reads
 use Rattle.slices.proofs.get64.Reads as get64-reads
-use Rattle.slices.proofs.wide32.Reads as wide32-reads
-
--- src/lib.rt:62:28
-wide32-requires : tie.Need-wide32-requires
-wide32-requires c κs = search needs
 
 -- src/lib.rt:62:14
 get64-requires : tie.Need-get64-requires
@@ -26,4 +21,4 @@ unfolding valueAt
 returns c = cc
 
 pub value-at-spec : {M : Type 1} → statement M
-value-at-spec = tie.close (tie.spec wide32-requires get64-requires entry-of-requires returns)
+value-at-spec = tie.close (tie.spec get64-requires entry-of-requires returns)
