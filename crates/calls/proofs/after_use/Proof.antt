@@ -1,0 +1,37 @@
+use native.Mathlib.Omega.{arith}
+use mathlib.Core.Path.{_≡_, refl, sym, ap, _∙_}
+use mathlib.Core.Bool.{Bool, true, false, not, _||_}
+use Rattle.accepts.specs.TestLaws.{le-not-lt, or-first, or-second}
+use Rattle.accepts.specs.WordLaws.{number-zero, number-other}
+use Rattle.calls.specs.CallLaws.{use-defined, use-again, use-first}
+use borrow.Author.Needs.{needs}
+use Rattle.calls.proofs.after_use.Statement.{statement}
+use Rattle.calls.proofs.after_use.Tie as tie
+use Rattle.calls.proofs.after_use.Reads as reads
+use Rattle.calls.proofs.after_use.Lts as lts
+use Rattle.calls.proofs.access_of.Reads as access-of-reads
+use Rattle.rows.proofs.is_defined.Reads as is-defined-reads
+
+-- src/lib.rt:137:8
+is-defined-requires : tie.Need-is-defined-requires
+is-defined-requires c κs = search needs
+
+-- src/lib.rt:138:9
+returns : tie.Need-returns
+returns c = use-defined _ _ _ _ _ (c .before .is-defined .ensures) (c .if1 .taken)
+
+-- src/lib.rt:141:9
+returns-2 : tie.Need-returns-2
+returns-2 c = use-again _ _ _ _ _ (c .before .before .before .is-defined .ensures) (c .before .before .if1 .left) (c .if2 .taken)
+
+-- src/lib.rt:143:9
+access-of-requires : tie.Need-access-of-requires
+access-of-requires c κs = search needs
+
+-- src/lib.rt:134:1
+returns-3 : tie.Need-returns-3
+returns-3 c = use-first _ _ _ _ _ _ (c .before .before .before .before .is-defined .ensures) (c .before .before .before .if1 .left) (c .before .if2 .left) (c .access-of .ensures)
+
+pub after-use-spec : {M : Type 1} → statement M
+after-use-spec =
+    tie.close (tie.spec is-defined-requires returns returns-2 access-of-requires returns-3)

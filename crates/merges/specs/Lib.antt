@@ -1,0 +1,3 @@
+pub mod CodeLaws
+pub mod Lists
+pub mod MergeListLaws
