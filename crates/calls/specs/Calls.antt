@@ -2,7 +2,8 @@
 -- Assumes nothing: these are definitions.
 use Prim.Native.Nat.{ℕ, zero, suc}
 use mathlib.Core.Bool.{Bool, true, false, not, _||_}
-use mathlib.Core.List.{List, []}
+use mathlib.Core.List.{List, [], _∷_}
+use lib.ListN.{length, set, replicate}
 use mathlib.Core.Option.{Option, none, some}
 use lib.Dec.{eqb, leb, ltb}
 use Rattle.slices.specs.Test.{ite}
@@ -22,12 +23,13 @@ use Rattle.transfer.specs.Tables.{Tables, State, Work, Rest, World}
 use Rattle.transfer.specs.Pure as Pure
 use Rattle.transfer.specs.State as State
 use Rattle.transfer.specs.Step as Step
-use Rattle.rows.specs.Rows.{setAt, isSome}
+use Rattle.rows.specs.Rows.{setAt, isSome, valuesOf}
 use Rattle.state.specs.Text.{onLists, lists}
 use Rattle.accepts.specs.Words.{stateRefusal, identifiers}
 use Rattle.calls.specs.declared.KindAnswer.{KindAnswer}
 use Rattle.calls.specs.declared.TestAnswer.{TestAnswer}
 use Rattle.calls.specs.declared.MutationAnswer.{MutationAnswer}
+use Rattle.calls.specs.declared.CountAnswer.{CountAnswer}
 
 -- ---- the world of a call on one state: the lent lists, the session, and an empty context, at which no operation of a state looks
 
@@ -140,6 +142,28 @@ inferPhi vs ss s place operands = call (refusalOf vs ss s (outside ss place || a
 unfoldable pub mutate : List ℕ → List ℕ → Session → Bool → MutateVariant → ℕ → Span → Outcome MutationResult
 mutate vs ss s ref variant i span =
     callWith ref (refusal1 vs ss s i) Result.None (Step.mutate variant (record { identifier = i; effect = 0; reactive = 0; span = span })) vs ss s
+
+-- ---- the values of a place, in a lent list
+
+-- some numbers in a list, from a place of it on
+unfoldable pub written : List ℕ → ℕ → List ℕ → List ℕ
+written [] k out = out
+written (v ∷ vs) k out = written vs (suc k) (set out k v)
+
+-- 1 for a list that has not 1,024 words
+unfoldable pub valuesRefusal : List ℕ → List ℕ → Session → ℕ → ℕ → ℕ
+valuesRefusal vs ss s i room = ite (eqb room 1024) (refusal1 vs ss s i) 1
+
+-- how many values the place has; "with a number come zero effects and count"
+unfoldable pub valuesAnswer : List ℕ → List ℕ → Session → ℕ → List ℕ → CountAnswer
+valuesAnswer vs ss s i out = record {
+  refusal = valuesRefusal vs ss s i (length out);
+  count = ite (eqb (valuesRefusal vs ss s i (length out)) 0) (length (valuesOf (setAt ss i))) 0;
+}
+
+-- the values, ascending, and zeros behind them; zeros alone after a refusal
+unfoldable pub valuesListed : List ℕ → List ℕ → Session → ℕ → List ℕ → List ℕ
+valuesListed vs ss s i out = ite (eqb (valuesRefusal vs ss s i (length out)) 0) (written (valuesOf (setAt ss i)) 0 (replicate (length out) 0)) (replicate (length out) 0)
 
 -- ---- the session after a use
 

@@ -1,12 +1,15 @@
 // The public calls on a lent state: each refuses what document 01 refuses and then leaves all as it was, else it does what the definition says.
 // A state is lent as 1,024 words of values and 16 words of sets for each identifier; the session comes and goes by value.
 ghost use mathlib.Core.Path.{_≡_};
-ghost use mathlib.Core.Bool.{not, _||_};
+ghost use mathlib.Core.Bool.{true, false, not, _||_};
+ghost use lib.ListN.{length, replicate};
 ghost use Rattle.kinds.specs.Reasons.{areReasons, isReason};
-ghost use Rattle.transfer.specs.Accepted.{notANumber, notYetHandedOut};
-ghost use Rattle.accepts.specs.Words.{identifiers};
+ghost use Rattle.transfer.specs.Accepted.{notANumber, anyOf};
+ghost use Rattle.effects.specs.Mutation.{isStrict, resultOf};
+ghost use Rattle.rows.specs.Rows.{setAt, valuesOf};
+ghost use Rattle.accepts.specs.Words.{identifiers, stateRefusal};
 ghost use Rattle.calls.specs.Calls as Calls;
-ghost use Rattle.calls.specs.Calls.{worst, refusalOf, outside, refusal1, refusal2, kindAnswer, testAnswer, mutationAnswer, accessOf, afterUse};
+ghost use Rattle.calls.specs.Calls.{worst, refusalOf, outside, refusal1, refusal2, kindAnswer, testAnswer, mutationAnswer, accessOf, afterUse, written, valuesRefusal, valuesAnswer, valuesListed};
 use accepts::number_too_new;
 use accepts::state_refusal;
 use cells::put_value;
@@ -19,6 +22,8 @@ use kinds::ValueKind;
 use kinds::are_reasons;
 use kinds::is_reason;
 use rows;
+use slices::get32;
+use slices::set32;
 use slices::wide32;
 use state;
 
@@ -40,6 +45,12 @@ pub struct MutationAnswer {
     pub refusal: u32,
     pub result: MutationResult,
     pub session: Session,
+}
+
+// The answer of a call that lists: 0 or a refusal, and how many there are.
+pub struct CountAnswer {
+    pub refusal: u32,
+    pub count: u32,
 }
 
 // The lower class of a state's and of the arguments'.
@@ -317,4 +328,203 @@ pub fn freeze(values: &mut [u64], sets: &[u64], session: Session, i: u32, reason
     }
     let answer = state::freeze(values, sets, i, reason);
     TestAnswer { refusal, answer }
+}
+
+// Whether an operand is not in the list.
+// A phi looks at all of them before it does anything.
+fn any_outside(sets: &[u64], operands: &[u32]) -> bool
+    ensures { λ r. ⌜ r ≡ anyOf (outside (now (sets .entry))) (now (operands .entry)) ⌝ }
+{
+    let mut k: usize = 0;
+    while k < operands.len() {
+        if outside(sets, get32(operands, k)) {
+            return true;
+        }
+        k += 1;
+    }
+    false
+}
+
+// A place gets the union of its operands' sets, unless that is empty.
+// The place may be one of them.
+pub fn infer_phi(
+    values: &[u64],
+    sets: &mut [u64],
+    session: Session,
+    place: u32,
+    operands: &[u32],
+) -> u32
+    ensures { λ r. ⌜ (r ≡ Calls.inferPhi (now (values .entry)) (now (sets .entry)) session place (now (operands .entry)) .refusal) × (now (sets .exit) ≡ Calls.inferPhi (now (values .entry)) (now (sets .entry)) session place (now (operands .entry)) .sets) ⌝ }
+{
+    let a = outside(sets, place);
+    let b = any_outside(sets, operands);
+    let refusal = refusal_of(values, sets, session, either(a, b), false);
+    if refusal != 0 {
+        return refusal;
+    }
+    state::infer_phi(sets, place, operands);
+    refusal
+}
+
+// Whether a mutation is one of the two that are not conditional.
+// These are told where they cannot be.
+fn is_strict(variant: MutateVariant) -> bool
+    ensures { λ r. ⌜ r ≡ isStrict variant ⌝ }
+{
+    match variant {
+        MutateVariant::Mutate => true,
+        MutateVariant::MutateConditionally => false,
+        MutateVariant::MutateTransitive => true,
+        MutateVariant::MutateTransitiveConditionally => false,
+    }
+}
+
+// What a strict mutation of a kind comes to.
+// What is frozen, or may be, and what is global is not to be written.
+fn strict_result(kind: ValueKind) -> MutationResult
+    ensures { λ r. ⌜ r ≡ resultOf true kind ⌝ }
+{
+    match kind {
+        ValueKind::Mutable => MutationResult::Mutate,
+        ValueKind::Frozen => MutationResult::MutateFrozen,
+        ValueKind::Primitive => MutationResult::None,
+        ValueKind::MaybeFrozen => MutationResult::MutateFrozen,
+        ValueKind::Global => MutationResult::MutateGlobal,
+        ValueKind::Context => MutationResult::Mutate,
+    }
+}
+
+// What a conditional mutation of a kind comes to.
+// It is none where the value cannot be written.
+fn conditional_result(kind: ValueKind) -> MutationResult
+    ensures { λ r. ⌜ r ≡ resultOf false kind ⌝ }
+{
+    match kind {
+        ValueKind::Mutable => MutationResult::Mutate,
+        ValueKind::Frozen => MutationResult::None,
+        ValueKind::Primitive => MutationResult::None,
+        ValueKind::MaybeFrozen => MutationResult::None,
+        ValueKind::Global => MutationResult::None,
+        ValueKind::Context => MutationResult::Mutate,
+    }
+}
+
+// What a mutation of a kind comes to.
+// Strict or conditional.
+fn result_of(strict: bool, kind: ValueKind) -> MutationResult
+    ensures { λ r. ⌜ r ≡ resultOf strict kind ⌝ }
+{
+    if strict {
+        return strict_result(kind);
+    }
+    conditional_result(kind)
+}
+
+// What a mutation of a place comes to, by its variant, its ref flag and its kind.
+// The kind of a ref is not asked for; else the first use of an undefined place is recorded.
+pub fn mutate(
+    values: &[u64],
+    sets: &[u64],
+    session: Session,
+    ref_flag: bool,
+    variant: MutateVariant,
+    i: u32,
+    span: Span,
+) -> MutationAnswer
+    ensures { λ r. ⌜ r ≡ mutationAnswer (Calls.mutate (now (values .entry)) (now (sets .entry)) session «ref_flag» variant i span) ⌝ }
+{
+    let refusal = refusal1(values, sets, session, i);
+    if refusal != 0 {
+        return MutationAnswer {
+            refusal,
+            result: MutationResult::None,
+            session,
+        };
+    }
+    if ref_flag {
+        return MutationAnswer {
+            refusal,
+            result: MutationResult::MutateRef,
+            session,
+        };
+    }
+    let after = after_use(sets, session, i, span);
+    let a = state::kind_of(values, sets, i);
+    let kind = a.kind;
+    let strict = is_strict(variant);
+    let result = result_of(strict, kind);
+    MutationAnswer {
+        refusal,
+        result,
+        session: after,
+    }
+}
+
+// The number with which a state is refused, with its session; 0 where it is accepted.
+// A state is accepted if nothing in it earns 1 to 4.
+pub fn accepted(values: &[u64], sets: &[u64], session: Session) -> u32
+    ensures { λ r. ⌜ r ≡ stateRefusal (now (values .entry)) (now (sets .entry)) (session .next) (session .access) ⌝ }
+{
+    state_refusal(values, sets, session.next, session.access)
+}
+
+// The values of a place, ascending, from the first word of a list on.
+// A place that is not defined has none.
+fn write_values(sets: &[u64], i: u32, out: &mut [u32])
+    ensures { λ _. ⌜ now (out .exit) ≡ written (valuesOf (setAt (now (sets .entry)) i)) 0 (now (out .entry)) ⌝ }
+{
+    if !rows::is_defined(sets, i) {
+        return;
+    }
+    let mut k: usize = 0;
+    let mut m = rows::next_member(sets, i, 1);
+    while m < 1024 {
+        set32(out, k, m);
+        k += 1;
+        m = rows::next_member(sets, i, m + 1);
+    }
+}
+
+// Every word of a list becomes 0.
+// An output list is cleared before it is written, so that it is zero after a refusal.
+fn clear(words: &mut [u32])
+    ensures { λ _. ⌜ now (words .exit) ≡ replicate (length (now (words .entry))) 0 ⌝ }
+{
+    let mut k: usize = 0;
+    while k < words.len() {
+        set32(words, k, 0);
+        k += 1;
+    }
+}
+
+// The refusal of a call that lists the values of a place: 1 too where its list has not 1,024 words.
+// A set has at most 1,023 values, so such a list suffices.
+fn values_refusal(values: &[u64], sets: &[u64], session: Session, i: u32, room: usize) -> u32
+    ensures { λ r. ⌜ r ≡ valuesRefusal (now (values .entry)) (now (sets .entry)) session i room ⌝ }
+{
+    if room != 1024 {
+        return 1;
+    }
+    refusal1(values, sets, session, i)
+}
+
+// The values of a place in ascending order, in a list of 1,024 words with zeros behind them, and how many there are.
+// No access is recorded.
+pub fn values_for(
+    values: &[u64],
+    sets: &[u64],
+    session: Session,
+    i: u32,
+    out: &mut [u32],
+) -> CountAnswer
+    ensures { λ r. ⌜ (r ≡ valuesAnswer (now (values .entry)) (now (sets .entry)) session i (now (out .entry))) × (now (out .exit) ≡ valuesListed (now (values .entry)) (now (sets .entry)) session i (now (out .entry))) ⌝ }
+{
+    let refusal = values_refusal(values, sets, session, i, out.len());
+    clear(out);
+    if refusal != 0 {
+        return CountAnswer { refusal, count: 0 };
+    }
+    write_values(sets, i, out);
+    let count = rows::size(sets, i);
+    CountAnswer { refusal, count }
 }
