@@ -68,7 +68,7 @@ unfoldable pub outcomeOf : {A : Type 0} → A → Res (World Lent) A → Outcome
 outcomeOf empty (ok a w) = record { refusal = 0; answer = a; values = w .state .values; sets = w .state .sets; session = w .rest .session }
 outcomeOf empty (refused n w) = record { refusal = n; answer = empty; values = w .state .values; sets = w .state .sets; session = w .rest .session }
 
--- "After a refusal state, context and session are as before": refused before anything is done, or the definition
+-- demand 1, after a refusal everything is as before: refused before anything is done, or the definition
 unfoldable pub callWith : {A : Type 0} → Bool → ℕ → A → M (World Lent) A → List ℕ → List ℕ → Session → Outcome A
 callWith ref zero empty m vs ss s = outcomeOf empty (m (start ref vs ss s))
 callWith ref (suc n) empty m vs ss s = record { refusal = suc n; answer = empty; values = vs; sets = ss; session = s }

@@ -1,0 +1,3 @@
+pub mod MergeCalls
+pub mod MergeCallLaws
+pub mod Theorems

@@ -1,0 +1,151 @@
+// The public calls on two lent states: each refuses what document 01 refuses and then leaves all as it was, else it does what the definition says.
+// A state is lent as 1,024 words of values and 16 words of sets for each identifier, as many in both; the session comes and goes by value.
+ghost use mathlib.Core.Path.{_≡_};
+ghost use Rattle.calls.specs.Calls.{testAnswer};
+ghost use Rattle.merge_calls.specs.MergeCalls as MergeCalls;
+ghost use Rattle.merge_calls.specs.MergeCalls.{lower, wrongLength, pairRefusal, thirdRefusal, sessionAnswer};
+use accepts::state_refusal;
+use calls::TestAnswer;
+use effects::Session;
+use effects::Span;
+use merges;
+
+// The answer of merge_from: 0 or a refusal, and the session after it.
+// Its access is cleared where the call was not refused.
+pub struct SessionAnswer {
+    pub refusal: u32,
+    pub session: Session,
+}
+
+// The lower class of two refusals, of which 0 is none.
+// "Order 1 to 5 over the whole input."
+fn lower(a: u32, b: u32) -> u32
+    ensures { λ r. ⌜ r ≡ lower a b ⌝ }
+{
+    if a == 0 {
+        return b;
+    }
+    if b == 0 {
+        return a;
+    }
+    if b < a {
+        return b;
+    }
+    a
+}
+
+// 1 where a list has another length than it must have, else 0.
+// "1: a lent slice or image has the wrong length."
+fn wrong_length(m: usize, n: usize) -> u32
+    ensures { λ r. ⌜ r ≡ wrongLength m n ⌝ }
+{
+    if m == n {
+        return 0;
+    }
+    1
+}
+
+// The refusal of two states that are lent together: the lower class of both, and 1 where they are not of the same identifiers.
+// "A state is accepted if nothing in it earns 1 to 4"; both have the call's next number and first access.
+fn pair_refusal(
+    values1: &[u64],
+    sets1: &[u64],
+    values2: &[u64],
+    sets2: &[u64],
+    session: Session,
+) -> u32
+    ensures { λ r. ⌜ r ≡ pairRefusal (now (values1 .entry)) (now (sets1 .entry)) (now (values2 .entry)) (now (sets2 .entry)) session ⌝ }
+{
+    let differ = wrong_length(sets2.len(), sets1.len());
+    let first = state_refusal(values1, sets1, session.next, session.access);
+    let second = state_refusal(values2, sets2, session.next, session.access);
+    lower(differ, lower(first, second))
+}
+
+// The refusal of a third state that is only written: 1 where its lists are not as long as the first state's must be.
+// "`merge` writes a third lent state": what it holds before does not matter.
+fn third_refusal(sets1: &[u64], values3: &[u64], sets3: &[u64]) -> u32
+    ensures { λ r. ⌜ r ≡ thirdRefusal (now (sets1 .entry)) (now (values3 .entry)) (now (sets3 .entry)) ⌝ }
+{
+    let a = wrong_length(values3.len(), 1024);
+    let b = wrong_length(sets3.len(), sets1.len());
+    lower(a, b)
+}
+
+// Whether the first state is above or equal to the second; false where the call is refused.
+// "One state is above or equal to another if it has each value entry and each defined identifier of the other"; flag and first access don't count.
+pub fn is_above(
+    values1: &[u64],
+    sets1: &[u64],
+    values2: &[u64],
+    sets2: &[u64],
+    session: Session,
+) -> TestAnswer
+    ensures { λ r. ⌜ r ≡ MergeCalls.isAbove (now (values1 .entry)) (now (sets1 .entry)) (now (values2 .entry)) (now (sets2 .entry)) session ⌝ }
+{
+    let refusal = pair_refusal(values1, sets1, values2, sets2, session);
+    if refusal != 0 {
+        return TestAnswer {
+            refusal,
+            answer: false,
+        };
+    }
+    let answer = merges::is_above(values1, sets1, values2, sets2);
+    TestAnswer { refusal, answer }
+}
+
+// The join of two states is written to a third, and the answer says whether the second adds to the first.
+// "`merge` writes a third lent state, which is empty at None and untouched by a refusal; its two inputs and the session stay."
+pub fn merge(
+    values1: &[u64],
+    sets1: &[u64],
+    values2: &[u64],
+    sets2: &[u64],
+    session: Session,
+    values3: &mut [u64],
+    sets3: &mut [u64],
+) -> TestAnswer
+    ensures { λ r. ⌜ (r ≡ testAnswer (MergeCalls.merge (now (values1 .entry)) (now (sets1 .entry)) (now (values2 .entry)) (now (sets2 .entry)) session (now (values3 .entry)) (now (sets3 .entry)))) × (now (values3 .exit) ≡ MergeCalls.merge (now (values1 .entry)) (now (sets1 .entry)) (now (values2 .entry)) (now (sets2 .entry)) session (now (values3 .entry)) (now (sets3 .entry)) .values) × (now (sets3 .exit) ≡ MergeCalls.merge (now (values1 .entry)) (now (sets1 .entry)) (now (values2 .entry)) (now (sets2 .entry)) session (now (values3 .entry)) (now (sets3 .entry)) .sets) ⌝ }
+{
+    let third = third_refusal(sets1, values3, sets3);
+    let both = pair_refusal(values1, sets1, values2, sets2, session);
+    let refusal = lower(third, both);
+    if refusal != 0 {
+        return TestAnswer {
+            refusal,
+            answer: false,
+        };
+    }
+    let answer = merges::merge_into(values1, sets1, values2, sets2, values3, sets3);
+    TestAnswer { refusal, answer }
+}
+
+// The second state is joined onto the first, and the session's access is cleared.
+// "As in release, the access is cleared"; a refusal leaves the first state and the session as they were.
+pub fn merge_from(
+    values1: &mut [u64],
+    sets1: &mut [u64],
+    values2: &[u64],
+    sets2: &[u64],
+    session: Session,
+) -> SessionAnswer
+    ensures { λ r. ⌜ (r ≡ sessionAnswer (MergeCalls.mergeFrom (now (values1 .entry)) (now (sets1 .entry)) (now (values2 .entry)) (now (sets2 .entry)) session)) × (now (values1 .exit) ≡ MergeCalls.mergeFrom (now (values1 .entry)) (now (sets1 .entry)) (now (values2 .entry)) (now (sets2 .entry)) session .values) × (now (sets1 .exit) ≡ MergeCalls.mergeFrom (now (values1 .entry)) (now (sets1 .entry)) (now (values2 .entry)) (now (sets2 .entry)) session .sets) ⌝ }
+{
+    let refusal = pair_refusal(values1, sets1, values2, sets2, session);
+    if refusal != 0 {
+        return SessionAnswer { refusal, session };
+    }
+    merges::merge_values(values1, values2);
+    merges::merge_sets(sets1, sets2);
+    let span = Span { start: 0, end: 0 };
+    let cleared = Session {
+        next: session.next,
+        access: 0,
+        span,
+        entries: session.entries,
+    };
+    SessionAnswer {
+        refusal,
+        session: cleared,
+    }
+}
