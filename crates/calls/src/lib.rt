@@ -220,8 +220,8 @@ pub fn may_write(values: &[u64], sets: &[u64], session: Session, i: u32) -> Test
             answer: false,
         };
     }
-    let a = state::kind_of(values, sets, i);
-    let k = a.kind;
+    let found = state::kind_of(values, sets, i);
+    let k = found.kind;
     let answer = k.is_writable();
     TestAnswer { refusal, answer }
 }
@@ -465,7 +465,9 @@ pub fn mutate(
 pub fn accepted(values: &[u64], sets: &[u64], session: Session) -> u32
     ensures { λ r. ⌜ r ≡ stateRefusal (now (values .entry)) (now (sets .entry)) (session .next) (session .access) ⌝ }
 {
-    state_refusal(values, sets, session.next, session.access)
+    let next = session.next;
+    let access = session.access;
+    state_refusal(values, sets, next, access)
 }
 
 // The values of a place, ascending, from the first word of a list on.
