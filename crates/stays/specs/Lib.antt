@@ -1,3 +1,4 @@
 pub mod Fits
 pub mod Stays
 pub mod Merged
+pub mod MergeCallsStay
