@@ -41,6 +41,7 @@ module _ (vs ss ws ts : List ℕ) (s : Session) where
         sets = mergedSets (adds (entries vs ss) (entries ws ts)) sc ss ts;
         session = s;
       })
+
       go : (n : ℕ) → lower (thirdRefusal ss vc sc) (pairRefusal vs ss ws ts s) ≡ n → outcome n .refusal ≡ 0 → Stays (outcome n)
       go zero z e =
           let l = lower-0 (thirdRefusal ss vc sc) (pairRefusal vs ss ws ts s) z in
