@@ -243,6 +243,7 @@ fn check_rest(
     sets: &[u64],
 ) {
     let span = session.span;
+    refused(at, calls::accepted(values, sets, session));
     expect(bytes, at, session.access);
     expect(bytes, at, span.start);
     expect(bytes, at, span.end);
@@ -318,6 +319,33 @@ fn session_of(access: u32, start: u32, end: u32) -> Session {
     }
 }
 
+// Whether a kind may be written: Mutable and Context.
+fn may_be_written(kind: ValueKind) -> u32 {
+    match kind {
+        ValueKind::Mutable => 1,
+        ValueKind::Frozen => 0,
+        ValueKind::Primitive => 0,
+        ValueKind::MaybeFrozen => 0,
+        ValueKind::Global => 0,
+        ValueKind::Context => 1,
+    }
+}
+
+// The write test of a place, compared with the kind that was compared with the recorded one.
+fn check_write(
+    at: &mut [u32],
+    values: &[u64],
+    sets: &[u64],
+    session: Session,
+    i: u32,
+    a: AbstractValue,
+) {
+    let kind = a.kind;
+    let w = calls::may_write(values, sets, session, i);
+    refused(at, w.refusal);
+    same(at, flag_of(w.answer), may_be_written(kind));
+}
+
 // 1: the kind of a place, without a span.
 fn run_kind(
     bytes: &[u8],
@@ -332,6 +360,7 @@ fn run_kind(
     let value = a.value;
     let after = a.session;
     expect_kind(bytes, at, a.refusal, value);
+    check_write(at, values, sets, session, get32(args, 0), value);
     check_rest(bytes, at, after, flag, values, sets);
 }
 
@@ -522,6 +551,21 @@ fn run_phi(
     check_rest(bytes, at, session, flag, values, sets);
 }
 
+// Whether the first state is above or equal to the second, compared with a merge's answer: it is just where the second adds nothing.
+fn check_above(
+    at: &mut [u32],
+    values1: &[u64],
+    sets1: &[u64],
+    values2: &[u64],
+    sets2: &[u64],
+    session: Session,
+    merged: bool,
+) {
+    let a = merge_calls::is_above(values1, sets1, values2, sets2, session);
+    refused(at, a.refusal);
+    same(at, flag_of(a.answer), flag_of(!merged));
+}
+
 // 12: merge into a third state, which has the left flag, or 0 where there is none.
 fn run_merge(
     bytes: &[u8],
@@ -545,6 +589,7 @@ fn run_merge(
         &mut sets3,
     );
     expect_one(bytes, at, a.refusal, flag_of(a.answer));
+    check_above(at, values1, sets1, values2, sets2, session, a.answer);
     check_rest(
         bytes,
         at,
