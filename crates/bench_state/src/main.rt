@@ -20,6 +20,7 @@ fn digit(k: usize) -> u32 {
         54 => 6,
         55 => 7,
         56 => 8,
+        57 => 9,
         _ => 0,
     }
 }
@@ -92,17 +93,37 @@ fn fill(values: &mut [u64], sets: &mut [u64], full: u32) {
     rows::define(sets, 1, 1);
 }
 
+// Value 1 is Mutable {Other} again, so that the next freeze of its place acts: with frozen ones beside it the place is MaybeFrozen.
+fn thaw(values: &mut [u64]) {
+    cells::put_value(
+        values,
+        1,
+        AbstractValue {
+            kind: ValueKind::Mutable,
+            reason: 2048,
+        },
+    );
+}
+
+// The first state is empty again, so that the next merge adds all of the second.
+fn empty(values: &mut [u64], sets: &mut [u64]) {
+    merges::clear_words(values);
+    merges::clear_words(sets);
+}
+
 // One operation: 1 to 4 are kind, freeze, merge_from and phi of the covered core, 5 to 8 the public calls of the same.
+// Each freeze acts and each merge adds; 9 is the emptying that comes before a merge, alone.
 fn once(op: u32, values: &mut [u64], sets: &mut [u64], values2: &[u64], sets2: &[u64]) -> u32 {
     if op == 1 {
         let a = state::kind_of(values, sets, 0);
         return a.reason;
     }
     if op == 2 {
-        state::freeze_values(values, sets, 0, 1);
-        return 0;
+        thaw(values);
+        return flag(state::freeze(values, sets, 0, 1));
     }
     if op == 3 {
+        empty(values, sets);
         merges::merge_values(values, values2);
         merges::merge_sets(sets, sets2);
         return 0;
@@ -116,14 +137,25 @@ fn once(op: u32, values: &mut [u64], sets: &mut [u64], values2: &[u64], sets2: &
         return a.refusal;
     }
     if op == 6 {
+        thaw(values);
         let a = calls::freeze(values, sets, session(), 0, 1);
-        return a.refusal;
+        return flag(a.answer);
     }
     if op == 7 {
+        empty(values, sets);
         let a = merge_calls::merge_from(values, sets, values2, sets2, session());
         return a.refusal;
     }
-    calls::infer_phi(values, sets, session(), 0, &[0u32, 1])
+    if op == 8 {
+        return calls::infer_phi(values, sets, session(), 0, &[0u32, 1]);
+    }
+    empty(values, sets);
+    0
+}
+
+// A test's answer by its number.
+fn flag(b: bool) -> u32 {
+    if b { 1 } else { 0 }
 }
 
 // The operation n times; the answer of the last.
