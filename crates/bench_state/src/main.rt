@@ -143,7 +143,7 @@ fn once(op: u32, values: &mut [u64], sets: &mut [u64], values2: &[u64], sets2: &
     }
     if op == 7 {
         empty(values, sets);
-        let a = merge_calls::merge_from(values, sets, values2, sets2, session());
+        let a = merge_calls::merge_from(values, sets, false, values2, sets2, false, session());
         return a.refusal;
     }
     if op == 8 {

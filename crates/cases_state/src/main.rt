@@ -7,6 +7,7 @@ use effects::Span;
 use kinds::AbstractValue;
 use kinds::ValueKind;
 use libc::STDOUT_FILENO;
+use merge_calls::MergeAnswer;
 
 // A session with every fresh number handed out and no access.
 fn session() -> Session {
@@ -75,6 +76,15 @@ fn say_test(n: u64, a: TestAnswer) {
     io::write_all(STDOUT_FILENO, b"\n");
 }
 
+// A line: case, refusal, yes or no, the third state's flag.
+fn say_merge(n: u64, a: MergeAnswer) {
+    say(b"case ", n);
+    say(b": refusal ", a.refusal as u64);
+    say(b", answer ", flag(a.answer));
+    say(b", flag ", flag(a.flag));
+    io::write_all(STDOUT_FILENO, b"\n");
+}
+
 // 2, 3, 4: the kind of a place with two values.
 fn joined(n: u64, first: ValueKind, second: ValueKind) {
     let mut values = [0u64; 1024];
@@ -133,7 +143,7 @@ fn phi_of_none() {
     say_kind(9, calls::kind(&values, &sets, session(), 0));
 }
 
-// 14: a state merged with itself: None.
+// 14: a state merged with itself: None, so no flag either.
 fn merged_with_itself() {
     let mut values = [0u64; 1024];
     let mut sets = [0u64; 8192];
@@ -142,13 +152,15 @@ fn merged_with_itself() {
     put(&mut values, &sets, 1, ValueKind::Frozen, 2);
     put(&mut values, &sets, 2, ValueKind::Mutable, 2048);
     both(&values, &mut sets);
-    say_test(
+    say_merge(
         14,
         merge_calls::merge(
             &values,
             &sets,
+            true,
             &values,
             &sets,
+            true,
             session(),
             &mut values3,
             &mut sets3,

@@ -2,7 +2,7 @@
 use Prim.Native.Nat.{ℕ, zero, suc, _≤_, _<_}
 use native.Mathlib.Omega.{arith}
 use mathlib.Core.Path.{_≡_, refl, sym, ap, ap₂, _∙_}
-use mathlib.Core.Bool.{Bool, false}
+use mathlib.Core.Bool.{Bool, true, false}
 use mathlib.Core.Logic.{⊎-elim}
 use mathlib.Core.List.{List}
 use lib.Dec.{eqb, ltb}
@@ -14,10 +14,11 @@ use Rattle.transfer.specs.Monad.{Done}
 use Rattle.transfer.specs.Merge.{above, adds, clearAccess}
 use Rattle.accepts.specs.Words.{stateRefusal}
 use Rattle.merges.specs.Lists.{entries, mergeValues, mergeSets, rowsOf, mergedValues, mergedSets}
-use Rattle.calls.specs.Calls.{Outcome, testAnswer}
+use Rattle.calls.specs.Calls.{Outcome}
 use Rattle.calls.specs.declared.TestAnswer.{TestAnswer}
 use Rattle.merge_calls.specs.MergeCalls as MergeCalls
-use Rattle.merge_calls.specs.MergeCalls.{lower, wrongLength, pairRefusal, thirdRefusal, refusing, sessionAnswer}
+use Rattle.merge_calls.specs.MergeCalls.{lower, wrongLength, pairRefusal, thirdRefusal, refusing, keptFlag, mergedFlag, mergeAnswer, sessionAnswer}
+use Rattle.merge_calls.specs.declared.MergeAnswer.{MergeAnswer}
 use Rattle.merge_calls.specs.declared.SessionAnswer.{SessionAnswer}
 
 -- a value of a type that is said
@@ -95,6 +96,17 @@ module _ {A : Type 0} (kept : ℕ → A) (does : A) where
   unfolding refusing
   is-done k z = sym (ap (λ (x : ℕ). refusing x kept does) z)
 
+-- ---- the flag of the third state
+
+module _ (left right : Bool) where
+  pub flag-kept : (b : Bool) → b ≡ true → left ≡ mergedFlag b left right
+  unfolding keptFlag mergedFlag
+  flag-kept b e = sym (ap (λ (x : Bool). mergedFlag x left right) e)
+
+  pub flag-none : (b : Bool) → b ≡ false → false ≡ mergedFlag b left right
+  unfolding mergedFlag
+  flag-none b e = sym (ap (λ (x : Bool). mergedFlag x left right) e)
+
 -- ---- how each call ends
 
 module _ (vs ss ws ts : List ℕ) (s : Session) (n : ℕ) where
@@ -109,19 +121,19 @@ module _ (vs ss ws ts : List ℕ) (s : Session) (n : ℕ) where
       ∙ ap (λ (x : Bool). the TestAnswer (record { refusal = 0; answer = x })) g
       ∙ is-done (λ k. record { refusal = k; answer = false }) _ (pairRefusal vs ss ws ts s) (sym e ∙ z)
 
-  pub from-refused : n ≡ pairRefusal vs ss ws ts s → (n ≡ 0 → ⊥)
-      → (record { refusal = n; session = s } ≡ sessionAnswer (MergeCalls.mergeFrom vs ss ws ts s)) × (vs ≡ MergeCalls.mergeFrom vs ss ws ts s .values) × (ss ≡ MergeCalls.mergeFrom vs ss ws ts s .sets)
-  unfolding MergeCalls.mergeFrom
-  from-refused e h =
+  pub from-refused : (left right : Bool) → n ≡ pairRefusal vs ss ws ts s → (n ≡ 0 → ⊥)
+      → (record { refusal = n; session = s; flag = left } ≡ sessionAnswer left right (MergeCalls.mergeFrom vs ss ws ts s)) × (vs ≡ MergeCalls.mergeFrom vs ss ws ts s .values) × (ss ≡ MergeCalls.mergeFrom vs ss ws ts s .sets)
+  unfolding MergeCalls.mergeFrom keptFlag
+  from-refused left right e h =
       let r = is-refused (λ k. the (Outcome Done) (record { refusal = k; answer = tt; values = vs; sets = ss; session = s })) _ n (pairRefusal vs ss ws ts s) e h in
-      (ap sessionAnswer r, ap (λ (x : Outcome Done). x .values) r, ap (λ (x : Outcome Done). x .sets) r)
+      (ap (sessionAnswer left right) r, ap (λ (x : Outcome Done). x .values) r, ap (λ (x : Outcome Done). x .sets) r)
 
-  pub from-ends : (vs' ss' : List ℕ) → n ≡ pairRefusal vs ss ws ts s → n ≡ 0 → vs' ≡ mergeValues vs ws → ss' ≡ mergeSets (rowsOf ss) ss ts
-      → (record { refusal = n; session = clearAccess s } ≡ sessionAnswer (MergeCalls.mergeFrom vs ss ws ts s)) × (vs' ≡ MergeCalls.mergeFrom vs ss ws ts s .values) × (ss' ≡ MergeCalls.mergeFrom vs ss ws ts s .sets)
-  unfolding MergeCalls.mergeFrom
-  from-ends vs' ss' e z f g =
+  pub from-ends : (left right : Bool) (vs' ss' : List ℕ) → n ≡ pairRefusal vs ss ws ts s → n ≡ 0 → vs' ≡ mergeValues vs ws → ss' ≡ mergeSets (rowsOf ss) ss ts
+      → (record { refusal = n; session = clearAccess s; flag = left } ≡ sessionAnswer left right (MergeCalls.mergeFrom vs ss ws ts s)) × (vs' ≡ MergeCalls.mergeFrom vs ss ws ts s .values) × (ss' ≡ MergeCalls.mergeFrom vs ss ws ts s .sets)
+  unfolding MergeCalls.mergeFrom keptFlag
+  from-ends left right vs' ss' e z f g =
       let r = is-done (λ k. the (Outcome Done) (record { refusal = k; answer = tt; values = vs; sets = ss; session = s })) _ (pairRefusal vs ss ws ts s) (sym e ∙ z) in (
-        ap (λ (x : ℕ). the SessionAnswer (record { refusal = x; session = clearAccess s })) z ∙ ap sessionAnswer r,
+        ap (λ (x : ℕ). the SessionAnswer (record { refusal = x; session = clearAccess s; flag = left })) z ∙ ap (sessionAnswer left right) r,
         f ∙ ap (λ (x : Outcome Done). x .values) r,
         g ∙ ap (λ (x : Outcome Done). x .sets) r,
       )
@@ -130,19 +142,22 @@ module _ (vs ss ws ts : List ℕ) (s : Session) (vc sc : List ℕ) (n t p : ℕ)
   merge-refusal : n ≡ lower (thirdRefusal ss vc sc) (pairRefusal vs ss ws ts s)
   merge-refusal = cc
 
-  pub merge-refused : (n ≡ 0 → ⊥)
-      → (record { refusal = n; answer = false } ≡ testAnswer (MergeCalls.merge vs ss ws ts s vc sc)) × (vc ≡ MergeCalls.merge vs ss ws ts s vc sc .values) × (sc ≡ MergeCalls.merge vs ss ws ts s vc sc .sets)
-  unfolding MergeCalls.merge
-  merge-refused h =
+  pub merge-refused : (left right : Bool) → (n ≡ 0 → ⊥)
+      → (record { refusal = n; answer = false; flag = false } ≡ mergeAnswer left right (MergeCalls.merge vs ss ws ts s vc sc)) × (vc ≡ MergeCalls.merge vs ss ws ts s vc sc .values) × (sc ≡ MergeCalls.merge vs ss ws ts s vc sc .sets)
+  unfolding MergeCalls.merge mergedFlag
+  merge-refused left right h =
       let r = is-refused (λ k. the (Outcome Bool) (record { refusal = k; answer = false; values = vc; sets = sc; session = s })) _ n _ merge-refusal h in
-      (ap testAnswer r, ap (λ (x : Outcome Bool). x .values) r, ap (λ (x : Outcome Bool). x .sets) r)
+      (ap (mergeAnswer left right) r, ap (λ (x : Outcome Bool). x .values) r, ap (λ (x : Outcome Bool). x .sets) r)
 
-  pub merge-ends : (b : Bool) (vd sd : List ℕ) → n ≡ 0 → (b ≡ adds (entries vs ss) (entries ws ts)) × (vd ≡ mergedValues b vc vs ws) × (sd ≡ mergedSets b sc ss ts)
-      → (record { refusal = n; answer = b } ≡ testAnswer (MergeCalls.merge vs ss ws ts s vc sc)) × (vd ≡ MergeCalls.merge vs ss ws ts s vc sc .values) × (sd ≡ MergeCalls.merge vs ss ws ts s vc sc .sets)
+  pub merge-ends : (left right b flag : Bool) (vd sd : List ℕ) → n ≡ 0 → (b ≡ adds (entries vs ss) (entries ws ts)) × (vd ≡ mergedValues b vc vs ws) × (sd ≡ mergedSets b sc ss ts) → flag ≡ mergedFlag b left right
+      → (record { refusal = n; answer = b; flag = flag } ≡ mergeAnswer left right (MergeCalls.merge vs ss ws ts s vc sc)) × (vd ≡ MergeCalls.merge vs ss ws ts s vc sc .values) × (sd ≡ MergeCalls.merge vs ss ws ts s vc sc .sets)
   unfolding MergeCalls.merge
-  merge-ends b vd sd z h =
+  merge-ends left right b flag vd sd z h k =
       let r = is-done (λ k. the (Outcome Bool) (record { refusal = k; answer = false; values = vc; sets = sc; session = s })) _ _ (sym merge-refusal ∙ z) in (
-        ap (λ (x : ℕ). the TestAnswer (record { refusal = x; answer = b })) z ∙ ap (λ (x : Bool). the TestAnswer (record { refusal = 0; answer = x })) (h .0) ∙ ap testAnswer r,
+        ap (λ (x : ℕ). the MergeAnswer (record { refusal = x; answer = b; flag = flag })) z
+            ∙ ap (λ (x : Bool). the MergeAnswer (record { refusal = 0; answer = b; flag = x })) k
+            ∙ ap (λ (x : Bool). the MergeAnswer (record { refusal = 0; answer = x; flag = mergedFlag x left right })) (h .0)
+            ∙ ap (mergeAnswer left right) r,
         h .1 ∙ ap (λ (x : Bool). mergedValues x vc vs ws) (h .0) ∙ ap (λ (x : Outcome Bool). x .values) r,
         h .2 ∙ ap (λ (x : Bool). mergedSets x sc ss ts) (h .0) ∙ ap (λ (x : Outcome Bool). x .sets) r,
       )

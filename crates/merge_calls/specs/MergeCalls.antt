@@ -13,6 +13,7 @@ use Rattle.accepts.specs.Words.{stateRefusal}
 use Rattle.merges.specs.Lists.{entries, mergeValues, mergeSets, rowsOf, mergedValues, mergedSets}
 use Rattle.calls.specs.Calls.{Outcome}
 use Rattle.calls.specs.declared.TestAnswer.{TestAnswer}
+use Rattle.merge_calls.specs.declared.MergeAnswer.{MergeAnswer}
 use Rattle.merge_calls.specs.declared.SessionAnswer.{SessionAnswer}
 
 -- ---- refusals of a call on two states
@@ -76,7 +77,24 @@ mergeFrom vs ss ws ts s =
     refusing (pairRefusal vs ss ws ts s) (λ n. record { refusal = n; answer = tt; values = vs; sets = ss; session = s })
     (record { refusal = 0; answer = tt; values = mergeValues vs ws; sets = mergeSets (rowsOf ss) ss ts; session = clearAccess s })
 
--- the answer of merge_from as a struct
+-- ---- the function-expression flag, which comes and goes with a call, beside the lent lists
+
+-- the flag of the left state with the right one merged into it, by their flags
+-- "a merge keeps the left function-expression flag"
+unfoldable pub keptFlag : Bool → Bool → Bool
+keptFlag left right = left
+
+-- the flag of the third state, by whether the second adds to the first: the one that a merge keeps, else no
+-- "which is empty at None": an empty state's flag is no
+unfoldable pub mergedFlag : Bool → Bool → Bool → Bool
+mergedFlag adds left right = ite adds (keptFlag left right) false
+
+-- the answer of merge as a struct, by the flags of the two states: a refusal answers no, so its flag is no
+-- its lists are the lent ones, and the session stays
+abbrev pub mergeAnswer : Bool → Bool → Outcome Bool → MergeAnswer
+mergeAnswer left right o = record { refusal = o .refusal; answer = o .answer; flag = mergedFlag (o .answer) left right }
+
+-- the answer of merge_from as a struct, by the flags of the two states: refused or not, the left flag is kept
 -- its lists are the lent ones
-abbrev pub sessionAnswer : Outcome Done → SessionAnswer
-sessionAnswer o = record { refusal = o .refusal; session = o .session }
+abbrev pub sessionAnswer : Bool → Bool → Outcome Done → SessionAnswer
+sessionAnswer left right o = record { refusal = o .refusal; session = o .session; flag = keptFlag left right }

@@ -23,8 +23,8 @@ use Rattle.merges.specs.Lists.{entries, mergeValues, mergeSets, rowsOf, mergedV
 use Rattle.merges.specs.MergeListLaws.{rows-of, merged-joined, merged-from, into-joined, into-merge, into-nothing}
 use Rattle.calls.specs.Calls.{Outcome}
 use Rattle.calls.specs.declared.TestAnswer.{TestAnswer}
-use Rattle.merge_calls.specs.MergeCalls.{lower, wrongLength, pairRefusal, thirdRefusal, refusing, isAbove, merge, mergeFrom}
-use Rattle.merge_calls.specs.MergeCallLaws.{the, lower-none, lower-alone, lower-first, lower-0, length-fits, length-wrong, length-0, is-refused, is-done}
+use Rattle.merge_calls.specs.MergeCalls.{lower, wrongLength, pairRefusal, thirdRefusal, refusing, keptFlag, mergeAnswer, sessionAnswer, isAbove, merge, mergeFrom}
+use Rattle.merge_calls.specs.MergeCallLaws.{the, lower-none, lower-alone, lower-first, lower-0, length-fits, length-wrong, length-0, is-refused, is-done, flag-kept, flag-none}
 
 -- ---- the number of a call: "order 1 to 5 over the whole input"
 
@@ -185,6 +185,21 @@ module _ (vs ss ws ts : List ℕ) (s : Session) (vc sc : List ℕ) where
       let r = is-refused (λ k. the (Outcome Bool) (record { refusal = k; answer = false; values = vc; sets = sc; session = s })) _ _ _ merge-number h in
       (sym (ap (λ (x : Outcome Bool). x .answer) r), sym (ap (λ (x : Outcome Bool). x .values) r), sym (ap (λ (x : Outcome Bool). x .sets) r))
 
+  -- ---- the function-expression flag, of the answer that the contract cites
+
+  module _ (left right : Bool) where
+    -- "a merge keeps the left function-expression flag": where the second adds to the first, the third state has the first one's, whatever the second's is
+    pub merge-keeps-left-flag : merge vs ss ws ts s vc sc .answer ≡ true → mergeAnswer left right (merge vs ss ws ts s vc sc) .flag ≡ left
+    merge-keeps-left-flag e = sym (flag-kept left right _ e)
+
+    -- "which is empty at None": the empty state's flag is no
+    pub merge-none-flag : merge vs ss ws ts s vc sc .answer ≡ false → mergeAnswer left right (merge vs ss ws ts s vc sc) .flag ≡ false
+    merge-none-flag e = sym (flag-none left right _ e)
+
+    -- so a refusal answers no flag
+    pub merge-refused-flag : (merge vs ss ws ts s vc sc .refusal ≡ 0 → ⊥) → mergeAnswer left right (merge vs ss ws ts s vc sc) .flag ≡ false
+    merge-refused-flag h = merge-none-flag (merge-untouched h .0)
+
   module _ (z : merge vs ss ws ts s vc sc .refusal ≡ 0) where
     numbers : (thirdRefusal ss vc sc ≡ 0) × (pairRefusal vs ss ws ts s ≡ 0)
     numbers = lower-0 _ _ (sym merge-number ∙ z)
@@ -273,6 +288,11 @@ module _ (vs ss ws ts : List ℕ) (s : Session) where
   from-untouched h =
       let r = is-refused (λ k. the (Outcome Done) (record { refusal = k; answer = tt; values = vs; sets = ss; session = s })) _ _ _ from-number h in
       (sym (ap (λ (x : Outcome Done). x .values) r), sym (ap (λ (x : Outcome Done). x .sets) r), sym (ap (λ (x : Outcome Done). x .session) r))
+
+  -- "a merge keeps the left function-expression flag": refused or not, the first state has its own flag, whatever the second's is
+  pub from-keeps-left-flag : (left right : Bool) → sessionAnswer left right (mergeFrom vs ss ws ts s) .flag ≡ left
+  unfolding keptFlag
+  from-keeps-left-flag left right = refl
 
   module _ (z : mergeFrom vs ss ws ts s .refusal ≡ 0) where
     from-pair : Pair vs ss ws ts

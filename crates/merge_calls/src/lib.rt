@@ -1,20 +1,28 @@
 // The public calls on two lent states: each refuses what document 01 refuses and then leaves all as it was, else it does what the definition says.
-// A state is lent as 1,024 words of values and 16 words of sets for each identifier, as many in both; the session comes and goes by value.
+// A state is lent as 1,024 words of values and 16 words of sets for each identifier, as many in both; the session and a state's function-expression flag come and go by value.
 ghost use mathlib.Core.Path.{_≡_};
-ghost use Rattle.calls.specs.Calls.{testAnswer};
 ghost use Rattle.merge_calls.specs.MergeCalls as MergeCalls;
-ghost use Rattle.merge_calls.specs.MergeCalls.{lower, wrongLength, pairRefusal, thirdRefusal, sessionAnswer};
+ghost use Rattle.merge_calls.specs.MergeCalls.{lower, wrongLength, pairRefusal, thirdRefusal, mergedFlag, mergeAnswer, sessionAnswer};
 use accepts::state_refusal;
 use calls::TestAnswer;
 use effects::Session;
 use effects::Span;
 use merges;
 
-// The answer of merge_from: 0 or a refusal, and the session after it.
-// Its access is cleared where the call was not refused.
+// The answer of merge: 0 or a refusal, whether the second state adds to the first, and the function-expression flag of the third.
+// The flag is no at None, as an empty state has it, and where the call is refused.
+pub struct MergeAnswer {
+    pub refusal: u32,
+    pub answer: bool,
+    pub flag: bool,
+}
+
+// The answer of merge_from: 0 or a refusal, the session after it, and the function-expression flag of the first state.
+// The session's access is cleared where the call was not refused.
 pub struct SessionAnswer {
     pub refusal: u32,
     pub session: Session,
+    pub flag: bool,
 }
 
 // The lower class of two refusals, of which 0 is none.
@@ -94,46 +102,72 @@ pub fn is_above(
     TestAnswer { refusal, answer }
 }
 
-// The join of two states is written to a third, and the answer says whether the second adds to the first.
+// The function-expression flag of the third state, by whether the second adds to the first.
+// "A merge keeps the left function-expression flag"; an empty state's flag is no.
+fn merged_flag(adds: bool, left: bool, right: bool) -> bool
+    ensures { λ r. ⌜ r ≡ mergedFlag adds left right ⌝ }
+{
+    if adds {
+        return left;
+    }
+    false
+}
+
+// The join of two states is written to a third, and the answer says whether the second adds to the first, and the third state's flag.
 // "`merge` writes a third lent state, which is empty at None and untouched by a refusal; its two inputs and the session stay."
 pub fn merge(
     values1: &[u64],
     sets1: &[u64],
+    flag1: bool,
     values2: &[u64],
     sets2: &[u64],
+    flag2: bool,
     session: Session,
     values3: &mut [u64],
     sets3: &mut [u64],
-) -> TestAnswer
-    ensures { λ r. ⌜ (r ≡ testAnswer (MergeCalls.merge (now (values1 .entry)) (now (sets1 .entry)) (now (values2 .entry)) (now (sets2 .entry)) session (now (values3 .entry)) (now (sets3 .entry)))) × (now (values3 .exit) ≡ MergeCalls.merge (now (values1 .entry)) (now (sets1 .entry)) (now (values2 .entry)) (now (sets2 .entry)) session (now (values3 .entry)) (now (sets3 .entry)) .values) × (now (sets3 .exit) ≡ MergeCalls.merge (now (values1 .entry)) (now (sets1 .entry)) (now (values2 .entry)) (now (sets2 .entry)) session (now (values3 .entry)) (now (sets3 .entry)) .sets) ⌝ }
+) -> MergeAnswer
+    ensures { λ r. ⌜ (r ≡ mergeAnswer flag1 flag2 (MergeCalls.merge (now (values1 .entry)) (now (sets1 .entry)) (now (values2 .entry)) (now (sets2 .entry)) session (now (values3 .entry)) (now (sets3 .entry)))) × (now (values3 .exit) ≡ MergeCalls.merge (now (values1 .entry)) (now (sets1 .entry)) (now (values2 .entry)) (now (sets2 .entry)) session (now (values3 .entry)) (now (sets3 .entry)) .values) × (now (sets3 .exit) ≡ MergeCalls.merge (now (values1 .entry)) (now (sets1 .entry)) (now (values2 .entry)) (now (sets2 .entry)) session (now (values3 .entry)) (now (sets3 .entry)) .sets) ⌝ }
 {
     let third = third_refusal(sets1, values3, sets3);
     let both = pair_refusal(values1, sets1, values2, sets2, session);
     let refusal = lower(third, both);
     if refusal != 0 {
-        return TestAnswer {
+        return MergeAnswer {
             refusal,
             answer: false,
+            flag: false,
         };
     }
     let answer = merges::merge_into(values1, sets1, values2, sets2, values3, sets3);
-    TestAnswer { refusal, answer }
+    let flag = merged_flag(answer, flag1, flag2);
+    MergeAnswer {
+        refusal,
+        answer,
+        flag,
+    }
 }
 
-// The second state is joined onto the first, and the session's access is cleared.
+// The second state is joined onto the first, which keeps its flag, and the session's access is cleared.
 // "As in release, the access is cleared"; a refusal leaves the first state and the session as they were.
 pub fn merge_from(
     values1: &mut [u64],
     sets1: &mut [u64],
+    flag1: bool,
     values2: &[u64],
     sets2: &[u64],
+    flag2: bool,
     session: Session,
 ) -> SessionAnswer
-    ensures { λ r. ⌜ (r ≡ sessionAnswer (MergeCalls.mergeFrom (now (values1 .entry)) (now (sets1 .entry)) (now (values2 .entry)) (now (sets2 .entry)) session)) × (now (values1 .exit) ≡ MergeCalls.mergeFrom (now (values1 .entry)) (now (sets1 .entry)) (now (values2 .entry)) (now (sets2 .entry)) session .values) × (now (sets1 .exit) ≡ MergeCalls.mergeFrom (now (values1 .entry)) (now (sets1 .entry)) (now (values2 .entry)) (now (sets2 .entry)) session .sets) ⌝ }
+    ensures { λ r. ⌜ (r ≡ sessionAnswer flag1 flag2 (MergeCalls.mergeFrom (now (values1 .entry)) (now (sets1 .entry)) (now (values2 .entry)) (now (sets2 .entry)) session)) × (now (values1 .exit) ≡ MergeCalls.mergeFrom (now (values1 .entry)) (now (sets1 .entry)) (now (values2 .entry)) (now (sets2 .entry)) session .values) × (now (sets1 .exit) ≡ MergeCalls.mergeFrom (now (values1 .entry)) (now (sets1 .entry)) (now (values2 .entry)) (now (sets2 .entry)) session .sets) ⌝ }
 {
+    let flag = flag1;
     let refusal = pair_refusal(values1, sets1, values2, sets2, session);
     if refusal != 0 {
-        return SessionAnswer { refusal, session };
+        return SessionAnswer {
+            refusal,
+            session,
+            flag,
+        };
     }
     merges::merge_values(values1, values2);
     merges::merge_sets(sets1, sets2);
@@ -147,5 +181,6 @@ pub fn merge_from(
     SessionAnswer {
         refusal,
         session: cleared,
+        flag,
     }
 }

@@ -566,60 +566,60 @@ fn check_above(
     same(at, flag_of(a.answer), flag_of(!merged));
 }
 
-// 12: merge into a third state, which has the left flag, or 0 where there is none.
+// 12: merge into a third state, by the flags of both; its flag is compared too.
 fn run_merge(
     bytes: &[u8],
     at: &mut [u32],
     values1: &[u64],
     sets1: &[u64],
+    flag1: u32,
     values2: &[u64],
     sets2: &[u64],
+    flag2: u32,
     session: Session,
-    flag: u32,
 ) {
     let mut values3 = [0u64; 1024];
     let mut sets3 = [0u64; 8192];
     let a = merge_calls::merge(
         values1,
         sets1,
+        flag1 == 1,
         values2,
         sets2,
+        flag2 == 1,
         session,
         &mut values3,
         &mut sets3,
     );
     expect_one(bytes, at, a.refusal, flag_of(a.answer));
     check_above(at, values1, sets1, values2, sets2, session, a.answer);
-    check_rest(
-        bytes,
-        at,
-        session,
-        kept_flag(flag, a.answer),
-        &values3,
-        &sets3,
-    );
+    check_rest(bytes, at, session, flag_of(a.flag), &values3, &sets3);
 }
 
-// The flag of a merged state: the left one's, or 0 at None.
-fn kept_flag(flag: u32, merged: bool) -> u32 {
-    if merged { flag } else { 0 }
-}
-
-// 13: merge_from.
+// 13: merge_from, by the flags of both; the flag after it is compared too.
 fn run_merge_from(
     bytes: &[u8],
     at: &mut [u32],
     values1: &mut [u64],
     sets1: &mut [u64],
+    flag1: u32,
     values2: &[u64],
     sets2: &[u64],
+    flag2: u32,
     session: Session,
-    flag: u32,
 ) {
-    let a = merge_calls::merge_from(values1, sets1, values2, sets2, session);
+    let a = merge_calls::merge_from(
+        values1,
+        sets1,
+        flag1 == 1,
+        values2,
+        sets2,
+        flag2 == 1,
+        session,
+    );
     let after = a.session;
     expect_none(bytes, at, a.refusal);
-    check_rest(bytes, at, after, flag, values1, sets1);
+    check_rest(bytes, at, after, flag_of(a.flag), values1, sets1);
 }
 
 // One operation that looks at a state and leaves it.
@@ -716,27 +716,58 @@ fn run(
     op: u32,
     values1: &mut [u64],
     sets1: &mut [u64],
+    flag1: u32,
     values2: &[u64],
     sets2: &[u64],
+    flag2: u32,
     session: Session,
-    flag: u32,
     args: &[u32],
     operands: &[u32],
     refs: &[u32],
 ) {
     if op == 12 {
-        run_merge(bytes, at, values1, sets1, values2, sets2, session, flag);
+        run_merge(
+            bytes,
+            at,
+            values1,
+            sets1,
+            flag1,
+            values2,
+            sets2,
+            flag2,
+            session,
+        );
         return;
     }
     if op == 13 {
-        run_merge_from(bytes, at, values1, sets1, values2, sets2, session, flag);
+        run_merge_from(
+            bytes,
+            at,
+            values1,
+            sets1,
+            flag1,
+            values2,
+            sets2,
+            flag2,
+            session,
+        );
         return;
     }
     if writes(op) {
-        run_writing(bytes, at, op, values1, sets1, session, flag, args, operands);
+        run_writing(
+            bytes,
+            at,
+            op,
+            values1,
+            sets1,
+            session,
+            flag1,
+            args,
+            operands,
+        );
         return;
     }
-    run_reading(bytes, at, op, values1, sets1, session, flag, args, refs);
+    run_reading(bytes, at, op, values1, sets1, session, flag1, args, refs);
 }
 
 // One less, and 0 of 0.
@@ -790,10 +821,11 @@ fn run_with_operands(
         get32(head, 2),
         values1,
         sets1,
+        get32(head, 6),
         values2,
         sets2,
+        get32(head, 7),
         session,
-        get32(head, 6),
         args,
         operands,
         refs,
