@@ -133,12 +133,12 @@ fn once(op: u32, values: &mut [u64], sets: &mut [u64], values2: &[u64], sets2: &
         return 0;
     }
     if op == 5 {
-        let a = calls::kind(values, sets, session(), 0);
+        let a = reading_calls::kind(values, sets, session(), 0);
         return a.refusal;
     }
     if op == 6 {
         thaw(values);
-        let a = calls::freeze(values, sets, session(), 0, 1);
+        let a = writing_calls::freeze(values, sets, session(), 0, 1);
         return flag(a.answer);
     }
     if op == 7 {
@@ -147,7 +147,7 @@ fn once(op: u32, values: &mut [u64], sets: &mut [u64], values2: &[u64], sets2: &
         return a.refusal;
     }
     if op == 8 {
-        return calls::infer_phi(values, sets, session(), 0, &[0u32, 1]);
+        return writing_calls::infer_phi(values, sets, session(), 0, &[0u32, 1]);
     }
     empty(values, sets);
     0

@@ -11,15 +11,12 @@ use Rattle.calls.proofs.access_of.Tie as tie
 use Rattle.calls.proofs.access_of.Reads as reads
 use Rattle.calls.proofs.access_of.Lts as lts
 
--- src/lib.rt:129:18
 add-result : tie.Need-add-result
 add-result c = search needs
 
--- src/lib.rt:126:1
 returns : tie.Need-returns
 returns c = access-in _ (c .if1 .taken)
 
--- src/lib.rt:126:1
 returns-2 : tie.Need-returns-2
 returns-2 c = access-past _ (c .if1 .left)
 

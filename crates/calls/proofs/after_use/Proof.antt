@@ -12,23 +12,18 @@ use Rattle.calls.proofs.after_use.Lts as lts
 use Rattle.calls.proofs.access_of.Reads as access-of-reads
 use Rattle.rows.proofs.is_defined.Reads as is-defined-reads
 
--- src/lib.rt:137:8
 is-defined-requires : tie.Need-is-defined-requires
 is-defined-requires c κs = search needs
 
--- src/lib.rt:138:9
 returns : tie.Need-returns
 returns c = use-defined _ _ _ _ _ (c .before .is-defined .ensures) (c .if1 .taken)
 
--- src/lib.rt:141:9
 returns-2 : tie.Need-returns-2
 returns-2 c = use-again _ _ _ _ _ (c .before .before .before .is-defined .ensures) (c .before .before .if1 .left) (c .if2 .taken)
 
--- src/lib.rt:143:9
 access-of-requires : tie.Need-access-of-requires
 access-of-requires c κs = search needs
 
--- src/lib.rt:134:1
 returns-3 : tie.Need-returns-3
 returns-3 c = use-first _ _ _ _ _ _ (c .before .before .before .before .is-defined .ensures) (c .before .before .before .if1 .left) (c .before .if2 .left) (c .access-of .ensures)
 

@@ -11,19 +11,15 @@ use Rattle.calls.proofs.no_number.Reads as reads
 use Rattle.calls.proofs.no_number.Lts as lts
 use Rattle.slices.proofs.wide32.Reads as wide32-reads
 
--- src/lib.rt:119:9
 returns : tie.Need-returns
 returns c = sym (number-zero _ _ (c .if1 .taken))
 
--- src/lib.rt:121:5
 wide32-requires : tie.Need-wide32-requires
 wide32-requires c κs = search needs
 
--- src/lib.rt:121:18
 add-result : tie.Need-add-result
 add-result c = search needs
 
--- src/lib.rt:115:1
 returns-2 : tie.Need-returns-2
 unfolding identifiers
 returns-2 c = number-other _ _ _ _ (c .before .if1 .left) (c .wide32 .ensures) refl

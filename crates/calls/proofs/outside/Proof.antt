@@ -15,11 +15,9 @@ use Rattle.calls.proofs.outside.Reads as reads
 use Rattle.calls.proofs.outside.Lts as lts
 use Rattle.slices.proofs.wide32.Reads as wide32-reads
 
--- src/lib.rt:84:5
 wide32-requires : tie.Need-wide32-requires
 wide32-requires c κs = search needs
 
--- src/lib.rt:81:1
 returns : tie.Need-returns
 unfolding outside identifiers
 returns c = ap (leb _) (c .wide32 .ensures) ∙ le-not-lt (c .before .before .args .i) (length (c .before .before .args .sets .now) / 16)

@@ -12,15 +12,12 @@ use Rattle.calls.proofs.refusal1.Lts as lts
 use Rattle.calls.proofs.outside.Reads as outside-reads
 use Rattle.calls.proofs.refusal_of.Reads as refusal-of-reads
 
--- src/lib.rt:100:39
 outside-requires : tie.Need-outside-requires
 outside-requires c κs = search needs
 
--- src/lib.rt:100:5
 refusal-of-requires : tie.Need-refusal-of-requires
 refusal-of-requires c κs = search needs
 
--- src/lib.rt:97:1
 returns : tie.Need-returns
 unfolding refusal1
 returns c = cc

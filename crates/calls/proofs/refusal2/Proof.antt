@@ -13,23 +13,18 @@ use Rattle.calls.proofs.either.Reads as either-reads
 use Rattle.calls.proofs.outside.Reads as outside-reads
 use Rattle.calls.proofs.refusal_of.Reads as refusal-of-reads
 
--- src/lib.rt:108:9
 outside-requires : tie.Need-outside-requires
 outside-requires c κs = search needs
 
--- src/lib.rt:109:9
 outside-requires-2 : tie.Need-outside-requires-2
 outside-requires-2 c κs = search needs
 
--- src/lib.rt:110:39
 either-requires : tie.Need-either-requires
 either-requires c κs = search needs
 
--- src/lib.rt:110:5
 refusal-of-requires : tie.Need-refusal-of-requires
 refusal-of-requires c κs = search needs
 
--- src/lib.rt:105:1
 returns : tie.Need-returns
 unfolding refusal2
 returns c = cc

@@ -12,15 +12,12 @@ use Rattle.calls.proofs.refusal_of.Lts as lts
 use Rattle.accepts.proofs.state_refusal.Reads as state-refusal-reads
 use Rattle.calls.proofs.worst.Reads as worst-reads
 
--- src/lib.rt:92:11
 state-refusal-requires : tie.Need-state-refusal-requires
 state-refusal-requires c κs = search needs
 
--- src/lib.rt:92:5
 worst-requires : tie.Need-worst-requires
 worst-requires c κs = search needs
 
--- src/lib.rt:89:1
 returns : tie.Need-returns
 unfolding refusalOf
 returns c = cc

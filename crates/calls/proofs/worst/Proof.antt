@@ -10,27 +10,21 @@ use Rattle.calls.proofs.worst.Tie as tie
 use Rattle.calls.proofs.worst.Reads as reads
 use Rattle.calls.proofs.worst.Lts as lts
 
--- src/lib.rt:51:9
 returns : tie.Need-returns
 returns c = worst-1 _ _ _ (c .if1 .taken)
 
--- src/lib.rt:54:9
 returns-2 : tie.Need-returns-2
 returns-2 c = worst-3 _ _ _ (c .before .if1 .left) (c .if2 .taken)
 
--- src/lib.rt:57:9
 returns-3 : tie.Need-returns-3
 returns-3 c = worst-out _ _ _ (c .before .before .if1 .left) (c .before .if2 .left) (c .if3 .taken)
 
--- src/lib.rt:60:9
 returns-4 : tie.Need-returns-4
 returns-4 c = worst-4 _ _ _ (c .before .before .before .if1 .left) (c .before .before .if2 .left) (c .before .if3 .left) (c .if4 .taken)
 
--- src/lib.rt:63:9
 returns-5 : tie.Need-returns-5
 returns-5 c = worst-unfit _ _ _ (c .before .before .before .before .if1 .left) (c .before .before .before .if2 .left) (c .before .before .if3 .left) (c .before .if4 .left) true (c .if5 .taken)
 
--- src/lib.rt:47:1
 returns-6 : tie.Need-returns-6
 returns-6 c = worst-unfit _ _ _ (c .before .before .before .before .if1 .left) (c .before .before .before .if2 .left) (c .before .before .if3 .left) (c .before .if4 .left) false (c .if5 .left)
 

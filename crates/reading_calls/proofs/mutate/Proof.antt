@@ -1,0 +1,46 @@
+use native.Mathlib.Omega.{arith}
+use mathlib.Core.Path.{_≡_, refl, sym, ap, _∙_}
+use mathlib.Core.Bool.{Bool, true, false, not, _||_}
+use Rattle.accepts.specs.TestLaws.{le-not-lt, or-first, or-second}
+use Rattle.accepts.specs.WordLaws.{number-zero, number-other}
+use Rattle.calls.specs.MoreLaws.{mutate-refused, mutate-of-ref, mutate-ends}
+use borrow.Author.Needs.{needs}
+use Rattle.reading_calls.proofs.mutate.Statement.{statement}
+use Rattle.reading_calls.proofs.mutate.Tie as tie
+
+refusal1-requires : tie.Need-refusal1-requires
+refusal1-requires c κs = search needs
+
+returns : tie.Need-returns
+returns c = mutate-refused _ _ _ _ _ _ _ (c .before .refusal1 .ensures) _ (c .if1 .taken)
+
+returns-2 : tie.Need-returns-2
+returns-2 c = mutate-of-ref _ _ _ _ _ _ _ (c .before .before .refusal1 .ensures) _ (c .before .if1 .left) (c .if2 .taken)
+
+after-use-requires : tie.Need-after-use-requires
+after-use-requires c κs = search needs
+
+kind-of-requires : tie.Need-kind-of-requires
+kind-of-requires c κs = search needs
+
+is-strict-requires : tie.Need-is-strict-requires
+is-strict-requires c κs = search needs
+
+result-of-requires : tie.Need-result-of-requires
+result-of-requires c κs = search needs
+
+returns-3 : tie.Need-returns-3
+returns-3 c = mutate-ends _ _ _ _ _ _ _ (c .before .before .before .before .before .before .refusal1 .ensures) _ _ _ _ _ (c .before .before .before .before .before .if1 .left) (c .before .before .before .before .if2 .left) (c .before .before .before .after-use .ensures) (c .before .before .kind-of .ensures) (c .before .is-strict .ensures) (c .result-of .ensures)
+
+pub mutate-spec : {M : Type 1} → statement M
+mutate-spec =
+    tie.close
+    (tie.spec
+    refusal1-requires
+    returns
+    returns-2
+    after-use-requires
+    kind-of-requires
+    is-strict-requires
+    result-of-requires
+    returns-3)

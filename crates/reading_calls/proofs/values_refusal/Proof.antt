@@ -1,0 +1,21 @@
+use native.Mathlib.Omega.{arith}
+use mathlib.Core.Path.{_≡_, refl, sym, ap, _∙_}
+use mathlib.Core.Bool.{Bool, true, false, not, _||_}
+use Rattle.accepts.specs.TestLaws.{le-not-lt, or-first, or-second}
+use Rattle.accepts.specs.WordLaws.{number-zero, number-other}
+use Rattle.calls.specs.MoreLaws.{room-wrong, room-right}
+use borrow.Author.Needs.{needs}
+use Rattle.reading_calls.proofs.values_refusal.Statement.{statement}
+use Rattle.reading_calls.proofs.values_refusal.Tie as tie
+
+returns : tie.Need-returns
+returns c = room-wrong _ _ _ _ _ (c .if1 .taken)
+
+refusal1-requires : tie.Need-refusal1-requires
+refusal1-requires c κs = search needs
+
+returns-2 : tie.Need-returns-2
+returns-2 c = room-right _ _ _ _ _ _ (c .before .if1 .left) (c .refusal1 .ensures)
+
+pub values-refusal-spec : {M : Type 1} → statement M
+values-refusal-spec = tie.close (tie.spec returns refusal1-requires returns-2)

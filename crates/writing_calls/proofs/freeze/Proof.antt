@@ -1,0 +1,50 @@
+use native.Mathlib.Omega.{arith}
+use mathlib.Core.Path.{_≡_, refl, sym, ap, _∙_}
+use mathlib.Core.Bool.{Bool, true, false, not, _||_}
+use Rattle.accepts.specs.TestLaws.{le-not-lt, or-first, or-second}
+use Rattle.accepts.specs.WordLaws.{number-zero, number-other}
+use Rattle.calls.specs.CallLaws.{freeze-refused, freeze-ends}
+use borrow.Author.Needs.{needs}
+use Rattle.writing_calls.proofs.freeze.Statement.{statement}
+use Rattle.writing_calls.proofs.freeze.Tie as tie
+
+outside-requires : tie.Need-outside-requires
+outside-requires c κs = search needs
+
+is-reason-requires : tie.Need-is-reason-requires
+is-reason-requires c κs = search needs
+
+either-requires : tie.Need-either-requires
+either-requires c κs = search needs
+
+refusal-of-requires : tie.Need-refusal-of-requires
+refusal-of-requires c κs = search needs
+
+same-length : tie.Need-same-length
+same-length c = search needs
+
+returns : tie.Need-returns
+returns c = freeze-refused _ _ _ _ _ _ _ _ _ (c .before .before .before .before .before .outside .ensures) (c .before .before .before .before .is-reason .ensures) (c .before .before .either .ensures) (c .before .refusal-of .ensures) (c .if1 .taken)
+
+freeze-requires : tie.Need-freeze-requires
+freeze-requires c κs = search needs
+
+same-length-2 : tie.Need-same-length-2
+same-length-2 c = search needs
+
+returns-2 : tie.Need-returns-2
+returns-2 c = freeze-ends _ _ _ _ _ _ _ _ _ (c .before .before .before .before .before .before .before .before .before .outside .ensures) (c .before .before .before .before .before .before .before .before .is-reason .ensures) (c .before .before .before .before .before .before .either .ensures) (c .before .before .before .before .before .refusal-of .ensures) _ _ (c .before .before .before .before .if1 .left) (c .before .before .freeze .ensures)
+
+pub freeze-spec : {M : Type 1} → statement M
+freeze-spec =
+    tie.close
+    (tie.spec
+    outside-requires
+    is-reason-requires
+    either-requires
+    refusal-of-requires
+    same-length
+    returns
+    freeze-requires
+    same-length-2
+    returns-2)
