@@ -20,6 +20,17 @@ pub struct AliasingDiagnostic {
     pub instance: u32,
 }
 
+// A diagnostic: its identifier, message case, sentence and name numbers, and its label spans by their roles, the access and the place itself.
+// Message case 0 is a value that cannot be modified, case 1 an access before the declaration; FFFFFFFF twice is no label.
+pub struct Diagnostic {
+    pub identifier: u32,
+    pub case: u32,
+    pub sentence: u32,
+    pub name: u32,
+    pub access: Span,
+    pub own: Span,
+}
+
 // The session: next number, first undefined access (0, or 1 + identifier, with the span of that use), walk entries.
 pub struct Session {
     pub next: u32,

@@ -58,6 +58,7 @@ onLists T = record {
   Listed = T .Listed;
   noneListed = T .noneListed;
   putListed = T .putListed;
+  oneMore = T .oneMore;
 }
 
 module _ (T : Tables) (flag : Bool) (r : Rest (onLists T)) where

@@ -178,4 +178,4 @@ module _ {T : Tables} where
   unfoldable pub countEntry : M (World T) Done
   countEntry = do
     full ← ask (λ r. leb 4096 (r .work .freezeEntries))
-    if full then refuse 11 else change (onWork λ k. record { initialized = k .initialized; listed = k .listed; freezeEntries = suc (k .freezeEntries); entries = suc (k .entries) })
+    if full then refuse 11 else change (onWork λ k. record { initialized = k .initialized; listed = k .listed; freezeEntries = suc (k .freezeEntries); entries = T .oneMore (k .entries) })

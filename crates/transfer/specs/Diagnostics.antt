@@ -5,16 +5,9 @@ use mathlib.Core.List.{List, [], _∷_}
 use lib.Dec.{eqb}
 use Rattle.effects.specs.declared.Span.{Span}
 use Rattle.effects.specs.Places.{noSpan, eqSpan}
-
 -- "A lent slice of structs holds message case, sentence number .., name number and label spans." The identifier is part of its identity;
 -- the two label spans are told apart by their role: the access before the declaration, and the place itself.
-pub record Diagnostic : Type 0 where
-  pub identifier : ℕ
-  pub case : ℕ
-  pub sentence : ℕ
-  pub name : ℕ
-  pub access : Span
-  pub own : Span
+pub use Rattle.effects.specs.declared.Diagnostic.{Diagnostic}
 
 -- "Message case 0 is a value that cannot be modified; case 1 is an access before the declaration, with sentence 0."
 abbrev pub cannotBeModified : ℕ

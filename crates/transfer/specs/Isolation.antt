@@ -81,12 +81,12 @@ module _ {T : Tables} (L : Lawful T) where
     pub values : L .FitValues (s .values)
     pub sets : L .FitSets (s .sets)
 
-  module _ (ins : Instruction) (r : Rest T) (s t : State T) (p : Fit s) (q : Fit t) (a : Agree T (Reach T ins (r .session) (r .context) s) s t) where
+  module _ (ins : Instruction) (r : Rest T) (s t : State T) (p : Fit s) (q : Fit t) (k : L .Kept (r .context)) (a : Agree T (Reach T ins (r .session) (r .context) s) s t) where
     abbrev R : Node → Type 0
     R = Reach T ins (r .session) (r .context) s
 
     abbrev 𝓡 : Reaching T
-    𝓡 = reaching T R (Named ins) (Created ins) s t
+    𝓡 = reaching T (L .Kept) R (Named ins) (Created ins) s t
 
     inside : (i : ℕ) → R (id i) → (o : Option ℕ) → T .setOf (s .sets) i ≡ o → All (λ v. R (val v)) (valuesOf o)
     inside i c none e = tt
@@ -97,6 +97,7 @@ module _ {T : Tables} (L : Lawful T) where
     start = record {
       same = refl;
       okay = record {
+        kept = k;
         fresh-in = λ n l m. fresh l m;
         cached-in = λ n i k e d m. cached e d m;
         links-in = λ v c f e. all-of (identifiers (T .contextOf (r .context) f)) (λ j m. its-context c e m);
@@ -144,14 +145,14 @@ module _ {T : Tables} (L : Lawful T) where
   -- Isolation. Two worlds with equal session and context, whose states agree on the instruction's reach: the two calls are refused with the same
   -- number, or list the same effects, count the same entries, and leave equal sessions and contexts; entries in reach end equal, every
   -- entry outside ends as that run found it.
-  pub isolation : (ins : Instruction) (w u : World T) → w .rest .session ≡ u .rest .session → w .rest .context ≡ u .rest .context → Fit (w .state) → Fit (u .state)
+  pub isolation : (ins : Instruction) (w u : World T) → w .rest .session ≡ u .rest .session → w .rest .context ≡ u .rest .context → Fit (w .state) → Fit (u .state) → L .Kept (w .rest .context)
       → Agree T (Reach T ins (w .rest .session) (w .rest .context) (w .state)) (w .state) (u .state)
       → Alike T (Reach T ins (w .rest .session) (w .rest .context) (w .state)) (w .state) (u .state) (applySignature ins w) (applySignature ins u)
-  isolation ins w u e c p q a =
+  isolation ins w u e c p q k a =
       subst₂ (Alike T (Reach T ins (w .rest .session) (w .rest .context) (w .state)) (w .state) (u .state)) (sym (applies ins w)) (sym (applies ins u))
       (subst (λ (r : Rest T). Alike T (Reach T ins (w .rest .session) (w .rest .context) (w .state)) (w .state) (u .state) (atomically (run ins) (world (w .state) (started (w .rest)))) (atomically (run ins) (world (u .state) r)))
       (λ i. record { session = e i; context = c i; work = started (w .rest) .work })
-      (run-isolated ins (started (w .rest)) (w .state) (u .state) p q a))
+      (run-isolated ins (started (w .rest)) (w .state) (u .state) p q k a))
 
   -- ---- no refusal but 6 to 11 can come, from whatever world: the depth of derivation never runs out. (The set is everything.)
 
@@ -169,15 +170,28 @@ module _ {T : Tables} (L : Lawful T) where
   abbrev all-numbers : ℕ → Type 0
   all-numbers n = Unit {0}
 
-  pub run-refusals : (ins : Instruction) (w : World T) → Fit (w .state) → InRange (run ins w)
-  run-refusals ins w p =
+  -- the world that a computation ends in, refused or not
+  abbrev pub after : Res (World T) Done → World T
+  after (ok a w) = w
+  after (refused n w) = w
+
+  -- what the run of an instruction ends with, from whatever world: refused with 6 to 11 or not at all, tables of the right size, and what every
+  -- change of a context keeps
+  pub record Ended (x : Res (World T) Done) : Type 0 where
+    pub range : InRange x
+    pub fit : Fit (after x .state)
+    pub kept : L .Kept (after x .rest .context)
+
+  pub run-ends : (ins : Instruction) (w : World T) → Fit (w .state) → L .Kept (w .rest .context) → Ended (run ins w)
+  run-ends ins w p h =
       go (run ins w) (run-sim L everything all-numbers all-numbers (w .state) (w .state) (λ i c. tt) (λ i n. tt) ins (every (λ f. tt) (listed (ins .own)))
       (every (λ e. (every (λ i. tt) (names e), every (λ f. tt) (creates e))) (ins .candidates)) tt .runs w w begins)
     where
-      begins : Inv L (reaching T everything all-numbers all-numbers (w .state) (w .state)) w w
+      begins : Inv L (reaching T (L .Kept) everything all-numbers all-numbers (w .state) (w .state)) w w
       begins = record {
         same = refl;
         okay = record {
+          kept = h;
           fresh-in = λ n l m. tt;
           cached-in = λ n i k e d m. tt;
           links-in = λ v c f e. every (λ j. tt) (identifiers (T .contextOf (w .rest .context) f));
@@ -191,17 +205,17 @@ module _ {T : Tables} (L : Lawful T) where
         right = λ n h. refl;
       }
 
-      go : (x : Res (World T) Done) → Rel (frame L (reaching T everything all-numbers all-numbers (w .state) (w .state))) Any x x → InRange x
-      go (ok a u) h = tt
-      go (refused n u) h = h .1
+      go : (x : Res (World T) Done) → Rel (frame L (reaching T (L .Kept) everything all-numbers all-numbers (w .state) (w .state))) Any x x → Ended x
+      go (ok a u) h = record { range = tt; fit = record { values = h .2 .fits .0; sets = h .2 .fits .2 }; kept = h .2 .okay .kept }
+      go (refused n u) h = record { range = h .1; fit = record { values = h .2 .fits .0; sets = h .2 .fits .2 }; kept = h .2 .okay .kept }
 
   restored-range : (w : World T) (x : Res (World T) Done) → InRange x → InRange (restore w x)
   unfolding restore
   restored-range w (ok a u) h = h
   restored-range w (refused n u) h = h
 
-  pub refusals : (ins : Instruction) (w : World T) → Fit (w .state) → InRange (applySignature ins w)
+  pub refusals : (ins : Instruction) (w : World T) → Fit (w .state) → L .Kept (w .rest .context) → InRange (applySignature ins w)
   unfolding atomically
-  refusals ins w p =
+  refusals ins w p k =
       subst InRange (sym (applies ins w))
-      (restored-range (world (w .state) (started (w .rest))) (run ins (world (w .state) (started (w .rest)))) (run-refusals ins (world (w .state) (started (w .rest))) (record { values = p .values; sets = p .sets })))
+      (restored-range (world (w .state) (started (w .rest))) (run ins (world (w .state) (started (w .rest)))) (run-ends ins (world (w .state) (started (w .rest))) (record { values = p .values; sets = p .sets }) k .range))

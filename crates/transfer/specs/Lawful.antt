@@ -35,6 +35,9 @@ pub record Lawful (T : Tables) : Type 1 where
   -- what is found under a key has that key
   pub effect-found : (c : T .Context) (k : EffectKey) (e : AliasingEffect) → T .findEffect c k ≡ some e → k ≡ effectKey e
   pub number-found : (c : T .Context) (k : EffectKey) (n : ℕ) → T .findNumber c k ≡ some n → T .keyAt c n ≡ some k
+  -- what each of the five ways to change a context keeps, as a user of the tables needs it: of lent words, that those which no instruction
+  -- writes stay, and how many there are
+  pub Kept : T .Context → Type 0
   -- each of the five ways to change a context: what it leads to that it did not lead to before
   pub effect-same : (c : T .Context) (e : AliasingEffect) → SameLinks T c (T .addEffect c e)
   pub diagnostic-same : (c : T .Context) (n : ℕ) (d : Diagnostic) → SameLinks T c (T .addDiagnostic c n d)
@@ -42,6 +45,11 @@ pub record Lawful (T : Tables) : Type 1 where
   pub key-put : (c : T .Context) (n m : ℕ) (k j : EffectKey) → T .keyAt (T .putKey c n k) m ≡ some j → (n ≡ m) ⊎ (T .keyAt c m ≡ some j)
   pub key-links : (c : T .Context) (n : ℕ) (k : EffectKey) (v f : ℕ) → T .linkOf (T .putKey c n k) v ≡ some f → T .linkOf c v ≡ some f
   pub key-contexts : (c : T .Context) (n : ℕ) (k : EffectKey) (g : ℕ) → identifiers (T .contextOf (T .putKey c n k) g) ≡ identifiers (T .contextOf c g)
-  pub link-put : (c : T .Context) (v f x g : ℕ) → T .linkOf (T .putLink c v f) x ≡ some g → (f ≡ g) ⊎ (T .linkOf c x ≡ some g)
+  pub link-put : (c : T .Context) (v f x g : ℕ) → Kept c → T .linkOf (T .putLink c v f) x ≡ some g → (f ≡ g) ⊎ (T .linkOf c x ≡ some g)
   pub link-keys : (c : T .Context) (v f n : ℕ) (k : EffectKey) → T .keyAt (T .putLink c v f) n ≡ some k → T .keyAt c n ≡ some k
   pub link-contexts : (c : T .Context) (v f g : ℕ) → identifiers (T .contextOf (T .putLink c v f) g) ≡ identifiers (T .contextOf c g)
+  pub effect-kept : (c : T .Context) (e : AliasingEffect) → Kept c → Kept (T .addEffect c e)
+  pub diagnostic-kept : (c : T .Context) (n : ℕ) (d : Diagnostic) → Kept c → Kept (T .addDiagnostic c n d)
+  pub read-kept : (c : T .Context) (f i : ℕ) → Kept c → Kept (T .makeRead c f i)
+  pub key-kept : (c : T .Context) (n : ℕ) (k : EffectKey) → Kept c → Kept (T .putKey c n k)
+  pub link-kept : (c : T .Context) (v f : ℕ) → Kept c → Kept (T .putLink c v f)

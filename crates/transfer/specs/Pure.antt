@@ -145,4 +145,5 @@ pure = record {
   Listed = List AliasingEffect;
   noneListed = [];
   putListed = λ t e. t ++ (e ∷ []);
+  oneMore = λ n. suc n;
 }

@@ -51,7 +51,7 @@ module _ {A : Type 0} where
 some-eq : {A : Type 0} (a b : A) → some a ≡ some b → a ≡ b
 some-eq a b e = cc
 
-found-key : (l : List AliasingEffect) (k : EffectKey) (e : AliasingEffect) → findEffect l k ≡ some e → k ≡ effectKey e
+pub found-key : (l : List AliasingEffect) (k : EffectKey) (e : AliasingEffect) → findEffect l k ≡ some e → k ≡ effectKey e
 unfolding findEffect
 found-key [] k e h = cc
 found-key (x ∷ xs) k e h = go (eqKey k (effectKey x)) (eqKey-eq k (effectKey x)) (found-key xs k e) h
@@ -65,7 +65,7 @@ unfolding isKey
 is-key k none t = absurd t
 is-key k (some j) t = ap some (sym (eqKey-eq k j t))
 
-found-number : (n v : ℕ) (c : ℕ → Option EffectKey) (k : EffectKey) (m : ℕ) → firstCached n v c k ≡ some m → c m ≡ some k
+pub found-number : (n v : ℕ) (c : ℕ → Option EffectKey) (k : EffectKey) (m : ℕ) → firstCached n v c k ≡ some m → c m ≡ some k
 unfolding firstCached
 found-number zero v c k m h = cc
 found-number (suc n) v c k m h = go (isKey k (c v)) (is-key k (c v)) (found-number n (suc v) c k m) h
@@ -101,9 +101,15 @@ pure-lawful = record {
   key-put = λ c n m k j. at-cases (λ o. o ≡ some j → (n ≡ m) ⊎ (c .cached m ≡ some j)) (c .cached) n (some k) m (λ e h. inl e) (λ h. inr h);
   key-links = λ c n k v f e. e;
   key-contexts = λ c n k g. refl;
-  link-put = λ c v f x g. at-cases (λ o. o ≡ some g → (f ≡ g) ⊎ (c .links x ≡ some g)) (c .links) v (some f) x (λ e h. inl (some-eq f g h)) (λ h. inr h);
+  link-put = λ c v f x g q. at-cases (λ o. o ≡ some g → (f ≡ g) ⊎ (c .links x ≡ some g)) (c .links) v (some f) x (λ e h. inl (some-eq f g h)) (λ h. inr h);
   link-keys = λ c v f n k e. e;
   link-contexts = λ c v f g. refl;
+  Kept = λ c. Unit {0};
+  effect-kept = λ c e h. tt;
+  diagnostic-kept = λ c n d h. tt;
+  read-kept = λ c f i h. tt;
+  key-kept = λ c n k h. tt;
+  link-kept = λ c v f h. tt;
 }
 
 -- demand 3 of the definition over functions
@@ -111,4 +117,4 @@ pub pure-isolation : (ins : Instruction) (w u : World pure) → w .rest .session
     → Agree pure (Reach pure ins (w .rest .session) (w .rest .context) (w .state)) (w .state) (u .state)
     → Alike pure (Reach pure ins (w .rest .session) (w .rest .context) (w .state)) (w .state) (u .state) (applySignature ins w) (applySignature ins u)
 unfolding pure-lawful
-pure-isolation ins w u e c a = isolation pure-lawful ins w u e c (record { values = tt; sets = tt }) (record { values = tt; sets = tt }) a
+pure-isolation ins w u e c a = isolation pure-lawful ins w u e c (record { values = tt; sets = tt }) (record { values = tt; sets = tt }) tt a

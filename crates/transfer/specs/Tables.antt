@@ -59,6 +59,8 @@ pub record Tables : Type 1 where
   pub Listed : Type 0
   pub noneListed : Listed
   pub putListed : Listed → AliasingEffect → Listed
+  -- one more entry, as far as a count can go
+  pub oneMore : ℕ → ℕ
 
 module _ (T : Tables) where
   -- a state: its entries, and the function-expression flag

@@ -37,23 +37,25 @@ use Rattle.transfer.specs.Sim.{Any, bind-sim, then-sim, bind-any, return
 use Rattle.transfer.specs.Worlds.{Reaching, Keeps, sims, setOf-sim, peek-sim, bind-number, bind-set, bind-places, each-place, each-reached, ask-sim, look-sim, change-sim}
 
 -- what a set R asks of session and context: N are the identifiers that candidates name, F the functions that they create
-pub record Closed (T : Tables) (R : Node → Type 0) (N F : ℕ → Type 0) (next : ℕ) (context : T .Context) : Type 0 where
+pub record Closed (T : Tables) (K : T .Context → Type 0) (R : Node → Type 0) (N F : ℕ → Type 0) (next : ℕ) (context : T .Context) : Type 0 where
+  pub kept : K context
   pub fresh-in : (n : ℕ) → next ≤ n → n < 512 → R (val n)
   pub cached-in : (n i : ℕ) (k : EffectKey) → T .keyAt context n ≡ some k → k .into ≡ some i → N i → R (val n)
   pub links-in : (v : ℕ) → R (val v) → (f : ℕ) → T .linkOf context v ≡ some f → All (λ j. R (id j)) (identifiers (T .contextOf context f))
   pub created-in : (f : ℕ) → F f → All (λ j. R (id j)) (identifiers (T .contextOf context f))
 
 -- a context that leads nowhere else keeps what R asks
-closed-same : (T : Tables) (R : Node → Type 0) (N F : ℕ → Type 0) (next : ℕ) (c d : T .Context) → SameLinks T c d → Closed T R N F next c → Closed T R N F next d
-closed-same T R N F next c d s h = record {
+closed-same : (T : Tables) (K : T .Context → Type 0) (R : Node → Type 0) (N F : ℕ → Type 0) (next : ℕ) (c d : T .Context) → SameLinks T c d → (K c → K d) → Closed T K R N F next c → Closed T K R N F next d
+closed-same T K R N F next c d s g h = record {
+  kept = g (h .kept);
   fresh-in = h .fresh-in;
   cached-in = λ n i k e g a. h .cached-in n i k (s .keys n k e) g a;
   links-in = λ v q f e. subst (All (λ j. R (id j))) (sym (s .contexts f)) (h .links-in v q f (s .links v f e));
   created-in = λ f q. subst (All (λ j. R (id j))) (sym (s .contexts f)) (h .created-in f q);
 }
 
-abbrev pub reaching : (T : Tables) → (Node → Type 0) → (ℕ → Type 0) → (ℕ → Type 0) → State T → State T → Reaching T
-reaching T R N F s t = record { R = R; OkRest = λ r. Closed T R N F (r .session .next) (r .context); s₀ = s; t₀ = t }
+abbrev pub reaching : (T : Tables) → (T .Context → Type 0) → (Node → Type 0) → (ℕ → Type 0) → (ℕ → Type 0) → State T → State T → Reaching T
+reaching T K R N F s t = record { R = R; OkRest = λ r. Closed T K R N F (r .session .next) (r .context); s₀ = s; t₀ = t }
 
 -- ---- keys
 
@@ -145,13 +147,13 @@ rank-4 (Render p) = tt
 
 module _ {T : Tables} (L : Lawful T) (R : Node → Type 0) (N F : ℕ → Type 0) (s₀ t₀ : State T) (own : (i : ℕ) → R (id i) → R (val (fromIdentifier i))) (named : (i : ℕ) → N i → R (id i)) where
   abbrev 𝓡 : Reaching T
-  𝓡 = reaching T R N F s₀ t₀
+  𝓡 = reaching T (L .Kept) R N F s₀ t₀
 
   -- ---- session and context: each change keeps what R asks of them
 
   recordAccess-sim : (i : ℕ) (span : Span) → Keeps L 𝓡 Any (recordAccess i span)
   unfolding recordAccess
-  recordAccess-sim i span = change-sim _ (λ r k. subst (λ (n : ℕ). Closed T R N F n (r .context)) (sym (first-next i span (r .session))) k)
+  recordAccess-sim i span = change-sim _ (λ r k. subst (λ (n : ℕ). Closed T (L .Kept) R N F n (r .context)) (sym (first-next i span (r .session))) k)
 
   emit-sim : (e : AliasingEffect) → Keeps L 𝓡 Any (emit e)
   unfolding emit
@@ -179,7 +181,7 @@ module _ {T : Tables} (L : Lawful T) (R : Node → Type 0) (N F : ℕ → Type 0
 
   putDiagnostic-sim : (n : ℕ) (d : Diagnostic) → Keeps L 𝓡 Any (putDiagnostic n d)
   unfolding putDiagnostic
-  putDiagnostic-sim n d = change-sim _ (λ r h. closed-same T R N F _ _ _ (L .diagnostic-same (r .context) n d) h)
+  putDiagnostic-sim n d = change-sim _ (λ r h. closed-same T (L .Kept) R N F _ _ _ (L .diagnostic-same (r .context) n d) (L .diagnostic-kept (r .context) n d) h)
 
   newIdentity-sim : (o : Option ℕ) → Keeps L 𝓡 Any (newIdentity o)
   unfolding newIdentity
@@ -197,7 +199,7 @@ module _ {T : Tables} (L : Lawful T) (R : Node → Type 0) (N F : ℕ → Type 0
 
   putEffect-sim : (e : AliasingEffect) → Keeps L 𝓡 Any (putEffect e)
   unfolding putEffect
-  putEffect-sim e = change-sim _ (λ r h. closed-same T R N F _ _ _ (L .effect-same (r .context) e) h)
+  putEffect-sim e = change-sim _ (λ r h. closed-same T (L .Kept) R N F _ _ _ (L .effect-same (r .context) e) (L .effect-kept (r .context) e) h)
 
   -- the effect that is used has the key of the one that was given
   internNew-sim : (e : AliasingEffect) (o : Option AliasingEffect) → ((x : AliasingEffect) → o ≡ some x → effectKey e ≡ effectKey x) → Keeps L 𝓡 (λ x. effectKey e ≡ effectKey x) (internNew e o)
@@ -212,7 +214,7 @@ module _ {T : Tables} (L : Lawful T) (R : Node → Type 0) (N F : ℕ → Type 0
 
   setNext-sim : (n : ℕ) → ((m : ℕ) → n ≤ m → m < 512 → R (val m)) → Keeps L 𝓡 Any (setNext n)
   unfolding setNext
-  setNext-sim n h = change-sim _ (λ r k. record { fresh-in = h; cached-in = k .cached-in; links-in = k .links-in; created-in = k .created-in })
+  setNext-sim n h = change-sim _ (λ r k. record { kept = k .kept; fresh-in = h; cached-in = k .cached-in; links-in = k .links-in; created-in = k .created-in })
 
   freshNumber-sim : Keeps L 𝓡 (λ n. R (val n)) freshNumber
   unfolding freshNumber
@@ -224,6 +226,7 @@ module _ {T : Tables} (L : Lawful T) (R : Node → Type 0) (N F : ℕ → Type 0
   cache-sim : (k : EffectKey) (n : ℕ) → R (val n) → Keeps L 𝓡 Any (cache k n)
   unfolding cache
   cache-sim k n q = change-sim _ (λ r c. record {
+    kept = L .key-kept (r .context) n k (c .kept);
     fresh-in = c .fresh-in;
     cached-in = λ m i j e g a. ⊎-elim (λ z. subst (λ (y : ℕ). R (val y)) z q) (λ z. c .cached-in m i j z g a) (L .key-put (r .context) n m k j e);
     links-in = λ v p f e. subst (All (λ j. R (id j))) (sym (L .key-contexts (r .context) n k f)) (c .links-in v p f (L .key-links (r .context) n k v f e));
@@ -260,16 +263,17 @@ module _ {T : Tables} (L : Lawful T) (R : Node → Type 0) (N F : ℕ → Type 0
   linkTo-sim : (v f : ℕ) → F f → Keeps L 𝓡 Any (linkTo v f)
   unfolding linkTo
   linkTo-sim v f q = change-sim _ (λ r c. record {
+    kept = L .link-kept (r .context) v f (c .kept);
     fresh-in = c .fresh-in;
     cached-in = λ n i k e g a. c .cached-in n i k (L .link-keys (r .context) v f n k e) g a;
     links-in = λ x p g e. subst (All (λ j. R (id j))) (sym (L .link-contexts (r .context) v f g))
-        (⊎-elim (λ z. subst (λ (y : ℕ). All (λ j. R (id j)) (identifiers (T .contextOf (r .context) y))) z (c .created-in f q)) (c .links-in x p g) (L .link-put (r .context) v f x g e));
+        (⊎-elim (λ z. subst (λ (y : ℕ). All (λ j. R (id j)) (identifiers (T .contextOf (r .context) y))) z (c .created-in f q)) (c .links-in x p g) (L .link-put (r .context) v f x g (c .kept) e));
     created-in = λ g p. subst (All (λ j. R (id j))) (sym (L .link-contexts (r .context) v f g)) (c .created-in g p);
   })
 
   makeRead-sim : (f i : ℕ) → Keeps L 𝓡 Any (makeRead f i)
   unfolding makeRead
-  makeRead-sim f i = change-sim _ (λ r h. closed-same T R N F _ _ _ (L .read-same (r .context) f i) h)
+  makeRead-sim f i = change-sim _ (λ r h. closed-same T (L .Kept) R N F _ _ _ (L .read-same (r .context) f i) (L .read-kept (r .context) f i) h)
 
   -- ---- the rest is found by search: each computation is made of those above
 
