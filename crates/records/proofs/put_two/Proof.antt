@@ -1,0 +1,23 @@
+-- `records::put_two` meets its contract: two writes. Assumes nothing.
+use borrow.Author.Needs.{needs}
+use Rattle.records.proofs.put_two.Statement.{statement}
+use Rattle.records.proofs.put_two.Tie as tie
+
+-- src/lib.rt:231:5
+put-one-requires : tie.Need-put-one-requires
+put-one-requires c κs = search needs
+
+-- src/lib.rt:232:5
+put-place-requires : tie.Need-put-place-requires
+put-place-requires c κs = search needs
+
+-- src/lib.rt:228:1
+same-length : tie.Need-same-length
+same-length c = search needs
+
+-- src/lib.rt:228:1
+returns : tie.Need-returns
+returns c = cc
+
+pub put-two-spec : {M : Type 1} → statement M
+put-two-spec = tie.close (tie.spec put-one-requires put-place-requires same-length returns)
