@@ -1,0 +1,11 @@
+-- `keys::one_key` meets its contract: the key of one place. Assumes nothing.
+use Rattle.keys.specs.KeyRecordLaws.{one-is}
+use Rattle.keys.proofs.one_key.Statement.{statement}
+use Rattle.keys.proofs.one_key.Tie as tie
+
+-- src/lib.rt:52:1
+returns : tie.Need-returns
+returns c = one-is (c .args .code) (c .args .p) (c .args .reason) (c .args .identity)
+
+pub one-key-spec : {M : Type 1} → statement M
+one-key-spec = tie.close (tie.spec returns)
