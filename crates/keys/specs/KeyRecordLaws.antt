@@ -232,80 +232,88 @@ module _ (e : Head) where
 -- ---- equal keys
 
 module _ (a b : Key) where
-  -- the tests of `sameHead` from the last on
-  -- each way through the code ends in one of them
-  abbrev upto6 : Bool
-  upto6 = eqOption (optionOf (a .function)) (optionOf (b .function)) && eqb (a .identity) (b .identity)
+  -- the tests of `sameHead` that are left after the reasons
+  -- each way through the code ends in one of such chains
+  abbrev after6 : Bool
+  after6 = eqOption (optionOf (a .function)) (optionOf (b .function)) && eqb (a .identity) (b .identity)
 
-  abbrev upto5 : Bool
-  upto5 = eqb (a .reason) (b .reason) && upto6
+  -- and after the kinds
+  -- one test more
+  abbrev after5 : Bool
+  after5 = eqb (a .reason) (b .reason) && after6
 
-  abbrev upto4 : Bool
-  upto4 = eqb (a .kind) (b .kind) && upto5
+  -- and after the destinations
+  -- one test more
+  abbrev after4 : Bool
+  after4 = eqb (a .kind) (b .kind) && after5
 
-  abbrev upto3 : Bool
-  upto3 = eqOption (optionOf (a .into)) (optionOf (b .into)) && upto4
+  -- and after the sources
+  -- one test more
+  abbrev after3 : Bool
+  after3 = eqOption (optionOf (a .into)) (optionOf (b .into)) && after4
 
-  abbrev upto2 : Bool
-  upto2 = eqOption (optionOf (a .from)) (optionOf (b .from)) && upto3
+  -- and after the codes
+  -- one test more
+  abbrev after2 : Bool
+  after2 = eqOption (optionOf (a .from)) (optionOf (b .from)) && after3
 
   -- the codes are equal, and the rest answers
   -- the first test
-  past-code : (r : Bool) → a .code ≡ b .code → r ≡ upto2 → r ≡ sameHead a b
+  past-code : (r : Bool) → a .code ≡ b .code → r ≡ after2 → r ≡ sameHead a b
   unfolding sameHead
-  past-code r e h = pass (eqb (a .code) (b .code)) upto2 r (eq-eqb (a .code) (b .code) e) h
+  past-code r e h = pass (eqb (a .code) (b .code)) after2 r (eq-eqb (a .code) (b .code) e) h
 
   -- the sources are equal, and the rest answers
   -- the second test
-  past-from : (r x : Bool) → x ≡ eqOption (optionOf (a .from)) (optionOf (b .from)) → not x ≡ false → r ≡ upto3 → r ≡ upto2
-  past-from r x e n h = pass (eqOption (optionOf (a .from)) (optionOf (b .from))) upto3 r (sym e ∙ not-false x n) h
+  past-from : (r x : Bool) → x ≡ eqOption (optionOf (a .from)) (optionOf (b .from)) → not x ≡ false → r ≡ after3 → r ≡ after2
+  past-from r x e n h = pass (eqOption (optionOf (a .from)) (optionOf (b .from))) after3 r (sym e ∙ not-false x n) h
 
   -- the destinations are equal, and the rest answers
   -- the third test
-  past-into : (r x : Bool) → x ≡ eqOption (optionOf (a .into)) (optionOf (b .into)) → not x ≡ false → r ≡ upto4 → r ≡ upto3
-  past-into r x e n h = pass (eqOption (optionOf (a .into)) (optionOf (b .into))) upto4 r (sym e ∙ not-false x n) h
+  past-into : (r x : Bool) → x ≡ eqOption (optionOf (a .into)) (optionOf (b .into)) → not x ≡ false → r ≡ after4 → r ≡ after3
+  past-into r x e n h = pass (eqOption (optionOf (a .into)) (optionOf (b .into))) after4 r (sym e ∙ not-false x n) h
 
   -- the kinds are equal, and the rest answers
   -- the fourth test
-  past-kind : (r : Bool) → a .kind ≡ b .kind → r ≡ upto5 → r ≡ upto4
-  past-kind r e h = pass (eqb (a .kind) (b .kind)) upto5 r (eq-eqb (a .kind) (b .kind) e) h
+  past-kind : (r : Bool) → a .kind ≡ b .kind → r ≡ after5 → r ≡ after4
+  past-kind r e h = pass (eqb (a .kind) (b .kind)) after5 r (eq-eqb (a .kind) (b .kind) e) h
 
   -- the reasons are equal, and the rest answers
   -- the fifth test
-  past-reason : (r : Bool) → a .reason ≡ b .reason → r ≡ upto6 → r ≡ upto5
-  past-reason r e h = pass (eqb (a .reason) (b .reason)) upto6 r (eq-eqb (a .reason) (b .reason) e) h
+  past-reason : (r : Bool) → a .reason ≡ b .reason → r ≡ after6 → r ≡ after5
+  past-reason r e h = pass (eqb (a .reason) (b .reason)) after6 r (eq-eqb (a .reason) (b .reason) e) h
 
   -- the codes differ
   -- one way through `same_head`
   pub same-code : (a .code ≡ b .code → ⊥) → false ≡ sameHead a b
   unfolding sameHead
-  same-code n = stop (eqb (a .code) (b .code)) upto2 (ne-eqb (a .code) (b .code) n)
+  same-code n = stop (eqb (a .code) (b .code)) after2 (ne-eqb (a .code) (b .code) n)
 
   -- the sources differ
   -- one way through `same_head`
   pub same-from : (x : Bool) → a .code ≡ b .code → x ≡ eqOption (optionOf (a .from)) (optionOf (b .from)) → not x ≡ true → false ≡ sameHead a b
-  same-from x h1 e n = past-code false h1 (stop (eqOption (optionOf (a .from)) (optionOf (b .from))) upto3 (sym e ∙ not-true x n))
+  same-from x h1 e n = past-code false h1 (stop (eqOption (optionOf (a .from)) (optionOf (b .from))) after3 (sym e ∙ not-true x n))
 
   -- the destinations differ
   -- one way through `same_head`
   pub same-into : (x y : Bool) → a .code ≡ b .code → x ≡ eqOption (optionOf (a .from)) (optionOf (b .from)) → not x ≡ false
       → y ≡ eqOption (optionOf (a .into)) (optionOf (b .into)) → not y ≡ true → false ≡ sameHead a b
   same-into x y h1 h2 n2 e n =
-      past-code false h1 (past-from false x h2 n2 (stop (eqOption (optionOf (a .into)) (optionOf (b .into))) upto4 (sym e ∙ not-true y n)))
+      past-code false h1 (past-from false x h2 n2 (stop (eqOption (optionOf (a .into)) (optionOf (b .into))) after4 (sym e ∙ not-true y n)))
 
   -- the kinds differ
   -- one way through `same_head`
   pub same-kind : (x y : Bool) → a .code ≡ b .code → x ≡ eqOption (optionOf (a .from)) (optionOf (b .from)) → not x ≡ false
       → y ≡ eqOption (optionOf (a .into)) (optionOf (b .into)) → not y ≡ false → (a .kind ≡ b .kind → ⊥) → false ≡ sameHead a b
   same-kind x y h1 h2 n2 h3 n3 n =
-      past-code false h1 (past-from false x h2 n2 (past-into false y h3 n3 (stop (eqb (a .kind) (b .kind)) upto5 (ne-eqb (a .kind) (b .kind) n))))
+      past-code false h1 (past-from false x h2 n2 (past-into false y h3 n3 (stop (eqb (a .kind) (b .kind)) after5 (ne-eqb (a .kind) (b .kind) n))))
 
   -- the reasons differ
   -- one way through `same_head`
   pub same-reason : (x y : Bool) → a .code ≡ b .code → x ≡ eqOption (optionOf (a .from)) (optionOf (b .from)) → not x ≡ false
       → y ≡ eqOption (optionOf (a .into)) (optionOf (b .into)) → not y ≡ false → a .kind ≡ b .kind → (a .reason ≡ b .reason → ⊥) → false ≡ sameHead a b
   same-reason x y h1 h2 n2 h3 n3 h4 n =
-      past-code false h1 (past-from false x h2 n2 (past-into false y h3 n3 (past-kind false h4 (stop (eqb (a .reason) (b .reason)) upto6 (ne-eqb (a .reason) (b .reason) n)))))
+      past-code false h1 (past-from false x h2 n2 (past-into false y h3 n3 (past-kind false h4 (stop (eqb (a .reason) (b .reason)) after6 (ne-eqb (a .reason) (b .reason) n)))))
 
   -- the functions differ
   -- one way through `same_head`
@@ -331,13 +339,15 @@ module _ (a b : Key) where
   pub key-parts : (is js : List ℕ) → eqKey (keyWith a is) (keyWith b js) ≡ (sameHead a b && eqList (ite (a .captured) is []) (ite (b .captured) js []))
   unfolding eqKey keyWith sameHead
   key-parts is js =
-      sym (and-assoc (eqb (a .code) (b .code)) upto2 l
-      ∙ ap (λ (x : Bool). eqb (a .code) (b .code) && x) (and-assoc (eqOption (optionOf (a .from)) (optionOf (b .from))) upto3 l
-      ∙ ap (λ (x : Bool). eqOption (optionOf (a .from)) (optionOf (b .from)) && x) (and-assoc (eqOption (optionOf (a .into)) (optionOf (b .into))) upto4 l
-      ∙ ap (λ (x : Bool). eqOption (optionOf (a .into)) (optionOf (b .into)) && x) (and-assoc (eqb (a .kind) (b .kind)) upto5 l
-      ∙ ap (λ (x : Bool). eqb (a .kind) (b .kind) && x) (and-assoc (eqb (a .reason) (b .reason)) upto6 l
+      sym (and-assoc (eqb (a .code) (b .code)) after2 l
+      ∙ ap (λ (x : Bool). eqb (a .code) (b .code) && x) (and-assoc (eqOption (optionOf (a .from)) (optionOf (b .from))) after3 l
+      ∙ ap (λ (x : Bool). eqOption (optionOf (a .from)) (optionOf (b .from)) && x) (and-assoc (eqOption (optionOf (a .into)) (optionOf (b .into))) after4 l
+      ∙ ap (λ (x : Bool). eqOption (optionOf (a .into)) (optionOf (b .into)) && x) (and-assoc (eqb (a .kind) (b .kind)) after5 l
+      ∙ ap (λ (x : Bool). eqb (a .kind) (b .kind) && x) (and-assoc (eqb (a .reason) (b .reason)) after6 l
       ∙ ap (λ (x : Bool). eqb (a .reason) (b .reason) && x) (and-assoc (eqOption (optionOf (a .function)) (optionOf (b .function))) (eqb (a .identity) (b .identity)) l))))))
     where
+      -- the last test of `eqKey`
+      -- `sameHead` does not have it
       l : Bool
       l = eqList (ite (a .captured) is []) (ite (b .captured) js [])
 

@@ -60,14 +60,20 @@ putNumbers t c i w s k (x ∷ xs) = putNumbers t (putField t c i (w + k * s) x) 
 unfoldable pub optionIn : Table → List ℕ → ℕ → ℕ → Option ℕ
 optionIn t c i w = ite (eqb (field t c i w) 0) none (some (field t c i (w + 1)))
 
+-- the first word of a number that may be absent
+-- 0 for none
 abbrev flagOf : Option ℕ → ℕ
 flagOf none = 0
 flagOf (some n) = 1
 
+-- its second word
+-- an absent one leaves a zero
 abbrev numberOf : Option ℕ → ℕ
 numberOf none = 0
 numberOf (some n) = n
 
+-- the list with a number that may be absent written at word w of record i
+-- both words, so that nothing of an older one stays
 unfoldable pub putOption : Table → List ℕ → ℕ → ℕ → Option ℕ → List ℕ
 putOption t c i w o = putField t (putField t c i w (flagOf o)) i (w + 1) (numberOf o)
 

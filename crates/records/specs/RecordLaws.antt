@@ -30,6 +30,8 @@ use Rattle.records.specs.Records.{countedPlaces, oneRun, copiedFrom, cop
 lower-or-not : (a b : ℕ) → (a < b) ⊎ (b ≤ a)
 lower-or-not a b = told (ltb a b) (λ e. ltb-true a b e) (λ e. ltb-false a b e)
   where
+    -- what the test says, either way
+    -- it computes
     told : (d : Bool) → (d ≡ true → a < b) → (d ≡ false → b ≤ a) → (a < b) ⊎ (b ≤ a)
     told true p q = inl (p refl)
     told false p q = inr (q refl)

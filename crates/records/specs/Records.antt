@@ -61,6 +61,8 @@ unfoldable pub copiedFrom : Table → List ℕ → ℕ → ℕ → ℕ → List 
 copiedFrom t c i k zero ws = ws
 copiedFrom t c i k (suc n) ws = copiedFrom t c i (suc k) n (set ws k (field t c i (captures + k)))
 
+-- the slice with all 81 words copied
+-- what `copy_captures` leaves in it
 abbrev pub copiedCaptures : Table → List ℕ → ℕ → List ℕ → List ℕ
 copiedCaptures t c i ws = copiedFrom t c i 0 81 ws
 
@@ -129,21 +131,29 @@ module _ (t : Table) (c : List ℕ) (i : ℕ) where
   unfoldable pub effectIn : AliasingEffect
   effectIn = effectWith headIn (countedPlaces t c i captures)
 
--- the list with an effect written as record i
--- words that it has no use for are not written: the record was zero
 module _ (t : Table) (c : List ℕ) (i : ℕ) where
+  -- the list with a code written as record i
+  -- every effect begins so
   abbrev pub coded : ℕ → List ℕ
   coded n = putField t c i code n
 
+  -- with a code and a place
+  -- a place that is no destination
   abbrev pub onePlace : ℕ → Place → List ℕ
   onePlace n p = putPlace t (coded n) i first p
 
+  -- with a code and two places
+  -- a source and a destination
   abbrev pub twoPlaces : ℕ → Place → Place → List ℕ
   twoPlaces n f into = putPlace t (onePlace n f) i second into
 
+  -- with a code, a place and a diagnostic
+  -- both its numbers stand in the record
   abbrev pub reported : ℕ → Place → AliasingDiagnostic → List ℕ
   reported n p d = putField t (putField t (onePlace n p) i identity (d .identity)) i instance (d .instance)
 
+  -- the list with an effect written as record i
+  -- words that it has no use for are not written: the record was zero
   unfoldable pub putEffect : AliasingEffect → List ℕ
   putEffect (Freeze p r) = putField t (onePlace 0 p) i reason r
   putEffect (Mutate p r) = putField t (onePlace 1 p) i mutation r

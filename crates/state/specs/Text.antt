@@ -59,6 +59,7 @@ onLists T = record {
   noneListed = T .noneListed;
   putListed = T .putListed;
   oneMore = T .oneMore;
+  accessOf = T .accessOf;
 }
 
 module _ (T : Tables) (flag : Bool) (r : Rest (onLists T)) where

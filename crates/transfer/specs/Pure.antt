@@ -146,4 +146,5 @@ pure = record {
   noneListed = [];
   putListed = λ t e. t ++ (e ∷ []);
   oneMore = λ n. suc n;
+  accessOf = λ i. suc i;
 }

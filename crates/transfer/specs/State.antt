@@ -39,8 +39,8 @@ fromIdentifier i = 512 + i
 
 -- "records the first such access only": 0 stands for none
 abbrev pub firstAccess : ℕ → Span → Session → Session
-firstAccess i span s = elim (eqb (s .access) 0) [
-  | true ↦ record { next = s .next; access = suc i; span = span; entries = s .entries }
+firstAccess access span s = elim (eqb (s .access) 0) [
+  | true ↦ record { next = s .next; access = access; span = span; entries = s .entries }
   | false ↦ s
 ]
 
@@ -93,7 +93,7 @@ module _ {T : Tables} where
   onSession f r = record { session = f (r .session); context = r .context; work = r .work }
 
   unfoldable pub recordAccess : ℕ → Span → M (World T) Done
-  recordAccess i span = change (onSession (firstAccess i span))
+  recordAccess i span = change (onSession (firstAccess (T .accessOf i) span))
 
   -- ---- the operations, under the Rust's names
 

@@ -61,6 +61,8 @@ pub record Tables : Type 1 where
   pub putListed : Listed → AliasingEffect → Listed
   -- one more entry, as far as a count can go
   pub oneMore : ℕ → ℕ
+  -- how a session holds the identifier of an access: 1 + identifier, for the identifiers that there are
+  pub accessOf : ℕ → ℕ
 
 module _ (T : Tables) where
   -- a state: its entries, and the function-expression flag

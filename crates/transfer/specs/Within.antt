@@ -111,10 +111,10 @@ has-all P i (j ∷ js) a e = go (eqb i j) (eqb→eq i j) (has-all P i js (a .1))
     go false q r e = r e
 
 -- recording an access leaves the next number
-first-next : (i : ℕ) (span : Span) (s : Session) → firstAccess i span s .next ≡ s .next
-first-next i span s = go (eqb (s .access) 0)
+first-next : (a : ℕ) (span : Span) (s : Session) → firstAccess a span s .next ≡ s .next
+first-next a span s = go (eqb (s .access) 0)
   where
-    go : (b : Bool) → _≡_ {A = ℕ} ((elim b as (λ x. Session) [ true ↦ record { next = s .next; access = suc i; span = span; entries = s .entries } | false ↦ s ]) .next) (s .next)
+    go : (b : Bool) → _≡_ {A = ℕ} ((elim b as (λ x. Session) [ true ↦ record { next = s .next; access = a; span = span; entries = s .entries } | false ↦ s ]) .next) (s .next)
     go true = refl
     go false = refl
 
@@ -153,7 +153,7 @@ module _ {T : Tables} (L : Lawful T) (R : Node → Type 0) (N F : ℕ → Type 0
 
   recordAccess-sim : (i : ℕ) (span : Span) → Keeps L 𝓡 Any (recordAccess i span)
   unfolding recordAccess
-  recordAccess-sim i span = change-sim _ (λ r k. subst (λ (n : ℕ). Closed T (L .Kept) R N F n (r .context)) (sym (first-next i span (r .session))) k)
+  recordAccess-sim i span = change-sim _ (λ r k. subst (λ (n : ℕ). Closed T (L .Kept) R N F n (r .context)) (sym (first-next (T .accessOf i) span (r .session))) k)
 
   emit-sim : (e : AliasingEffect) → Keeps L 𝓡 Any (emit e)
   unfolding emit

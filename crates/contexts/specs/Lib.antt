@@ -1,0 +1,4 @@
+pub mod Layout
+pub mod Lent
+pub mod CodeLaws
+pub mod SearchLaws

@@ -1,0 +1,5 @@
+pub mod World
+pub mod StateLaws
+pub mod KeyFrames
+pub mod ContextLaws
+pub mod LentLawful

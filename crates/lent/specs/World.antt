@@ -1,0 +1,105 @@
+-- The tables that code is lent, as an instance of the definition's `Tables`; and the world of lent lists that contracts speak of.
+-- Assumes nothing: these are definitions.
+use Prim.Native.Nat.{ℕ, zero, suc}
+use mathlib.Core.Bool.{Bool}
+use mathlib.Core.List.{List, [], _∷_}
+use lib.Dec.{ltb}
+use Rattle.slices.specs.Test.{ite}
+use Rattle.effects.specs.Effects.{AliasingEffect}
+use Rattle.transfer.specs.Tables.{Tables, World}
+use Rattle.cells.specs.Cells.{valueAt, putValue}
+use Rattle.rows.specs.Rows.{setAt, putSet}
+use Rattle.words.specs.declared.Table.{Table}
+use Rattle.records.specs.Records.{putEffect}
+use Rattle.runs.specs.declared.Marks.{Marks}
+use Rattle.runs.specs.declared.Run.{Run}
+use Rattle.runs.specs.Marks.{noMarks, isMarked, marked}
+use Rattle.contexts.specs.Lent as Lent
+
+-- "The output list has 1,120 records (32 + 64 × 17, so it suffices)"
+-- 98 words each
+abbrev pub output : Table
+output = record { base = 0; count = 1120; width = 98 }
+
+-- n words, each zero
+-- "those after the last effect are zero"
+unfoldable pub zeros : ℕ → List ℕ
+zeros zero = []
+zeros (suc n) = 0 ∷ zeros n
+
+-- the effects listed so far: the words of the output list, and how many effects they hold
+-- an effect is listed as the record after the last
+pub record Listed : Type 0 where
+  pub words : List ℕ
+  pub count : ℕ
+
+-- one more record, as long as the list has one left
+-- the list suffices for every instruction, so that none is lost
+unfoldable pub putListed : Listed → AliasingEffect → Listed
+putListed l e = ite (ltb (l .count) 1120) (record { words = putEffect output (l .words) (l .count) e; count = suc (l .count) }) l
+
+-- one more entry, as long as a word of 32 bits can count it
+-- 64 candidates make at most 64 × 4,096
+unfoldable pub oneMore : ℕ → ℕ
+oneMore n = ite (ltb n 4294967295) (suc n) n
+
+-- how a session holds the identifier of an access: "0, or 1 + identifier", of the 512 that there are
+-- a place with another identifier is refused before it is used
+unfoldable pub accessOf : ℕ → ℕ
+accessOf i = ite (ltb i 512) (suc i) 0
+
+-- the lent tables: a word for each value, a row for each identifier, one list of words for the context, the output list;
+-- the places initialized in the instruction go by value
+abbrev pub lent : Tables
+lent = record {
+  Values = List ℕ;
+  valueOf = valueAt;
+  putValue = putValue;
+  Sets = List ℕ;
+  setOf = setAt;
+  putSet = putSet;
+  Context = List ℕ;
+  internedCount = Lent.internedCount;
+  findEffect = Lent.findEffect;
+  addEffect = Lent.addEffect;
+  keyAt = Lent.keyAt;
+  findNumber = Lent.findNumber;
+  putKey = Lent.putKey;
+  linkOf = Lent.linkOf;
+  putLink = Lent.putLink;
+  contextOf = Lent.contextOf;
+  mutatedInside = Lent.mutatedInside;
+  hasTrackedSideEffect = Lent.hasTrackedSideEffect;
+  makeRead = Lent.makeRead;
+  isRef = Lent.isRef;
+  isHoisted = Lent.isHoisted;
+  accessSpan = Lent.accessSpan;
+  nameOf = Lent.nameOf;
+  isTransitive = Lent.isTransitive;
+  identityCount = Lent.identityCount;
+  instanceCount = Lent.instanceCount;
+  findIdentity = Lent.findIdentity;
+  findInstance = Lent.findInstance;
+  addDiagnostic = Lent.addDiagnostic;
+  Initialized = Marks;
+  noneInitialized = noMarks;
+  isInitialized = isMarked;
+  putInitialized = marked;
+  Listed = Listed;
+  noneListed = record { words = zeros 109760; count = 0 };
+  putListed = putListed;
+  oneMore = oneMore;
+  accessOf = accessOf;
+}
+
+-- the world of what a function is lent: values, sets, context and output list, and what goes by value
+-- contracts speak of it at a function's entry and at its exit
+abbrev pub world : List ℕ → List ℕ → List ℕ → List ℕ → Run → World lent
+world vs ss cs os r = record {
+  state = record { values = vs; sets = ss; isFunctionExpression = r .flag };
+  rest = record {
+    session = r .session;
+    context = cs;
+    work = record { initialized = r .marks; listed = record { words = os; count = r .listed }; freezeEntries = r .freeze; entries = r .entries };
+  };
+}
