@@ -1,0 +1,3 @@
+pub mod Interning
+pub mod InterningLaws
+pub mod RefreshLaws
