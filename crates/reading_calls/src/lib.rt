@@ -105,7 +105,7 @@ pub fn is_defined(values: &[u64], sets: &[u64], session: Session, i: u32) -> Tes
 
 // Whether a mutation is one of the two that are not conditional.
 // These are told where they cannot be.
-fn is_strict(variant: MutateVariant) -> bool
+pub fn is_strict(variant: MutateVariant) -> bool
     ensures { λ r. ⌜ r ≡ isStrict variant ⌝ }
 {
     match variant {
@@ -148,7 +148,7 @@ fn conditional_result(kind: ValueKind) -> MutationResult
 
 // What a mutation of a kind comes to.
 // Strict or conditional.
-fn result_of(strict: bool, kind: ValueKind) -> MutationResult
+pub fn result_of(strict: bool, kind: ValueKind) -> MutationResult
     ensures { λ r. ⌜ r ≡ resultOf strict kind ⌝ }
 {
     if strict {

@@ -1,0 +1,26 @@
+-- Laws of an answer and what follows it. Assumes nothing.
+use Prim.Native.Nat.{ℕ, zero, suc}
+use native.Mathlib.Omega.{arith}
+use mathlib.Core.Path.{_≡_, refl, sym, ap, _∙_}
+use Rattle.transfer.specs.Monad.{Res, ok, refused, M, Done, andThen}
+use Rattle.transfer.specs.Tables.{World}
+use Rattle.monads.specs.Answers.{answer}
+use Rattle.lent.specs.World.{lent}
+use Rattle.acts.specs.Acts.{sequel}
+
+module _ (r : ℕ) (w : World lent) (m : M (World lent) Done) where
+  -- what follows a refusal is not done
+  -- both ways, for the caller and for what is called
+  pub sequel-refused : ¬ (r ≡ 0) → sequel r w m ≡ answer r tt w
+  unfolding answer andThen
+  sequel-refused h = go r h
+    where
+      go : (n : ℕ) → ¬ (n ≡ 0) → sequel n w m ≡ answer n tt w
+      go zero h = absurd (h refl)
+      go (suc n) h = refl
+
+  -- what follows an answer of 0 is done in its world
+  -- both ways as well
+  pub sequel-goes : r ≡ 0 → sequel r w m ≡ m w
+  unfolding answer andThen
+  sequel-goes h = ap (λ (n : ℕ). sequel n w m) h
