@@ -144,7 +144,7 @@ fn refresh(e: AliasingEffect, x: AliasingEffect) -> AliasingEffect
 // The first effect under the key of an effect is used ever after; a new one is appended, and 8 refuses the 2,049th.
 // This is intern_effect of the Rust.
 pub fn intern(context: &mut [u32], e: AliasingEffect, captures: &[u32]) -> Interned
-    ensures { λ r. ⌜ ((vs ss os : List ℕ) (run : ARun) → Context.intern (effectWith e (capturesOf (now (captures .entry)))) (world vs ss (now (context .entry)) os run) ≡ answer (r .refusal) (effectWith (r .effect) (chosen (now (context .entry)) (r .found) (capturesOf (now (captures .entry))))) (world vs ss (now (context .exit)) os run)) ⌝ }
+    ensures { λ r. ⌜ ((vs ss os : List ℕ) (run : ARun) → Context.intern (effectWith e (capturesOf (now (captures .entry)))) (world vs ss (now (context .entry)) os run) ≡ answer (r .refusal) (effectWith (r .effect) (chosen (now (context .exit)) (r .found) (capturesOf (now (captures .entry))))) (world vs ss (now (context .exit)) os run)) ⌝ }
 {
     let found = find_effect(context, e, captures);
     match found {
