@@ -1,14 +1,14 @@
--- `creations::make_function` meets its contract: one law for each of its two ways. Assumes nothing.
+-- `new_functions::make_function` meets its contract: one law for each of its two ways. Assumes nothing.
 use mathlib.Core.Path.{_∙_}
-use Rattle.creations.specs.CreationLaws.{function-refused, function-made}
+use Rattle.new_functions.specs.NewFunctionLaws.{function-refused, function-made}
 use borrow.Author.Needs.{needs}
-use Rattle.creations.proofs.make_function.Statement.{statement}
-use Rattle.creations.proofs.make_function.Tie as tie
-use Rattle.creations.proofs.make_function.Reads as reads
-use Rattle.creations.proofs.make_function.Lts as lts
+use Rattle.new_functions.proofs.make_function.Statement.{statement}
+use Rattle.new_functions.proofs.make_function.Tie as tie
+use Rattle.new_functions.proofs.make_function.Reads as reads
+use Rattle.new_functions.proofs.make_function.Lts as lts
 use Rattle.contexts.proofs.has_tracked_side_effect.Reads as has-tracked-side-effect-reads
-use Rattle.creations.proofs.function_kind.Reads as function-kind-reads
-use Rattle.creations.proofs.link_function.Reads as link-function-reads
+use Rattle.new_functions.proofs.function_kind.Reads as function-kind-reads
+use Rattle.new_functions.proofs.link_function.Reads as link-function-reads
 use Rattle.functions.proofs.any_ref.Reads as any-ref-reads
 use Rattle.functions.proofs.update_context.Reads as update-context-reads
 use Rattle.parts.proofs.any_written.Reads as any-written-reads

@@ -1,11 +1,11 @@
--- `creations::link_function` meets its contract: one law for each of its two ways. Assumes nothing.
+-- `new_functions::link_function` meets its contract: one law for each of its two ways. Assumes nothing.
 use mathlib.Core.Path.{_∙_}
-use Rattle.creations.specs.CreationLaws.{linked-full, linked-done}
+use Rattle.new_functions.specs.NewFunctionLaws.{linked-full, linked-done}
 use borrow.Author.Needs.{needs}
-use Rattle.creations.proofs.link_function.Statement.{statement}
-use Rattle.creations.proofs.link_function.Tie as tie
-use Rattle.creations.proofs.link_function.Reads as reads
-use Rattle.creations.proofs.link_function.Lts as lts
+use Rattle.new_functions.proofs.link_function.Statement.{statement}
+use Rattle.new_functions.proofs.link_function.Tie as tie
+use Rattle.new_functions.proofs.link_function.Reads as reads
+use Rattle.new_functions.proofs.link_function.Lts as lts
 use Rattle.contexts.proofs.put_link.Reads as put-link-reads
 use Rattle.interning.proofs.number_for.Reads as number-for-reads
 use Rattle.keys.proofs.key_of.Reads as key-of-reads

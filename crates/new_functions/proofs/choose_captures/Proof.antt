@@ -1,11 +1,11 @@
--- `creations::choose_captures` meets its contract: one law for each of its two ways. Assumes nothing.
-use Rattle.creations.specs.CreationLaws.{chosen-found, chosen-given}
+-- `new_functions::choose_captures` meets its contract: one law for each of its two ways. Assumes nothing.
+use Rattle.new_functions.specs.NewFunctionLaws.{chosen-found, chosen-given}
 use borrow.Author.Needs.{needs}
-use Rattle.creations.proofs.choose_captures.Statement.{statement}
-use Rattle.creations.proofs.choose_captures.Tie as tie
-use Rattle.creations.proofs.choose_captures.Reads as reads
-use Rattle.creations.proofs.choose_captures.Lts as lts
-use Rattle.creations.proofs.copy_run.Reads as copy-run-reads
+use Rattle.new_functions.proofs.choose_captures.Statement.{statement}
+use Rattle.new_functions.proofs.choose_captures.Tie as tie
+use Rattle.new_functions.proofs.choose_captures.Reads as reads
+use Rattle.new_functions.proofs.choose_captures.Lts as lts
+use Rattle.new_functions.proofs.copy_run.Reads as copy-run-reads
 use Rattle.records.proofs.copy_captures.Reads as copy-captures-reads
 use Rattle.slices.proofs.wide32.Reads as wide32-reads
 

@@ -1,14 +1,14 @@
--- `creations::copy_run` meets its contract: each turn copies one of the words that are left. Assumes nothing.
+-- `new_functions::copy_run` meets its contract: each turn copies one of the words that are left. Assumes nothing.
 use borrow.Author.Needs.{needs}
 use native.Mathlib.Omega.{arith}
 use mathlib.Core.Path.{_≡_, refl, _∙_}
 use Prim.Native.Nat.{_-_, _≤_}
 use lib.ListN.{length}
-use Rattle.creations.specs.CreationLaws.{Copied, copied-start, copied-turn, copied-kept, copied-run}
-use Rattle.creations.proofs.copy_run.Statement.{statement}
-use Rattle.creations.proofs.copy_run.Tie as tie
-use Rattle.creations.proofs.copy_run.Reads as reads
-use Rattle.creations.proofs.copy_run.Lts as lts
+use Rattle.new_functions.specs.NewFunctionLaws.{Copied, copied-start, copied-turn, copied-kept, copied-run}
+use Rattle.new_functions.proofs.copy_run.Statement.{statement}
+use Rattle.new_functions.proofs.copy_run.Tie as tie
+use Rattle.new_functions.proofs.copy_run.Reads as reads
+use Rattle.new_functions.proofs.copy_run.Lts as lts
 use Rattle.slices.proofs.set32.Reads as set32-reads
 use Rattle.words.proofs.field.Reads as field-reads
 
