@@ -132,7 +132,7 @@ pub fn diagnostic_in(context: &[u32], k: u32) -> Numbered
 
 // The larger of two numbers.
 // Identities are numbered from 0 as they come.
-fn larger(a: u64, b: u64) -> u64
+pub fn larger(a: u64, b: u64) -> u64
     ensures { λ r. ⌜ r ≡ max a b ⌝ }
 {
     if a < b {
@@ -177,7 +177,7 @@ pub fn find_identity(context: &[u32], d: Diagnostic) -> Found
 
 // Whether a record has an identity and the labels of a diagnostic.
 // Then it is the instance.
-fn is_instance(x: Numbered, identity: u32, d: Diagnostic) -> bool
+pub fn is_instance(x: Numbered, identity: u32, d: Diagnostic) -> bool
     ensures { λ r. ⌜ r ≡ eqb identity (x .identity) && sameLabels d (x .diagnostic) ⌝ }
 {
     if identity != x.identity {

@@ -270,7 +270,7 @@ pub fn put_option(t: Table, xs: &mut [u32], i: usize, w: u32, o: Found)
 
 // The key of record i, without the identifiers of its captures.
 // What stands there is a key only where word 0 is not zero.
-fn head_in(t: Table, xs: &[u32], i: usize) -> Key
+pub fn head_in(t: Table, xs: &[u32], i: usize) -> Key
     ensures { λ r. ⌜ ((is : List ℕ) → keyWith r is ≡ keyHeadIn t (now (xs .entry)) i is) ⌝ }
 {
     let code = field(t, xs, i, 1);

@@ -9,6 +9,7 @@ use Rattle.effects.specs.Effects.{AliasingEffect}
 use Rattle.transfer.specs.Tables.{Tables, World}
 use Rattle.cells.specs.Cells.{valueAt, putValue}
 use Rattle.rows.specs.Rows.{setAt, putSet}
+pub use Rattle.copies.specs.Copies.{zeros}
 use Rattle.words.specs.declared.Table.{Table}
 use Rattle.records.specs.Records.{putEffect}
 use Rattle.runs.specs.declared.Marks.{Marks}
@@ -20,12 +21,6 @@ use Rattle.contexts.specs.Lent as Lent
 -- 98 words each
 abbrev pub output : Table
 output = record { base = 0; count = 1120; width = 98 }
-
--- n words, each zero
--- "those after the last effect are zero"
-unfoldable pub zeros : ℕ → List ℕ
-zeros zero = []
-zeros (suc n) = 0 ∷ zeros n
 
 -- the effects listed so far: the words of the output list, and how many effects they hold
 -- an effect is listed as the record after the last

@@ -27,7 +27,7 @@ pub struct SessionAnswer {
 
 // The lower class of two refusals, of which 0 is none.
 // "Order 1 to 5 over the whole input."
-fn lower(a: u32, b: u32) -> u32
+pub fn lower(a: u32, b: u32) -> u32
     ensures { λ r. ⌜ r ≡ lower a b ⌝ }
 {
     if a == 0 {

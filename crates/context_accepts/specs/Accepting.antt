@@ -1,0 +1,99 @@
+-- Which class of refusal a lent context earns (document 01, 'Refused calls': "Order 1 to 5 over the whole input").
+-- Every test gives the class that it earns, or 0; the whole earns the lowest class of any. Assumes nothing: these are definitions.
+use Prim.Native.Nat.{ℕ, _-_, _*_}
+use mathlib.Core.Bool.{Bool, not, _||_}
+use mathlib.Core.List.{List}
+use mathlib.Core.Option.{some}
+use lib.Dec.{eqb, ltb}
+use lib.ListN.{getD}
+use Rattle.slices.specs.Test.{ite}
+use Rattle.words.specs.Words.{field, index}
+use Rattle.contexts.specs.Layout as Layout
+use Rattle.contexts.specs.Lent.{internedCount, instanceCount}
+use Rattle.merge_calls.specs.MergeCalls.{lower}
+use Rattle.word_classes.specs.Classes.{lowestBelow, earns, wordClass, strayFrom, strayAfter}
+use Rattle.effect_classes.specs.EffectClasses.{effectClass}
+use Rattle.table_classes.specs.TableClasses.{identifierClass, functionClass, linkClass, keyClass, noKeyClass, messageClass}
+use Rattle.repeats.specs.Repeats.{internedTwice, keyTwice, diagnosticTwice}
+
+-- ---- records that may repeat one before them
+
+-- a cached number: no key at all, or one that is right and of no lower number
+-- value number 0 has none
+unfoldable pub cachedClass : ℕ → ℕ → List ℕ → ℕ → ℕ
+cachedClass identifiers functions c v =
+    ite (eqb v 0 || eqb (field Layout.cached c v 0) 0) (noKeyClass c v)
+    (lower (earns 2 (ltb 16 (field Layout.cached c v 11))) (lower (keyClass identifiers functions c v) (earns 4 (keyTwice c v))))
+
+-- a diagnostic: right, with the identity that it has to have, and no equal record before it
+-- wrong order, or two entries of one key
+unfoldable pub diagnosticClass : ℕ → List ℕ → ℕ → ℕ
+diagnosticClass identifiers c k = lower (messageClass identifiers c k) (earns 4 (diagnosticTwice c k))
+
+-- an interned effect: right, and the first under its key
+-- no Apply is interned
+unfoldable pub internedClass : ℕ → ℕ → List ℕ → ℕ → ℕ
+internedClass identifiers functions c k = lower (effectClass identifiers functions c 3 Layout.interned c k) (earns 4 (internedTwice c k))
+
+-- ---- the tables: the records in use, and the words after them
+
+-- the identifiers
+-- those of the state
+unfoldable pub identifiersClass : ℕ → List ℕ → ℕ
+identifiersClass identifiers c = lower (lowestBelow identifiers (identifierClass c)) (strayAfter Layout.identifiers c identifiers)
+
+-- the functions with their context places
+-- two tables of one number of records
+unfoldable pub functionsClass : ℕ → ℕ → List ℕ → ℕ
+functionsClass identifiers functions c =
+    lower (lowestBelow functions (functionClass identifiers c)) (lower (strayAfter Layout.functions c functions) (strayAfter Layout.contexts c functions))
+
+-- the links of numbers below next
+-- "a fresh number not below next": a link of another is a word without use
+unfoldable pub linksClass : ℕ → List ℕ → ℕ → ℕ
+linksClass functions c next = lower (lowestBelow next (linkClass functions c)) (strayAfter Layout.links c next)
+
+-- the keys of numbers below next
+-- a key of another is a word without use
+unfoldable pub keysClass : ℕ → ℕ → List ℕ → ℕ → ℕ
+keysClass identifiers functions c next = lower (lowestBelow next (cachedClass identifiers functions c)) (strayAfter Layout.cached c next)
+
+-- the diagnostics
+-- as many as the context counts
+unfoldable pub diagnosticsClass : ℕ → List ℕ → ℕ
+diagnosticsClass identifiers c = lower (lowestBelow (instanceCount c) (diagnosticClass identifiers c)) (strayAfter Layout.diagnostics c (instanceCount c))
+
+-- the words of the records that are lent after n interned effects
+-- the host lends as many records as it likes
+unfoldable pub roomClass : List ℕ → ℕ → ℕ → ℕ
+roomClass c n room = strayFrom c (index Layout.interned n 0) ((room - n) * 98)
+
+-- the interned effects, for a number of records that are lent
+-- as many as the context counts
+unfoldable pub effectsClass : ℕ → ℕ → List ℕ → ℕ → ℕ
+effectsClass identifiers functions c room = lower (lowestBelow (internedCount c) (internedClass identifiers functions c)) (roomClass c (internedCount c) room)
+
+-- ---- the whole context
+
+-- whether a count is above its limit, or is not what the call says
+-- "a count is above its limit"; the identifiers are those of the state
+unfoldable pub countsWrong : ℕ → ℕ → List ℕ → Bool
+countsWrong identifiers functions c =
+    not (eqb (getD c Layout.identifierCount 0) identifiers) || (not (eqb (getD c Layout.functionCount 0) functions) || (ltb 64 functions || (ltb 2048 (internedCount c) || ltb 256 (instanceCount c))))
+
+-- the options and all tables
+-- two options, so below 4
+unfoldable pub tablesClass : ℕ → ℕ → List ℕ → ℕ → ℕ → ℕ
+tablesClass identifiers functions c next room =
+    lower (wordClass (some 4) (getD c Layout.options 0))
+    (lower (identifiersClass identifiers c)
+    (lower (functionsClass identifiers functions c)
+    (lower (linksClass functions c next)
+    (lower (keysClass identifiers functions c next)
+    (lower (diagnosticsClass identifiers c)
+    (effectsClass identifiers functions c room))))))
+
+-- a context, for the next number and the number of records lent for interned effects
+-- "Order 1 to 5 over the whole input": a count is tested before the records are gone through
+unfoldable pub contextClass : ℕ → ℕ → List ℕ → ℕ → ℕ → ℕ
+contextClass identifiers functions c next room = ite (countsWrong identifiers functions c) 2 (tablesClass identifiers functions c next room)

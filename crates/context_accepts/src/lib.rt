@@ -1,0 +1,346 @@
+// The class of refusal that a lent context earns: its counts, then every record in use of its tables, and the words after them.
+// Every function is total, and its contract is one equation with the definition.
+ghost use mathlib.Core.Path.{_≡_};
+ghost use Rattle.word_classes.specs.Classes.{lowestBelow};
+ghost use Rattle.table_classes.specs.TableClasses.{identifierClass, functionClass, linkClass};
+ghost use Rattle.context_accepts.specs.Accepting.{cachedClass, diagnosticClass, internedClass, identifiersClass, functionsClass, linksClass, keysClass, diagnosticsClass, effectsClass, roomClass, countsWrong, tablesClass, contextClass};
+use contexts::interned_count;
+use diagnostics::instance_count;
+use effect_classes::effect_class;
+use merge_calls::lower;
+use repeats::diagnostic_twice;
+use repeats::interned_twice;
+use repeats::key_twice;
+use slices::get32;
+use slices::wide32;
+use table_classes::function_class;
+use table_classes::identifier_class;
+use table_classes::key_class;
+use table_classes::link_class;
+use table_classes::message_class;
+use table_classes::no_key_class;
+use word_classes::earns;
+use word_classes::stray_after;
+use word_classes::stray_from;
+use word_classes::word_class;
+use words::Table;
+use words::field;
+
+// Identifiers: flags, name, access span.
+// Four words, as in an image.
+const IDENTIFIERS: Table = Table {
+    base: 3,
+    count: 512,
+    width: 4,
+};
+
+// Functions: flags, count of context places, count of places mutated inside, 32 such places.
+// An instruction only reads them.
+const FUNCTIONS: Table = Table {
+    base: 2051,
+    count: 64,
+    width: 163,
+};
+
+// The context places of each function, sixteen of five words.
+// Each function has its own copy.
+const CONTEXTS: Table = Table {
+    base: 12485,
+    count: 64,
+    width: 80,
+};
+
+// The function of each fresh number: 0, or 1 and the function.
+// Document 01's function links.
+const LINKS: Table = Table {
+    base: 17605,
+    count: 512,
+    width: 2,
+};
+
+// The key under which each fresh number was handed out, or none.
+// Document 01's cached numbers.
+const CACHED: Table = Table {
+    base: 18629,
+    count: 512,
+    width: 28,
+};
+
+// Diagnostics: identity, identifier, message case, sentence, name, access span, own span.
+// Nine words each.
+const DIAGNOSTICS: Table = Table {
+    base: 32965,
+    count: 256,
+    width: 9,
+};
+
+// Interned effects: the first effect under a key.
+// The last table, so that the host may lend a shorter one.
+const INTERNED: Table = Table {
+    base: 35269,
+    count: 2048,
+    width: 98,
+};
+
+// ---- records that may repeat one before them
+
+// The class of a cached number: no key at all, or one that is right and of no lower number.
+// A key that is refused already is not looked for among the lower numbers.
+fn cached_class(context: &[u32], v: usize, identifiers: u32, functions: u32) -> u32
+    ensures { λ r. ⌜ r ≡ cachedClass identifiers functions (now (context .entry)) v ⌝ }
+{
+    if v == 0 {
+        return no_key_class(context, v);
+    }
+    if field(CACHED, context, v, 0) == 0 {
+        return no_key_class(context, v);
+    }
+    if field(CACHED, context, v, 11) > 16 {
+        return 2;
+    }
+    let class = key_class(context, v, identifiers, functions);
+    if class != 0 {
+        return class;
+    }
+    earns(4, key_twice(context, v))
+}
+
+// The class of a diagnostic: right, with the identity that it has to have, and no equal record before it.
+// One that is refused already is not looked for among those before it.
+fn diagnostic_class(context: &[u32], k: u32, identifiers: u32) -> u32
+    ensures { λ r. ⌜ r ≡ diagnosticClass identifiers (now (context .entry)) k ⌝ }
+{
+    let class = message_class(context, wide32(k), identifiers);
+    if class != 0 {
+        return class;
+    }
+    earns(4, diagnostic_twice(context, k))
+}
+
+// The class of an interned effect: right, and the first under its key.
+// One that is refused already is not looked for among those before it.
+fn interned_class(context: &[u32], k: usize, identifiers: u32, functions: u32) -> u32
+    ensures { λ r. ⌜ r ≡ internedClass identifiers functions (now (context .entry)) k ⌝ }
+{
+    let class = effect_class(context, 3, INTERNED, context, k, identifiers, functions);
+    if class != 0 {
+        return class;
+    }
+    earns(4, interned_twice(context, k))
+}
+
+// ---- the records of each table
+
+// The lowest class of n identifiers.
+// Each is tested word by word.
+fn identifier_records(context: &[u32], n: usize) -> u32
+    ensures { λ r. ⌜ r ≡ lowestBelow n (identifierClass (now (context .entry))) ⌝ }
+{
+    let mut worst: u32 = 0;
+    let mut k: usize = 0;
+    while k < n {
+        worst = lower(worst, identifier_class(context, k));
+        k += 1;
+    }
+    worst
+}
+
+// The lowest class of n functions.
+// Each with its context places.
+fn function_records(context: &[u32], n: usize, identifiers: u32) -> u32
+    ensures { λ r. ⌜ r ≡ lowestBelow n (functionClass identifiers (now (context .entry))) ⌝ }
+{
+    let mut worst: u32 = 0;
+    let mut k: usize = 0;
+    while k < n {
+        worst = lower(worst, function_class(context, k, identifiers));
+        k += 1;
+    }
+    worst
+}
+
+// The lowest class of the links of n numbers.
+// From number 0 on.
+fn link_records(context: &[u32], n: usize, functions: u32) -> u32
+    ensures { λ r. ⌜ r ≡ lowestBelow n (linkClass functions (now (context .entry))) ⌝ }
+{
+    let mut worst: u32 = 0;
+    let mut k: usize = 0;
+    while k < n {
+        worst = lower(worst, link_class(context, k, functions));
+        k += 1;
+    }
+    worst
+}
+
+// The lowest class of the keys of n numbers.
+// From number 0 on.
+fn key_records(context: &[u32], n: usize, identifiers: u32, functions: u32) -> u32
+    ensures { λ r. ⌜ r ≡ lowestBelow n (cachedClass identifiers functions (now (context .entry))) ⌝ }
+{
+    let mut worst: u32 = 0;
+    let mut k: usize = 0;
+    while k < n {
+        worst = lower(worst, cached_class(context, k, identifiers, functions));
+        k += 1;
+    }
+    worst
+}
+
+// The lowest class of n diagnostics.
+// In the order in which they came.
+fn diagnostic_records(context: &[u32], n: u32, identifiers: u32) -> u32
+    ensures { λ r. ⌜ r ≡ lowestBelow n (diagnosticClass identifiers (now (context .entry))) ⌝ }
+{
+    let mut worst: u32 = 0;
+    let mut k: u32 = 0;
+    while k < n {
+        worst = lower(worst, diagnostic_class(context, k, identifiers));
+        k += 1;
+    }
+    worst
+}
+
+// The lowest class of n interned effects.
+// In the order in which they came.
+fn effect_records(context: &[u32], n: usize, identifiers: u32, functions: u32) -> u32
+    ensures { λ r. ⌜ r ≡ lowestBelow n (internedClass identifiers functions (now (context .entry))) ⌝ }
+{
+    let mut worst: u32 = 0;
+    let mut k: usize = 0;
+    while k < n {
+        worst = lower(worst, interned_class(context, k, identifiers, functions));
+        k += 1;
+    }
+    worst
+}
+
+// ---- the tables: the records in use, and the words after them
+
+// The class of the identifiers.
+// As many as the state has.
+fn identifiers_class(context: &[u32], identifiers: u32) -> u32
+    ensures { λ r. ⌜ r ≡ identifiersClass identifiers (now (context .entry)) ⌝ }
+{
+    let n = wide32(identifiers);
+    let records = identifier_records(context, n);
+    lower(records, stray_after(IDENTIFIERS, context, n))
+}
+
+// The class of the functions with their context places.
+// Two tables of one number of records.
+fn functions_class(context: &[u32], identifiers: u32, functions: u32) -> u32
+    ensures { λ r. ⌜ r ≡ functionsClass identifiers functions (now (context .entry)) ⌝ }
+{
+    let n = wide32(functions);
+    let records = function_records(context, n, identifiers);
+    let after = stray_after(FUNCTIONS, context, n);
+    lower(records, lower(after, stray_after(CONTEXTS, context, n)))
+}
+
+// The class of the links of numbers below next.
+// A link of another number is a word without use.
+fn links_class(context: &[u32], functions: u32, next: u32) -> u32
+    ensures { λ r. ⌜ r ≡ linksClass functions (now (context .entry)) next ⌝ }
+{
+    let n = wide32(next);
+    let records = link_records(context, n, functions);
+    lower(records, stray_after(LINKS, context, n))
+}
+
+// The class of the keys of numbers below next.
+// A key of another number is a word without use.
+fn keys_class(context: &[u32], identifiers: u32, functions: u32, next: u32) -> u32
+    ensures { λ r. ⌜ r ≡ keysClass identifiers functions (now (context .entry)) next ⌝ }
+{
+    let n = wide32(next);
+    let records = key_records(context, n, identifiers, functions);
+    lower(records, stray_after(CACHED, context, n))
+}
+
+// The class of the diagnostics.
+// As many as the context counts.
+fn diagnostics_class(context: &[u32], identifiers: u32) -> u32
+    ensures { λ r. ⌜ r ≡ diagnosticsClass identifiers (now (context .entry)) ⌝ }
+{
+    let n = instance_count(context);
+    let records = diagnostic_records(context, n, identifiers);
+    lower(records, stray_after(DIAGNOSTICS, context, wide32(n)))
+}
+
+// The class of the words of the records that are lent after n interned effects.
+// The host lends as many records as it likes.
+fn room_class(context: &[u32], n: u32, room: u32) -> u32
+    ensures { λ r. ⌜ r ≡ roomClass (now (context .entry)) n room ⌝ }
+{
+    if room <= n {
+        return 0;
+    }
+    let from = 35269 + wide32(n) * 98;
+    let left = wide32(room - n) * 98;
+    stray_from(context, from, left)
+}
+
+// The class of the interned effects.
+// As many as the context counts.
+fn effects_class(context: &[u32], identifiers: u32, functions: u32, room: u32) -> u32
+    ensures { λ r. ⌜ r ≡ effectsClass identifiers functions (now (context .entry)) room ⌝ }
+{
+    let n = interned_count(context);
+    let records = effect_records(context, wide32(n), identifiers, functions);
+    lower(records, room_class(context, n, room))
+}
+
+// ---- the whole context
+
+// Whether a count is above its limit, or is not what the call says.
+// 512 identifiers at most are the state's own limit; 64 functions, 2,048 interned effects, 256 diagnostics.
+fn counts_wrong(context: &[u32], identifiers: u32, functions: u32) -> bool
+    ensures { λ r. ⌜ r ≡ countsWrong identifiers functions (now (context .entry)) ⌝ }
+{
+    if get32(context, 1) != identifiers {
+        return true;
+    }
+    if get32(context, 2) != functions {
+        return true;
+    }
+    if functions > 64 {
+        return true;
+    }
+    if interned_count(context) > 2048 {
+        return true;
+    }
+    instance_count(context) > 256
+}
+
+// The lowest class of the options and of all tables.
+// Two options, so below 4.
+fn tables_class(context: &[u32], identifiers: u32, functions: u32, next: u32, room: u32) -> u32
+    ensures { λ r. ⌜ r ≡ tablesClass identifiers functions (now (context .entry)) next room ⌝ }
+{
+    let options = word_class(5, get32(context, 0));
+    let names = identifiers_class(context, identifiers);
+    let bodies = functions_class(context, identifiers, functions);
+    let links = links_class(context, functions, next);
+    let keys = keys_class(context, identifiers, functions, next);
+    let messages = diagnostics_class(context, identifiers);
+    let effects = effects_class(context, identifiers, functions, room);
+    lower(
+        options,
+        lower(
+            names,
+            lower(bodies, lower(links, lower(keys, lower(messages, effects)))),
+        ),
+    )
+}
+
+// The class of a context, for the next number and the number of records lent for interned effects; 0 where it is accepted.
+// A count is tested before the records are gone through.
+pub fn context_class(context: &[u32], identifiers: u32, functions: u32, next: u32, room: u32) -> u32
+    ensures { λ r. ⌜ r ≡ contextClass identifiers functions (now (context .entry)) next room ⌝ }
+{
+    if counts_wrong(context, identifiers, functions) {
+        return 2;
+    }
+    tables_class(context, identifiers, functions, next, room)
+}

@@ -1,0 +1,26 @@
+use Rattle.effect_classes.specs.EffectLaws.{count-none, count-fits, count-over}
+use borrow.Author.Needs.{needs}
+use Rattle.effect_classes.proofs.count_class.Statement.{statement}
+use Rattle.effect_classes.proofs.count_class.Tie as tie
+use Rattle.effect_classes.proofs.count_class.Reads as reads
+use Rattle.effect_classes.proofs.count_class.Lts as lts
+use Rattle.effect_classes.proofs.is_code.Reads as is-code-reads
+
+-- src/lib.rt:199:8
+is-code-requires : tie.Need-is-code-requires
+is-code-requires c κs = search needs
+
+-- src/lib.rt:200:9
+returns : tie.Need-returns
+returns c = count-none _ _ _ (c .before .is-code .ensures) (c .if1 .taken)
+
+-- src/lib.rt:203:9
+returns-2 : tie.Need-returns-2
+returns-2 c = count-fits _ _ (c .if2 .taken)
+
+-- src/lib.rt:196:1
+returns-3 : tie.Need-returns-3
+returns-3 c = count-over _ _ _ (c .before .before .is-code .ensures) (c .before .if1 .left) (c .if2 .left)
+
+pub count-class-spec : {M : Type 1} → statement M
+count-class-spec = tie.close (tie.spec is-code-requires returns returns-2 returns-3)

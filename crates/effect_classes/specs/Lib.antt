@@ -1,0 +1,4 @@
+pub mod EffectClasses
+pub mod UseLaws
+pub mod EffectLaws
+pub mod InstructionLaws

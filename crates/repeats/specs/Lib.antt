@@ -1,0 +1,3 @@
+pub mod Repeats
+pub mod KeyLaws
+pub mod DiagnosticLaws

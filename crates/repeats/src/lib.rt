@@ -1,0 +1,204 @@
+// Whether a record of a context repeats one before it: an interned effect, a cached key, a diagnostic.
+// Each search goes through the records before the one that is tested; every function is total, and its contract is one equation.
+ghost use mathlib.Core.Path.{_≡_};
+ghost use Rattle.effects.specs.Keys.{effectKey, eqKey};
+ghost use Rattle.effects.specs.Places.{identifiers};
+ghost use Rattle.transfer.specs.State.{isSome};
+ghost use Rattle.transfer.specs.Pure.{isKey, identities, findEffect, findIdentity, findInstance};
+ghost use Rattle.records.specs.Records.{effectIn, capturesOf};
+ghost use Rattle.keys.specs.KeyRecords.{optionOf, keyWith, keyIn};
+ghost use Rattle.contexts.specs.Layout as Layout;
+ghost use Rattle.contexts.specs.Lent.{effectsIn, diagnosticsIn};
+ghost use Rattle.repeats.specs.Repeats.{internedTwice, keyHere, keyTwice, rightIdentity, diagnosticTwice};
+use diagnostics::diagnostic_in;
+use diagnostics::is_instance;
+use diagnostics::larger;
+use diagnostics::same_identity;
+use effects::Diagnostic;
+use keys::Found;
+use keys::Key;
+use keys::effect_has_key;
+use keys::head_in;
+use keys::key_of;
+use keys::same_head;
+use keys::same_numbers;
+use records::code_in;
+use records::copy_captures;
+use records::effect_in;
+use slices::wide32;
+use words::Table;
+use words::field;
+
+// The key under which each fresh number was handed out, or none.
+// Document 01's cached numbers.
+const CACHED: Table = Table {
+    base: 18629,
+    count: 512,
+    width: 28,
+};
+
+// Diagnostics: identity and eight more words.
+// Nine words each.
+const DIAGNOSTICS: Table = Table {
+    base: 32965,
+    count: 256,
+    width: 9,
+};
+
+// Interned effects: the first effect under a key.
+// The last table, so that the host may lend a shorter one.
+const INTERNED: Table = Table {
+    base: 35269,
+    count: 2048,
+    width: 98,
+};
+
+// ---- interned effects
+
+// Whether interned effect k has a key; the key's captures stand beside it.
+// An effect of another code is passed over by its first word.
+fn is_under(context: &[u32], k: usize, key: Key, captures: &[u32]) -> bool
+    ensures { λ r. ⌜ r ≡ eqKey (keyWith key (identifiers (capturesOf (now (captures .entry))))) (effectKey (effectIn Layout.interned (now (context .entry)) k)) ⌝ }
+{
+    if key.code != code_in(INTERNED, context, k) {
+        return false;
+    }
+    effect_has_key(INTERNED, context, k, key, captures)
+}
+
+// Whether one of the first n interned effects has a key.
+// They are looked through in order.
+fn effect_before(context: &[u32], n: usize, key: Key, captures: &[u32]) -> bool
+    ensures { λ r. ⌜ r ≡ isSome (findEffect (effectsIn Layout.interned (now (context .entry)) 0 n) (keyWith key (identifiers (capturesOf (now (captures .entry)))))) ⌝ }
+{
+    let mut k: usize = 0;
+    while k < n {
+        if is_under(context, k, key, captures) {
+            return true;
+        }
+        k += 1;
+    }
+    false
+}
+
+// Whether interned effect k has the key of one before it.
+// Its captures are copied, since a key has them beside it.
+pub fn interned_twice(context: &[u32], k: usize) -> bool
+    ensures { λ r. ⌜ r ≡ internedTwice (now (context .entry)) k ⌝ }
+{
+    let mut captures = [0u32; 81];
+    copy_captures(INTERNED, context, k, &mut captures);
+    let key = key_of(effect_in(INTERNED, context, k));
+    effect_before(context, k, key, &captures)
+}
+
+// ---- cached numbers
+
+// Whether number j has a key, and it is that of number i.
+// Both stand in the table.
+fn same_key(context: &[u32], i: usize, j: usize) -> bool
+    ensures { λ r. ⌜ r ≡ isKey (keyHere (now (context .entry)) i) (keyIn Layout.cached (now (context .entry)) j) ⌝ }
+{
+    if field(CACHED, context, j, 0) == 0 {
+        return false;
+    }
+    if !same_head(head_in(CACHED, context, i), head_in(CACHED, context, j)) {
+        return false;
+    }
+    let n = field(CACHED, context, i, 11);
+    let m = field(CACHED, context, j, 11);
+    same_numbers(CACHED, context, i, 12, 1, n, CACHED, context, j, 12, 1, m)
+}
+
+// Whether number v has the key of a lower one.
+// Numbers are looked through from 1.
+pub fn key_twice(context: &[u32], v: usize) -> bool
+    ensures { λ r. ⌜ r ≡ keyTwice (now (context .entry)) v ⌝ }
+{
+    if field(CACHED, context, v, 0) == 0 {
+        return false;
+    }
+    let mut n: usize = 1;
+    while n < v {
+        if same_key(context, v, n) {
+            return true;
+        }
+        n += 1;
+    }
+    false
+}
+
+// ---- diagnostics
+
+// How many identities the first n diagnostics have: one more than the highest.
+// Any words are read, so the number is as wide as one more than a word needs.
+fn identities_before(context: &[u32], n: u32) -> u64
+    ensures { λ r. ⌜ r ≡ identities (diagnosticsIn (now (context .entry)) 0 n) ⌝ }
+{
+    let mut most: u64 = 0;
+    let mut k: u32 = 0;
+    while k < n {
+        let identity = field(DIAGNOSTICS, context, wide32(k), 0);
+        most = larger(identity as u64 + 1, most);
+        k += 1;
+    }
+    most
+}
+
+// The identity of the first of n diagnostics with the same identifier, message and help.
+// This is the first look-up of intern_aliasing_diagnostic.
+fn identity_before(context: &[u32], n: u32, d: Diagnostic) -> Found
+    ensures { λ r. ⌜ optionOf r ≡ findIdentity (diagnosticsIn (now (context .entry)) 0 n) d ⌝ }
+{
+    let mut k: u32 = 0;
+    while k < n {
+        let x = diagnostic_in(context, k);
+        let other = x.diagnostic;
+        if same_identity(d, other) {
+            return Found::At(x.identity);
+        }
+        k += 1;
+    }
+    Found::Nowhere
+}
+
+// The identity that a diagnostic has to have after the first n.
+// That of the first equal message, else the next.
+fn right_identity(context: &[u32], n: u32, d: Diagnostic) -> u64
+    ensures { λ r. ⌜ r ≡ rightIdentity (now (context .entry)) n d ⌝ }
+{
+    let found = identity_before(context, n, d);
+    match found {
+        Found::Nowhere => identities_before(context, n),
+        Found::At(x) => x as u64,
+    }
+}
+
+// Whether one of the first n diagnostics has an identity and the labels of a diagnostic.
+// This is the second look-up of intern_aliasing_diagnostic.
+fn instance_before(context: &[u32], n: u32, identity: u32, d: Diagnostic) -> bool
+    ensures { λ r. ⌜ r ≡ isSome (findInstance 0 (diagnosticsIn (now (context .entry)) 0 n) identity d) ⌝ }
+{
+    let mut k: u32 = 0;
+    while k < n {
+        if is_instance(diagnostic_in(context, k), identity, d) {
+            return true;
+        }
+        k += 1;
+    }
+    false
+}
+
+// Whether diagnostic k has another identity than it has to, or there is an equal one before it.
+// Wrong order, or two entries of one key.
+pub fn diagnostic_twice(context: &[u32], k: u32) -> bool
+    ensures { λ r. ⌜ r ≡ diagnosticTwice (now (context .entry)) k ⌝ }
+{
+    let x = diagnostic_in(context, k);
+    let d = x.diagnostic;
+    let identity = x.identity;
+    if identity as u64 != right_identity(context, k, d) {
+        return true;
+    }
+    instance_before(context, k, identity, d)
+}

@@ -1,0 +1,24 @@
+use Rattle.table_classes.specs.KeyLaws.{key-from, key-assign, key-assign-primitive, source-none}
+use Rattle.table_classes.proofs.key_uses_source.Statement.{statement}
+use Rattle.table_classes.proofs.key_uses_source.Tie as tie
+use Rattle.table_classes.proofs.key_uses_source.Reads as reads
+use Rattle.table_classes.proofs.key_uses_source.Lts as lts
+
+-- src/lib.rt:228:9
+returns : tie.Need-returns
+returns c = key-from _ 0 (c .if1 .taken)
+
+-- src/lib.rt:231:9
+returns-2 : tie.Need-returns-2
+returns-2 c = key-assign _ 0 (c .if2 .taken)
+
+-- src/lib.rt:234:9
+returns-3 : tie.Need-returns-3
+returns-3 c = key-assign-primitive _ 0 (c .if3 .taken)
+
+-- src/lib.rt:224:1
+returns-4 : tie.Need-returns-4
+returns-4 c = source-none _ (c .before .before .if1 .left) (c .before .if2 .left) (c .if3 .left)
+
+pub key-uses-source-spec : {M : Type 1} → statement M
+key-uses-source-spec = tie.close (tie.spec returns returns-2 returns-3 returns-4)

@@ -1,0 +1,3 @@
+pub mod TableClasses
+pub mod TableLaws
+pub mod KeyLaws
