@@ -1,15 +1,14 @@
 -- Laws by which the code of a context's classes meets the definitions: a law for each way through a function. Assumes nothing.
-use Prim.Native.Nat.{ℕ, zero, suc, _+_, _-_, _*_, _≤_, _<_}
+use Prim.Native.Nat.{ℕ, _+_, _-_, _*_, _≤_, _<_}
 use mathlib.Core.Path.{_≡_, refl, sym, ap, ap₂, _∙_}
 use mathlib.Core.Bool.{Bool, true, false, not, _&&_, _||_}
-use mathlib.Core.List.{List, [], _∷_}
-use mathlib.Core.Option.{Option, none, some}
+use mathlib.Core.List.{List}
+use mathlib.Core.Option.{none, some}
 use native.Mathlib.Omega.{arith}
 use native.Mathlib.Nat.{zero-mul}
 use lib.Dec.{eqb, ltb}
 use lib.ListN.{getD}
 use borrow.Author.Tests.{lt-ltb, le-ltb, eq-eqb, ne-eqb}
-use Rattle.slices.specs.Test.{ite}
 use Rattle.effects.specs.Places.{noSpan, eqSpan}
 use Rattle.words.specs.Words.{field, index}
 use Rattle.contexts.specs.Layout as Layout
@@ -19,7 +18,7 @@ use Rattle.merge_calls.specs.MergeCalls.{lower}
 use Rattle.merge_calls.specs.MergeCallLaws.{lower-none}
 use Rattle.word_classes.specs.Classes.{lowestBelow, earns, wordClass, strayFrom, strayAfter, recordClass}
 use Rattle.word_classes.specs.ClassLaws.{lowest-none}
-use Rattle.word_classes.specs.OrderLaws.{Class, Later, class-later, earns-class, record-class, lower-keeps, two-first, four-last}
+use Rattle.word_classes.specs.OrderLaws.{Class, class-later, earns-class, record-class, lower-keeps, two-first, four-last}
 use Rattle.effect_classes.specs.EffectClasses.{effectClass}
 use Rattle.effect_classes.specs.InstructionLaws.{effect-class}
 use Rattle.table_classes.specs.TableClasses.{identifierClass, functionClass, linkClass, keyLimit, keyLacks, keyClass, noKeyClass, diagnosticLimit, labelClass, messageClass}
@@ -207,14 +206,18 @@ effects-are identifiers functions c room n m a b r e f h g q =
 -- ---- the whole
 
 module _ (identifiers functions : ℕ) (c : List ℕ) (i : ℕ) (hi : i ≡ getD c 1 0) where
-  -- the tests that are left after each
-  -- each way ends in one of them
+  -- the tests that are left after the functions
+  -- each way ends in such a chain
   abbrev after3 : Bool
   after3 = ltb 2048 (internedCount c) || ltb 256 (instanceCount c)
 
+  -- and after the numbers of the call
+  -- one test more
   abbrev after2 : Bool
   after2 = ltb 64 functions || after3
 
+  -- and after the identifiers
+  -- one test more
   abbrev after1 : Bool
   after1 = not (eqb (getD c 2 0) functions) || after2
 
@@ -225,6 +228,8 @@ module _ (identifiers functions : ℕ) (c : List ℕ) (i : ℕ) (hi : i ≡ getD
   counts-identifiers n = sym (or-first (not (eqb (getD c 1 0) identifiers)) after1 (ap not (ne-eqb (getD c 1 0) identifiers (λ e. n (hi ∙ e)))))
 
   module _ (ei : i ≡ identifiers) (f : ℕ) (hf : f ≡ getD c 2 0) where
+    -- the number of identifiers is right
+    -- the other tests decide
     past-identifiers : after1 ≡ countsWrong identifiers functions c
     unfolding countsWrong
     past-identifiers = sym (or-second (not (eqb (getD c 1 0) identifiers)) after1 (ap not (eq-eqb (getD c 1 0) identifiers (sym hi ∙ ei))))
@@ -235,6 +240,8 @@ module _ (identifiers functions : ℕ) (c : List ℕ) (i : ℕ) (hi : i ≡ getD
     counts-functions n = sym (or-first (not (eqb (getD c 2 0) functions)) after2 (ap not (ne-eqb (getD c 2 0) functions (λ e. n (hf ∙ e))))) ∙ past-identifiers
 
     module _ (ef : f ≡ functions) where
+      -- the number of functions is that of the call
+      -- the other tests decide
       past-functions : after2 ≡ countsWrong identifiers functions c
       past-functions = sym (or-second (not (eqb (getD c 2 0) functions)) after2 (ap not (eq-eqb (getD c 2 0) functions (sym hf ∙ ef)))) ∙ past-identifiers
 

@@ -1,29 +1,23 @@
 -- Laws by which the code of effects and instructions meets the definitions: a law for each way through a function. Assumes nothing.
-use Prim.Native.Nat.{ℕ, zero, suc, _+_, _-_, _≤_, _<_}
-use mathlib.Core.Path.{_≡_, refl, sym, ap, ap₂, _∙_}
-use mathlib.Core.Bool.{Bool, true, false, not, _&&_, _||_}
-use mathlib.Core.Logic.{_⊎_, inl, inr, ⊎-elim}
+use Prim.Native.Nat.{ℕ, _+_, _-_, _≤_, _<_}
+use mathlib.Core.Path.{_≡_, sym, ap, ap₂, _∙_}
+use mathlib.Core.Bool.{Bool, not, _&&_}
+use mathlib.Core.Logic.{_⊎_, ⊎-elim}
 use mathlib.Core.List.{List, [], _∷_}
 use mathlib.Core.Option.{Option, none, some}
 use native.Mathlib.Omega.{arith}
 use native.Mathlib.Numerals.{add-one}
-use lib.Dec.{eqb, leb, ltb}
+use lib.Dec.{eqb, ltb}
 use lib.ListN.{List·getD-eq-default}
-use borrow.Author.Tests.{lt-ltb, le-ltb, le-leb, lt-leb, eq-eqb, ne-eqb}
+use borrow.Author.Tests.{lt-ltb, le-ltb, eq-eqb, ne-eqb}
 use Rattle.orders.specs.Finite.{and-true, and-false}
-use Rattle.rows.specs.BitLaws.{lt-or-ge, same-or-not}
+use Rattle.rows.specs.BitLaws.{same-or-not}
 use Rattle.slices.specs.Test.{ite, ite-lt, ite-ge, ite-eq, ite-ne}
 use Rattle.kinds.specs.Reasons.{reasonCount}
-use Rattle.effects.specs.declared.Place.{Place}
-use Rattle.words.specs.declared.Table.{Table}
 use Rattle.words.specs.Words.{field}
 use Rattle.contexts.specs.Layout as Layout
-use Rattle.contexts.specs.Lent.{instanceCount}
-use Rattle.merge_calls.specs.MergeCalls.{lower}
-use Rattle.merge_calls.specs.MergeCallLaws.{lower-none}
-use Rattle.word_classes.specs.Classes.{lowestBelow, earns, limitOf, usedIf, any, placeLimit, runLimit, recordClass}
-use Rattle.word_classes.specs.OrderLaws.{Class, Later, class-later, earns-class, record-class, lower-keeps, lowest-keeps, two-first}
-use Rattle.effect_classes.specs.EffectClasses.{uses, middleLimit, effectLimit, countClass, numbersClass, effectClass, candidateTable, placeClass, instructionClass}
+use Rattle.word_classes.specs.Classes.{earns, limitOf, usedIf, any, placeLimit, runLimit}
+use Rattle.effect_classes.specs.EffectClasses.{uses, middleLimit, effectLimit, countClass, numbersClass}
 use Rattle.effect_classes.specs.UseLaws.{only, only-kind, only-mutation, only-function, only-captures}
 
 -- ---- limits
@@ -77,6 +71,8 @@ module _ (functions diagnostics code w u : ℕ) (o : Option ℕ) where
 from-four : (w : ℕ) → (w ≡ 0 → ⊥) → (w ≡ 1 → ⊥) → (w ≡ 2 → ⊥) → (w ≡ 3 → ⊥) → 4 ≤ w
 from-four w a b c d = omega arith
 
+-- a number from 4 on that is none of the next three
+-- seven inequalities are more than `omega` takes at once
 from-seven : (w : ℕ) → 4 ≤ w → (w ≡ 4 → ⊥) → (w ≡ 5 → ⊥) → (w ≡ 6 → ⊥) → 7 ≤ w
 from-seven w l a b c = omega arith
 
@@ -96,6 +92,8 @@ module _ (identifiers functions diagnostics code n w : ℕ) where
   abbrev afterPlace : Option ℕ
   afterPlace = ite (ltb w 11) (usedIf (uses code 1) (placeLimit identifiers (w - 6))) (middleLimit functions diagnostics code (w - 11))
 
+  -- what is left of the tests after the code
+  -- one test more
   abbrev afterCode : Option ℕ
   afterCode = ite (ltb w 6) (usedIf (uses code 0) (placeLimit identifiers (w - 1))) afterPlace
 

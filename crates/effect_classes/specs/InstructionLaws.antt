@@ -1,8 +1,8 @@
 -- Laws by which the class of an effect and of an instruction come from their parts. Assumes nothing.
-use Prim.Native.Nat.{ℕ, zero, suc, _+_, _-_, _≤_, _<_}
+use Prim.Native.Nat.{ℕ, _-_, _≤_, _<_}
 use mathlib.Core.Path.{_≡_, refl, sym, ap, ap₂, _∙_}
 use mathlib.Core.Bool.{Bool, true, false, not, _&&_, _||_}
-use mathlib.Core.List.{List, [], _∷_}
+use mathlib.Core.List.{List}
 use native.Mathlib.Omega.{arith}
 use lib.Dec.{eqb, leb, ltb}
 use borrow.Author.Tests.{lt-ltb, le-ltb, le-leb, lt-leb}
@@ -46,6 +46,8 @@ module _ (identifiers functions : ℕ) (c : List ℕ) (apply : ℕ) (t : Table) 
       hr ∙ ap₂ lower (ht ∙ ap₂ countClass hc hn) (hl ∙ ap₂ lower (hw ∙ same) (hs ∙ ap₂ (numbersClass c code) hx hy ∙ ap (λ (k : ℕ). numbersClass c k (field t xs i 15) (field t xs i 16)) hc))
       ∙ sym (ite-ne (field t xs i 0) 12 apply parts (λ e. z (hc ∙ e)))
     where
+      -- the words of the record, by the numbers that the code has read
+      -- each is a word of the record or of the context
       same : recordClass t xs (effectLimit identifiers functions d code n) i ≡ recordClass t xs (effectLimit identifiers functions (instanceCount c) (field t xs i 0) (field t xs i 17)) i
       same = ap (λ (m : ℕ). recordClass t xs (effectLimit identifiers functions m code n) i) hd ∙ ap₂ (λ (a b : ℕ). recordClass t xs (effectLimit identifiers functions (instanceCount c) a b) i) hc hn
 

@@ -1,16 +1,16 @@
 -- What an effect of each code uses: the ways through the code's tests, by one computed test of the table each. Assumes nothing.
-use Prim.Native.Nat.{ℕ, zero, suc, _+_, _-_, _≤_, _<_}
-use mathlib.Core.Path.{_≡_, refl, sym, ap, ap₂, _∙_}
-use mathlib.Core.Bool.{Bool, true, false, not}
-use mathlib.Core.Logic.{_⊎_, inl, inr, ⊎-elim}
-use mathlib.Core.List.{List, [], _∷_}
+use Prim.Native.Nat.{ℕ, _-_, _≤_, _<_}
+use mathlib.Core.Path.{_≡_, refl, sym, ap, _∙_}
+use mathlib.Core.Bool.{false, not}
+use mathlib.Core.Logic.{_⊎_, ⊎-elim}
+use mathlib.Core.List.{List, []}
 use native.Mathlib.Omega.{arith}
 use lib.Dec.{eqb, ltb}
-use lib.ListN.{getD, length, List·getD-eq-default}
+use lib.ListN.{getD, List·getD-eq-default}
 use borrow.Author.Tests.{eqb-true}
 use Rattle.orders.specs.Finite.{not-false}
 use Rattle.rows.specs.BitLaws.{lt-or-ge}
-use Rattle.slices.specs.Test.{ite, ite-lt, ite-ge, ite-eq, ite-ne}
+use Rattle.slices.specs.Test.{ite, ite-lt, ite-ge, ite-ne}
 use Rattle.transfer.specs.Merge.{anyBelow}
 use Rattle.accepts.specs.TestLaws.{any-at}
 use Rattle.effect_classes.specs.EffectClasses.{usedParts, uses}
@@ -33,20 +33,26 @@ rule j b t code l = sym (eqb-true (uses code j) (b code) (not-false (eqb (uses c
 abbrev byPlace : ℕ → ℕ
 byPlace k = ite (eqb k 9) 0 (ite (eqb k 12) 0 (ite (eqb k 13) 0 1))
 
+-- the table follows it
+-- computed for eighteen codes
 table-place : anyBelow 18 (λ k. not (eqb (uses k 0) (byPlace k))) ≡ false
 unfolding anyBelow uses usedParts
 table-place = refl
 
--- a code that has no place
--- Create, Apply, CreateFunction
+-- Create has no place that is no destination
+-- the second way through the code
 pub place-create : (code : ℕ) → code ≡ 9 → 0 ≡ uses code 0
 unfolding uses usedParts
 place-create code e = sym (ap (λ (k : ℕ). uses k 0) e)
 
+-- an Apply uses none
+-- the third way
 pub place-apply : (code : ℕ) → code ≡ 12 → 0 ≡ uses code 0
 unfolding uses usedParts
 place-apply code e = sym (ap (λ (k : ℕ). uses k 0) e)
 
+-- CreateFunction has none
+-- the fourth way
 pub place-function : (code : ℕ) → code ≡ 13 → 0 ≡ uses code 0
 unfolding uses usedParts
 place-function code e = sym (ap (λ (k : ℕ). uses k 0) e)
@@ -65,6 +71,8 @@ place-other code l a b c =
 abbrev byDestination : ℕ → ℕ
 byDestination k = ite (ltb k 5) 0 (ite (eqb k 12) 0 (ite (ltb 13 k) 0 1))
 
+-- the table follows it
+-- computed for eighteen codes
 table-destination : anyBelow 18 (λ k. not (eqb (uses k 1) (byDestination k))) ≡ false
 unfolding anyBelow uses usedParts
 table-destination = refl
@@ -105,16 +113,20 @@ destination-other code a b c =
 abbrev byReason : ℕ → ℕ
 byReason k = ite (eqb k 0) 1 (ite (eqb k 9) 1 0)
 
+-- the table follows it
+-- computed for eighteen codes
 table-reason : anyBelow 18 (λ k. not (eqb (uses k 3) (byReason k))) ≡ false
 unfolding anyBelow uses usedParts
 table-reason = refl
 
--- Freeze and Create have one
--- the first two ways through the code
+-- Freeze has one
+-- the first way through the code
 pub reason-freeze : (code : ℕ) → code ≡ 0 → 1 ≡ uses code 3
 unfolding uses usedParts
 reason-freeze code e = sym (ap (λ (k : ℕ). uses k 3) e)
 
+-- Create has one
+-- the second way
 pub reason-create : (code : ℕ) → code ≡ 9 → 1 ≡ uses code 3
 unfolding uses usedParts
 reason-create code e = sym (ap (λ (k : ℕ). uses k 3) e)
@@ -135,6 +147,8 @@ reason-other code a b =
 abbrev byDiagnostic : ℕ → ℕ
 byDiagnostic k = ite (ltb k 14) 0 (ite (ltb 16 k) 0 1)
 
+-- the table follows it
+-- computed for eighteen codes
 table-diagnostic : anyBelow 18 (λ k. not (eqb (uses k 6) (byDiagnostic k))) ≡ false
 unfolding anyBelow uses usedParts
 table-diagnostic = refl
@@ -175,38 +189,46 @@ only-rule j one o t code =
     (λ l. ite-ne code one 1 0 (λ e. omega arith) ∙ uses-past code j l)
     (lt-or-ge code 18)
 
--- kinds: Create
--- no other effect has one
+-- the table gives kinds to Create
+-- computed for eighteen codes
 table-kind : anyBelow 18 (λ k. not (eqb (uses k 2) (only 9 k))) ≡ false
 unfolding anyBelow uses usedParts
 table-kind = refl
 
+-- kinds: Create
+-- no other effect has one
 pub only-kind : (code : ℕ) → only 9 code ≡ uses code 2
 only-kind code = only-rule 2 9 (omega arith) table-kind code
 
--- mutation reasons: Mutate
--- no other effect has one
+-- the table gives mutation reasons to Mutate
+-- computed for eighteen codes
 table-mutation : anyBelow 18 (λ k. not (eqb (uses k 4) (only 1 k))) ≡ false
 unfolding anyBelow uses usedParts
 table-mutation = refl
 
+-- mutation reasons: Mutate
+-- no other effect has one
 pub only-mutation : (code : ℕ) → only 1 code ≡ uses code 4
 only-mutation code = only-rule 4 1 (omega arith) table-mutation code
 
--- functions: CreateFunction
--- no other effect has one
+-- the table gives functions to CreateFunction
+-- computed for eighteen codes
 table-function : anyBelow 18 (λ k. not (eqb (uses k 5) (only 13 k))) ≡ false
 unfolding anyBelow uses usedParts
 table-function = refl
 
+-- functions: CreateFunction
+-- no other effect has one
 pub only-function : (code : ℕ) → only 13 code ≡ uses code 5
 only-function code = only-rule 5 13 (omega arith) table-function code
 
--- captures: CreateFunction
--- no other effect has them
+-- the table gives captures to CreateFunction
+-- computed for eighteen codes
 table-captures : anyBelow 18 (λ k. not (eqb (uses k 7) (only 13 k))) ≡ false
 unfolding anyBelow uses usedParts
 table-captures = refl
 
+-- captures: CreateFunction
+-- no other effect has them
 pub only-captures : (code : ℕ) → only 13 code ≡ uses code 7
 only-captures code = only-rule 7 13 (omega arith) table-captures code

@@ -1,12 +1,11 @@
 -- Laws by which the searches of interned effects and of cached keys before one meet the definitions. Assumes nothing.
-use Prim.Native.Nat.{ℕ, zero, suc, _+_, _-_, _≤_, _<_}
+use Prim.Native.Nat.{ℕ, suc, _+_, _-_, _≤_, _<_}
 use native.Mathlib.Omega.{arith}
 use native.Mathlib.Numerals.{add-one}
 use mathlib.Core.Path.{_≡_, refl, sym, ap, ap₂, _∙_}
-use mathlib.Core.Bool.{Bool, true, false, not, _&&_}
+use mathlib.Core.Bool.{Bool, true, false, not}
 use mathlib.Core.List.{List, [], _∷_}
 use mathlib.Core.Option.{Option, none, some}
-use lib.Dec.{eqb}
 use lib.ListN.{length}
 use Rattle.orders.specs.Finite.{not-true, not-false}
 use Rattle.slices.specs.Test.{ite, ite-eq, ite-ne}
@@ -18,7 +17,7 @@ use Rattle.transfer.specs.State.{isSome}
 use Rattle.transfer.specs.Pure.{findEffect, isKey, firstCached}
 use Rattle.words.specs.Words.{field}
 use Rattle.records.specs.declared.AliasingEffect.{AliasingEffect as Head}
-use Rattle.records.specs.Records.{effectWith, headIn, effectIn, countedPlaces, capturesOf, copiedCaptures}
+use Rattle.records.specs.Records.{effectWith, headIn, effectIn, capturesOf, copiedCaptures}
 use Rattle.records.specs.RecordLaws.{captures-copied}
 use Rattle.keys.specs.declared.Key.{Key}
 use Rattle.keys.specs.KeyRecords.{keyWith, sameHead, numbersIn, keyHeadIn, keyIn}

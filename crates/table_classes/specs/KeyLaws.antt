@@ -1,165 +1,109 @@
 -- Laws by which the code of cached keys meets the definitions: a law for each way through a function. Assumes nothing.
-use Prim.Native.Nat.{ℕ, zero, suc, _+_, _-_, _≤_, _<_}
-use mathlib.Core.Path.{_≡_, refl, sym, ap, ap₂, _∙_}
+use Prim.Native.Nat.{ℕ, _+_, _-_, _≤_, _<_}
+use mathlib.Core.Path.{_≡_, sym, ap, ap₂, _∙_}
 use mathlib.Core.Bool.{Bool, true, false, not, _&&_, _||_}
-use mathlib.Core.Logic.{_⊎_, inl, inr, ⊎-elim}
+use mathlib.Core.Logic.{_⊎_, ⊎-elim}
 use mathlib.Core.List.{List, [], _∷_}
 use mathlib.Core.Option.{Option, none, some}
 use native.Mathlib.Omega.{arith}
 use native.Mathlib.Numerals.{add-one}
-use lib.Dec.{eqb, leb, ltb}
-use lib.ListN.{getD, List·getD-eq-default}
-use borrow.Author.Tests.{lt-ltb, le-ltb, eq-eqb, ne-eqb}
-use Rattle.rows.specs.BitLaws.{lt-or-ge, same-or-not}
-use Rattle.slices.specs.Test.{ite, ite-lt, ite-ge, ite-eq, ite-ne}
+use lib.Dec.{eqb, ltb}
+use lib.ListN.{List·getD-eq-default}
+use borrow.Author.Tests.{eq-eqb, ne-eqb}
+use Rattle.rows.specs.BitLaws.{same-or-not}
+use Rattle.slices.specs.Test.{ite, ite-lt, ite-ge}
 use Rattle.kinds.specs.Reasons.{reasonCount}
 use Rattle.words.specs.Words.{field}
 use Rattle.contexts.specs.Layout as Layout
-use Rattle.accepts.specs.TestLaws.{or-first, or-second, or-neither, ite-no}
+use Rattle.accepts.specs.TestLaws.{or-first, or-second}
 use Rattle.merge_calls.specs.MergeCalls.{lower}
 use Rattle.word_classes.specs.Classes.{earns, limitOf, usedIf, any, recordClass}
 use Rattle.effect_classes.specs.UseLaws.{only}
-use Rattle.table_classes.specs.TableClasses.{keyParts, keyUses, keyHeadLimit, keyLimit, partLacks, keyLacks, keyClass, noKeyClass}
-
--- ---- what a key uses
-
--- the parts of the key of Create, of CreateFunction, and of the three with a source
--- computed for each code
-module _ (code j : ℕ) where
-  pub key-create : code ≡ 9 → getD (0 ∷ 1 ∷ 1 ∷ 0 ∷ []) j 0 ≡ keyUses code j
-  unfolding keyUses keyParts
-  key-create e = sym (ap (λ (k : ℕ). keyUses k j) e)
-
-  pub key-function : code ≡ 13 → getD (0 ∷ 1 ∷ 0 ∷ 1 ∷ []) j 0 ≡ keyUses code j
-  unfolding keyUses keyParts
-  key-function e = sym (ap (λ (k : ℕ). keyUses k j) e)
-
-  pub key-from : code ≡ 10 → getD (1 ∷ 1 ∷ 0 ∷ 0 ∷ []) j 0 ≡ keyUses code j
-  unfolding keyUses keyParts
-  key-from e = sym (ap (λ (k : ℕ). keyUses k j) e)
-
-  pub key-assign : code ≡ 18 → getD (1 ∷ 1 ∷ 0 ∷ 0 ∷ []) j 0 ≡ keyUses code j
-  unfolding keyUses keyParts
-  key-assign e = sym (ap (λ (k : ℕ). keyUses k j) e)
-
-  pub key-assign-primitive : code ≡ 19 → getD (1 ∷ 1 ∷ 0 ∷ 0 ∷ []) j 0 ≡ keyUses code j
-  unfolding keyUses keyParts
-  key-assign-primitive e = sym (ap (λ (k : ℕ). keyUses k j) e)
-
-  -- any other code is not cached
-  -- it uses nothing
-  key-other : (code ≡ 9 → ⊥) → (code ≡ 13 → ⊥) → (code ≡ 10 → ⊥) → (code ≡ 18 → ⊥) → (code ≡ 19 → ⊥) → 0 ≡ keyUses code j
-  unfolding keyUses keyParts
-  key-other a b c d e =
-      sym (ap (λ (r : List ℕ). getD r j 0)
-      (ite-ne code 9 (0 ∷ 1 ∷ 1 ∷ 0 ∷ []) (ite (eqb code 13) (0 ∷ 1 ∷ 0 ∷ 1 ∷ []) (ite (eqb code 10 || (eqb code 18 || eqb code 19)) (1 ∷ 1 ∷ 0 ∷ 0 ∷ []) [])) a
-      ∙ ite-ne code 13 (0 ∷ 1 ∷ 0 ∷ 1 ∷ []) (ite (eqb code 10 || (eqb code 18 || eqb code 19)) (1 ∷ 1 ∷ 0 ∷ 0 ∷ []) []) b
-      ∙ ite-no (eqb code 10 || (eqb code 18 || eqb code 19)) (1 ∷ 1 ∷ 0 ∷ 0 ∷ []) []
-      (or-neither (eqb code 10) (eqb code 18 || eqb code 19) (ne-eqb code 10 c) (or-neither (eqb code 18) (eqb code 19) (ne-eqb code 18 d) (ne-eqb code 19 e))))
-      ∙ List·getD-eq-default [] 0 {n = j} (omega arith))
-
-  -- a code without a source: Create, CreateFunction, or one that is not cached
-  -- what holds of these three holds of it
-  sourceless : (code ≡ 10 → ⊥) → (code ≡ 18 → ⊥) → (code ≡ 19 → ⊥) → (x : ℕ) → (code ≡ 9 → x ≡ keyUses code j) → (code ≡ 13 → x ≡ keyUses code j)
-      → ((code ≡ 9 → ⊥) → (code ≡ 13 → ⊥) → x ≡ 0) → x ≡ keyUses code j
-  sourceless c d e x p q r = ⊎-elim p (λ a. ⊎-elim q (λ b. r a b ∙ key-other a b c d e) (same-or-not code 13)) (same-or-not code 9)
-
--- a code without a source uses none
--- the last way through the code
-pub source-none : (code : ℕ) → (code ≡ 10 → ⊥) → (code ≡ 18 → ⊥) → (code ≡ 19 → ⊥) → 0 ≡ keyUses code 0
-source-none code c d e = sourceless code 0 c d e 0 (key-create code 0) (key-function code 0) (λ a b. refl)
-
--- apart from Create and CreateFunction a key has a destination where it has a source
--- the last way through the code
-pub destination-other : (code r : ℕ) → (code ≡ 9 → ⊥) → (code ≡ 13 → ⊥) → r ≡ keyUses code 0 → r ≡ keyUses code 1
-destination-other code r a b h =
-    h
-    ∙ ⊎-elim (λ e. sym (key-from code 0 e) ∙ key-from code 1 e)
-    (λ c. ⊎-elim (λ e. sym (key-assign code 0 e) ∙ key-assign code 1 e)
-    (λ d. ⊎-elim (λ e. sym (key-assign-primitive code 0 e) ∙ key-assign-primitive code 1 e)
-    (λ e. sym (key-other code 0 a b c d e) ∙ key-other code 1 a b c d e)
-    (same-or-not code 19))
-    (same-or-not code 18))
-    (same-or-not code 10)
-
--- kinds and reasons belong to Create
--- no other key has them
-pub only-kind : (code : ℕ) → only 9 code ≡ keyUses code 2
-only-kind code =
-    ⊎-elim (λ e. ite-eq code 9 1 0 e ∙ key-create code 2 e)
-    (λ a. ite-ne code 9 1 0 a
-    ∙ ⊎-elim (key-from code 2) (λ c. ⊎-elim (key-assign code 2) (λ d. ⊎-elim (key-assign-primitive code 2) (λ e. ⊎-elim (key-function code 2) (λ b. key-other code 2 a b c d e) (same-or-not code 13)) (same-or-not code 19)) (same-or-not code 18)) (same-or-not code 10))
-    (same-or-not code 9)
-
--- functions and captures belong to CreateFunction
--- no other key has them
-pub only-function : (code : ℕ) → only 13 code ≡ keyUses code 3
-only-function code =
-    ⊎-elim (λ e. ite-eq code 13 1 0 e ∙ key-function code 3 e)
-    (λ b. ite-ne code 13 1 0 b
-    ∙ ⊎-elim (key-from code 3) (λ c. ⊎-elim (key-assign code 3) (λ d. ⊎-elim (key-assign-primitive code 3) (λ e. ⊎-elim (key-create code 3) (λ a. key-other code 3 a b c d e) (same-or-not code 9)) (same-or-not code 19)) (same-or-not code 18)) (same-or-not code 10))
-    (same-or-not code 13)
+use Rattle.table_classes.specs.TableClasses.{keyUses, keyHeadLimit, keyLimit, partLacks, keyLacks, keyClass, noKeyClass}
+use Rattle.table_classes.specs.KeyUseLaws.{only-kind, only-function}
 
 -- ---- limits
 
 module _ (identifiers functions code w : ℕ) where
-  -- whether there is a key, and its code
+  -- whether there is a key
   -- the same for every code
   pub head-present : w ≡ 0 → some 2 ≡ keyHeadLimit identifiers functions code w
   unfolding keyHeadLimit
   head-present e = sym (ap (keyHeadLimit identifiers functions code) e)
 
+  -- the code
+  -- codes of effects, and the two of Assign
   pub head-code : w ≡ 1 → some 20 ≡ keyHeadLimit identifiers functions code w
   unfolding keyHeadLimit
   head-code e = sym (ap (keyHeadLimit identifiers functions code) e)
 
   module _ (u : ℕ) (o : Option ℕ) where
-    -- source, destination, kind, reason, function and count, each where the code uses it
-    -- one law for each word
+    -- whether there is a source
+    -- 0 or 1, where the code has one
     pub head-source-flag : w ≡ 2 → u ≡ keyUses code 0 → o ≡ usedIf u (some 2) → o ≡ keyHeadLimit identifiers functions code w
     unfolding keyHeadLimit
     head-source-flag e h q = q ∙ ap (λ (a : ℕ). usedIf a (some 2)) (h) ∙ sym (ap (keyHeadLimit identifiers functions code) e)
 
+    -- the source
+    -- below the number of identifiers
     pub head-source : w ≡ 3 → u ≡ keyUses code 0 → o ≡ usedIf u (limitOf (identifiers + 1)) → o ≡ keyHeadLimit identifiers functions code w
     unfolding keyHeadLimit
     head-source e h q = q ∙ ap₂ (λ (a b : ℕ). usedIf a (limitOf b)) (h) (add-one identifiers) ∙ sym (ap (keyHeadLimit identifiers functions code) e)
 
+    -- whether there is a destination
+    -- 0 or 1, where the code has one
     pub head-destination-flag : w ≡ 4 → u ≡ keyUses code 1 → o ≡ usedIf u (some 2) → o ≡ keyHeadLimit identifiers functions code w
     unfolding keyHeadLimit
     head-destination-flag e h q = q ∙ ap (λ (a : ℕ). usedIf a (some 2)) (h) ∙ sym (ap (keyHeadLimit identifiers functions code) e)
 
+    -- the destination
+    -- below the number of identifiers
     pub head-destination : w ≡ 5 → u ≡ keyUses code 1 → o ≡ usedIf u (limitOf (identifiers + 1)) → o ≡ keyHeadLimit identifiers functions code w
     unfolding keyHeadLimit
     head-destination e h q = q ∙ ap₂ (λ (a b : ℕ). usedIf a (limitOf b)) (h) (add-one identifiers) ∙ sym (ap (keyHeadLimit identifiers functions code) e)
 
+    -- the kind
+    -- one of six
     pub head-kind : w ≡ 6 → u ≡ only 9 code → o ≡ usedIf u (some 6) → o ≡ keyHeadLimit identifiers functions code w
     unfolding keyHeadLimit
     head-kind e h q = q ∙ ap (λ (a : ℕ). usedIf a (some 6)) (h ∙ only-kind code) ∙ sym (ap (keyHeadLimit identifiers functions code) e)
 
+    -- the reason
+    -- one of twelve
     pub head-reason : w ≡ 7 → u ≡ only 9 code → o ≡ usedIf u (some 12) → o ≡ keyHeadLimit identifiers functions code w
     unfolding keyHeadLimit
     head-reason e h q = q ∙ ap (λ (a : ℕ). usedIf a (some 12)) (h ∙ only-kind code) ∙ sym (ap (keyHeadLimit identifiers functions code) e)
 
+    -- whether there is a function
+    -- 0 or 1, where the code has one
     pub head-function-flag : w ≡ 8 → u ≡ only 13 code → o ≡ usedIf u (some 2) → o ≡ keyHeadLimit identifiers functions code w
     unfolding keyHeadLimit
     head-function-flag e h q = q ∙ ap (λ (a : ℕ). usedIf a (some 2)) (h ∙ only-function code) ∙ sym (ap (keyHeadLimit identifiers functions code) e)
 
+    -- the function
+    -- below their number
     pub head-function : w ≡ 9 → u ≡ only 13 code → o ≡ usedIf u (limitOf (functions + 1)) → o ≡ keyHeadLimit identifiers functions code w
     unfolding keyHeadLimit
     head-function e h q = q ∙ ap₂ (λ (a b : ℕ). usedIf a (limitOf b)) (h ∙ only-function code) (add-one functions) ∙ sym (ap (keyHeadLimit identifiers functions code) e)
 
+    -- the count of captures
+    -- tested apart
     pub head-count : w ≡ 11 → u ≡ only 13 code → o ≡ usedIf u any → o ≡ keyHeadLimit identifiers functions code w
     unfolding keyHeadLimit
     head-count e h q = q ∙ ap (λ (a : ℕ). usedIf a any) (h ∙ only-function code) ∙ sym (ap (keyHeadLimit identifiers functions code) e)
 
-  -- a number that is none of the first eight, and of the rest only 10 or past them
+  -- a number from 4 on that is none of the next four
   -- more inequalities than `omega` takes at once
   from-eight : 4 ≤ w → (w ≡ 4 → ⊥) → (w ≡ 5 → ⊥) → (w ≡ 6 → ⊥) → (w ≡ 7 → ⊥) → 8 ≤ w
   from-eight l a b c d = omega arith
 
+  -- a number that is none of the first four
+  -- the same
   from-four : (w ≡ 0 → ⊥) → (w ≡ 1 → ⊥) → (w ≡ 2 → ⊥) → (w ≡ 3 → ⊥) → 4 ≤ w
   from-four a b c d = omega arith
 
+  -- a number from 8 on that is none of the next four
+  -- the same
   from-twelve : 8 ≤ w → (w ≡ 8 → ⊥) → (w ≡ 9 → ⊥) → (w ≡ 11 → ⊥) → (w ≡ 10 → ⊥) → 12 ≤ w
   from-twelve l a b c d = omega arith
 

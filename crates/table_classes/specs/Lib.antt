@@ -1,3 +1,4 @@
 pub mod TableClasses
 pub mod TableLaws
+pub mod KeyUseLaws
 pub mod KeyLaws

@@ -1,23 +1,23 @@
 -- Laws by which the code of identifiers, functions, links and diagnostics meets the definitions: a law for each way through a function. Assumes nothing.
-use Prim.Native.Nat.{ℕ, zero, suc, _+_, _-_, _/_, _%_, _≤_, _<_}
-use mathlib.Core.Path.{_≡_, refl, sym, ap, ap₂, _∙_}
+use Prim.Native.Nat.{ℕ, _+_, _-_, _/_, _%_, _≤_, _<_}
+use mathlib.Core.Path.{_≡_, sym, ap, ap₂, _∙_}
 use mathlib.Core.Bool.{Bool, true, false, not, _&&_, _||_}
-use mathlib.Core.Logic.{_⊎_, inl, inr, ⊎-elim}
+use mathlib.Core.Logic.{_⊎_, ⊎-elim}
 use mathlib.Core.List.{List, [], _∷_}
 use mathlib.Core.Option.{Option, none, some}
 use native.Mathlib.Omega.{arith}
 use native.Mathlib.Numerals.{add-one}
-use lib.Dec.{eqb, leb, ltb}
+use lib.Dec.{eqb, ltb}
 use lib.ListN.{getD, List·getD-eq-default}
 use borrow.Author.Tests.{lt-ltb, le-ltb, eq-eqb, ne-eqb}
 use Rattle.orders.specs.Finite.{and-true, and-false}
-use Rattle.rows.specs.BitLaws.{lt-or-ge, same-or-not}
-use Rattle.slices.specs.Test.{ite, ite-lt, ite-ge, ite-eq, ite-ne}
+use Rattle.rows.specs.BitLaws.{same-or-not}
+use Rattle.slices.specs.Test.{ite, ite-ge, ite-eq, ite-ne}
 use Rattle.effects.specs.Places.{noSpan, eqSpan}
 use Rattle.words.specs.Words.{field}
 use Rattle.contexts.specs.Layout as Layout
 use Rattle.contexts.specs.Lent.{flagOne, flagTwo}
-use Rattle.accepts.specs.TestLaws.{or-first, or-second, or-neither, and-first}
+use Rattle.accepts.specs.TestLaws.{or-first, or-second, or-neither}
 use Rattle.merge_calls.specs.MergeCalls.{lower}
 use Rattle.word_classes.specs.Classes.{earns, limitOf, usedIf, any, runLimit, recordClass}
 use Rattle.table_classes.specs.TableClasses.{identifierLimit, identifierClass, functionLimit, needsKnown, placesClass, functionClass, linkLimit, linkClass, diagnosticLimit, labelClass, messageClass}
@@ -182,28 +182,38 @@ link-is functions c v flag r h g = g ∙ ap (λ (x : ℕ). recordClass Layout.li
 -- ---- diagnostics
 
 module _ (identifiers case w : ℕ) where
-  -- the identity, the identifier, the case, the sentence of either case, and the name
-  -- each word has its limit
+  -- the identity
+  -- there are no more than records
   pub diagnostic-identity : w ≡ 0 → some 256 ≡ diagnosticLimit identifiers case w
   unfolding diagnosticLimit
   diagnostic-identity e = sym (ap (diagnosticLimit identifiers case) e)
 
+  -- the identifier
+  -- below their number
   pub diagnostic-identifier : w ≡ 1 → limitOf (identifiers + 1) ≡ diagnosticLimit identifiers case w
   unfolding diagnosticLimit
   diagnostic-identifier e = ap limitOf (add-one identifiers) ∙ sym (ap (diagnosticLimit identifiers case) e)
 
+  -- the case
+  -- 0 or 1
   pub diagnostic-case : w ≡ 2 → some 2 ≡ diagnosticLimit identifiers case w
   unfolding diagnosticLimit
   diagnostic-case e = sym (ap (diagnosticLimit identifiers case) e)
 
+  -- the sentence of case 0
+  -- one of eleven
   pub diagnostic-sentence : w ≡ 3 → case ≡ 0 → some 11 ≡ diagnosticLimit identifiers case w
   unfolding diagnosticLimit
   diagnostic-sentence e z = sym (ap (diagnosticLimit identifiers case) e ∙ ite-eq case 0 (some 11) none z)
 
+  -- the sentence of case 1
+  -- it has none
   pub diagnostic-silent : w ≡ 3 → (case ≡ 0 → ⊥) → none ≡ diagnosticLimit identifiers case w
   unfolding diagnosticLimit
   diagnostic-silent e z = sym (ap (diagnosticLimit identifiers case) e ∙ ite-ne case 0 (some 11) none z)
 
+  -- the name
+  -- 512, or 0
   pub diagnostic-name : w ≡ 4 → some 513 ≡ diagnosticLimit identifiers case w
   unfolding diagnosticLimit
   diagnostic-name e = sym (ap (diagnosticLimit identifiers case) e)

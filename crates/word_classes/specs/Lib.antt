@@ -1,3 +1,4 @@
 pub mod Classes
 pub mod ClassLaws
+pub mod StrayLaws
 pub mod OrderLaws

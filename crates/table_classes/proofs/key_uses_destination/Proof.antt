@@ -1,4 +1,4 @@
-use Rattle.table_classes.specs.KeyLaws.{key-create, key-function, destination-other}
+use Rattle.table_classes.specs.KeyUseLaws.{key-create, key-function, destination-other}
 use borrow.Author.Needs.{needs}
 use Rattle.table_classes.proofs.key_uses_destination.Statement.{statement}
 use Rattle.table_classes.proofs.key_uses_destination.Tie as tie

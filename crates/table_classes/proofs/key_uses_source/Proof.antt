@@ -1,4 +1,4 @@
-use Rattle.table_classes.specs.KeyLaws.{key-from, key-assign, key-assign-primitive, source-none}
+use Rattle.table_classes.specs.KeyUseLaws.{key-from, key-assign, key-assign-primitive, source-none}
 use Rattle.table_classes.proofs.key_uses_source.Statement.{statement}
 use Rattle.table_classes.proofs.key_uses_source.Tie as tie
 use Rattle.table_classes.proofs.key_uses_source.Reads as reads

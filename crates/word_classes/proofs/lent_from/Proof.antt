@@ -1,4 +1,4 @@
-use Rattle.word_classes.specs.ClassLaws.{lent-none, lent-all, lent-some}
+use Rattle.word_classes.specs.StrayLaws.{lent-none, lent-all, lent-some}
 use borrow.Author.Needs.{needs}
 use Rattle.word_classes.proofs.lent_from.Statement.{statement}
 use Rattle.word_classes.proofs.lent_from.Tie as tie

@@ -1,6 +1,6 @@
 use native.Mathlib.Omega.{arith}
 use Rattle.words.specs.WordLaws.{record-fits}
-use Rattle.word_classes.specs.ClassLaws.{after-none, after-some, left-fits}
+use Rattle.word_classes.specs.StrayLaws.{after-none, after-some, left-fits}
 use borrow.Author.Needs.{needs}
 use Rattle.word_classes.proofs.stray_after.Statement.{statement}
 use Rattle.word_classes.proofs.stray_after.Tie as tie

@@ -1,10 +1,10 @@
 use borrow.Author.Needs.{needs}
-use mathlib.Core.Path.{_≡_}
-use Prim.Native.Nat.{ℕ, _+_, _-_, _<_}
+use mathlib.Core.Path.{_≡_, sym, _∙_}
+use mathlib.Core.Path.{refl}
+use Prim.Native.Nat.{ℕ, _+_, _-_, _≤_, _<_}
 use native.Mathlib.Omega.{arith}
-use borrow.Author.Count.{below-more, below-none}
-use lib.ListN.{getD}
-use Rattle.word_classes.specs.ClassLaws.{lent-in, stray-found, stray-none}
+use Rattle.word_classes.specs.Classes.{strayFrom}
+use Rattle.word_classes.specs.StrayLaws.{lent-in, bitClass, bit-none, bit-some, stray-start, stray-more, stray-end}
 use Rattle.word_classes.proofs.stray_from.Statement.{statement}
 use Rattle.word_classes.proofs.stray_from.Tie as tie
 use Rattle.word_classes.proofs.stray_from.Reads as reads
@@ -12,50 +12,50 @@ use Rattle.word_classes.proofs.stray_from.Lts as lts
 use Rattle.word_classes.proofs.lent_from.Reads as lent-from-reads
 
 abbrev Inv-loop : tie.InvT-loop
-Inv-loop xs from n m k₀ k = (j : ℕ) → j < k → _≡_ {A = ℕ} (getD xs (from + j) 0) 0
+Inv-loop xs from n m all₀ k₀ all k = (k ≤ m) × (bitClass all ≡ strayFrom xs from k)
 
 abbrev μ-loop : tie.MeasureT-loop
-μ-loop xs from n m k₀ k = m - k
+μ-loop xs from n m all₀ k₀ all k = m - k
 
 -- src/lib.rt:103:9
 lent-from-requires : tie.Need-lent-from-requires Inv-loop μ-loop
 lent-from-requires c κs = search needs
 
--- src/lib.rt:105:5
+-- src/lib.rt:106:5
 loop-holds : tie.Need-loop-holds Inv-loop μ-loop
-loop-holds c = below-none _
+loop-holds c = (omega arith, stray-start _ _ 0)
 
--- src/lib.rt:106:15
-add-if1 : tie.Need-add-if1 Inv-loop μ-loop
-add-if1 c = let h = lent-in _ _ _ _ _ (c .before .before .lent-from .ensures) (c .loop-test .taken) in omega (arith, h .0)
+-- src/lib.rt:107:24
+add-all : tie.Need-add-all Inv-loop μ-loop
+add-all c = let h = lent-in _ _ _ _ _ (c .before .before .lent-from .ensures) (c .loop-test .taken) in omega (arith, h .0)
 
--- src/lib.rt:106:12
-mul-if1 : tie.Need-mul-if1 Inv-loop μ-loop
-mul-if1 c = let h = lent-in _ _ _ _ _ (c .before .before .lent-from .ensures) (c .loop-test .taken) in omega (arith, h .0)
+-- src/lib.rt:107:21
+mul-all : tie.Need-mul-all Inv-loop μ-loop
+mul-all c = let h = lent-in _ _ _ _ _ (c .before .before .lent-from .ensures) (c .loop-test .taken) in omega (arith, h .0)
 
--- src/lib.rt:106:12
-shared-slice-read-if1 : tie.Need-shared-slice-read-if1 Inv-loop μ-loop
-shared-slice-read-if1 c = let h = lent-in _ _ _ _ _ (c .before .before .before .lent-from .ensures) (c .before .loop-test .taken) in h .0
+-- src/lib.rt:107:21
+shared-slice-read-all : tie.Need-shared-slice-read-all Inv-loop μ-loop
+shared-slice-read-all c = let h = lent-in _ _ _ _ _ (c .before .before .before .lent-from .ensures) (c .before .loop-test .taken) in h .0
 
--- src/lib.rt:107:13
-returns : tie.Need-returns Inv-loop μ-loop
-returns c = stray-found _ _ _ _ _ (c .before .before .before .before .lent-from .ensures) (c .before .before .loop-test .taken) (c .if1 .taken)
-
--- src/lib.rt:109:9
+-- src/lib.rt:108:9
 add-k : tie.Need-add-k Inv-loop μ-loop
-add-k c = let h = lent-in _ _ _ _ _ (c .before .before .before .before .lent-from .ensures) (c .before .before .loop-test .taken) in omega (arith, h .0)
+add-k c = let h = lent-in _ _ _ _ _ (c .before .before .before .lent-from .ensures) (c .before .loop-test .taken) in omega (arith, h .0)
 
--- src/lib.rt:105:5
+-- src/lib.rt:106:5
 loop-less : tie.Need-loop-less Inv-loop μ-loop
 loop-less c = search needs
 
--- src/lib.rt:105:5
+-- src/lib.rt:106:5
 loop-again : tie.Need-loop-again Inv-loop μ-loop
-loop-again c = below-more _ _ (c .before .before .before .loop .inv) (c .if1 .left)
+loop-again c = (omega arith, stray-more _ _ 0 _ (c .before .before .loop .all) _ (c .before .before .loop .inv .1) refl)
+
+-- src/lib.rt:111:9
+returns : tie.Need-returns Inv-loop μ-loop
+returns c = bit-none _ (c .if1 .taken) ∙ stray-end _ _ _ _ _ (c .before .before .loop .all) (c .before .before .before .lent-from .ensures) (c .before .before .loop .inv .0) (c .before .loop-test .left) (c .before .before .loop .inv .1)
 
 -- src/lib.rt:100:1
 returns-2 : tie.Need-returns-2 Inv-loop μ-loop
-returns-2 c = stray-none _ _ _ _ _ (c .before .before .lent-from .ensures) (c .loop-test .left) (c .before .loop .inv)
+returns-2 c = bit-some _ (c .if1 .left) ∙ stray-end _ _ _ _ _ (c .before .before .loop .all) (c .before .before .before .lent-from .ensures) (c .before .before .loop .inv .0) (c .before .loop-test .left) (c .before .before .loop .inv .1)
 
 pub stray-from-spec : {M : Type 1} → statement M
 stray-from-spec =
@@ -65,11 +65,11 @@ stray-from-spec =
     μ-loop
     lent-from-requires
     loop-holds
-    add-if1
-    mul-if1
-    shared-slice-read-if1
-    returns
+    add-all
+    mul-all
+    shared-slice-read-all
     add-k
     loop-less
     loop-again
+    returns
     returns-2)
