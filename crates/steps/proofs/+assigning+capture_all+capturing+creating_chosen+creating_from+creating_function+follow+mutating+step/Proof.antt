@@ -175,8 +175,8 @@ step-at t = and 5 step-kinds.ps (is 5 step-kinds.ps μ-step t) step.Pre
 abbrev step-below : ℕ → In 5 step-kinds.ps
 step-below t = and 5 step-kinds.ps (falls 5 step-kinds.ps _<_ μ-step t) step.Pre
 
--- src/lib.rt:204:9
-assigning-begin-assign-requires : (t : ℕ) → assigning-lts.Need-begin-assign-requires (
+abbrev assigning-reads : ℕ → assigning-lts.Claims
+assigning-reads t = (
   begin-assign-reads.Asked,
   begin-assign-reads.Learnt,
   is-frozen-reads.Asked,
@@ -187,337 +187,153 @@ assigning-begin-assign-requires : (t : ℕ) → assigning-lts.Need-begin-assign-
   number-and-create-reads.Learnt,
   assign-rest-reads.Asked,
   assign-rest-reads.Learnt,
-) (assigning-at t) assigning.Post
+)
+
+abbrev capture-all-reads : ℕ → capture-all-lts.Claims
+capture-all-reads t = (
+  field-reads.Asked,
+  field-reads.Learnt,
+  place-in-reads.Asked,
+  place-in-reads.Learnt,
+  step-below t,
+  step.Post,
+)
+
+abbrev capturing-reads : ℕ → capturing-lts.Claims
+capturing-reads t = (
+  flow-reads.Asked,
+  flow-reads.Learnt,
+  follow-below t,
+  follow.Post,
+)
+
+abbrev creating-chosen-reads : ℕ → creating-chosen-lts.Claims
+creating-chosen-reads t = (
+  choose-captures-reads.Asked,
+  choose-captures-reads.Learnt,
+  creating-function-below t,
+  creating-function.Post,
+)
+
+abbrev creating-from-reads : ℕ → creating-from-lts.Claims
+creating-from-reads t = (
+  create-from-reads.Asked,
+  create-from-reads.Learnt,
+  follow-below t,
+  follow.Post,
+)
+
+abbrev creating-function-reads : ℕ → creating-function-lts.Claims
+creating-function-reads t = (
+  make-function-reads.Asked,
+  make-function-reads.Learnt,
+  capture-all-below t,
+  capture-all.Post,
+)
+
+abbrev follow-reads : ℕ → follow-lts.Claims
+follow-reads t = (
+  emit-reads.Asked,
+  emit-reads.Learnt,
+  step-below t,
+  step.Post,
+)
+
+abbrev mutating-reads : ℕ → mutating-lts.Claims
+mutating-reads t = (
+  mutation-reads.Asked,
+  mutation-reads.Learnt,
+  follow-below t,
+  follow.Post,
+)
+
+abbrev step-reads : ℕ → step-lts.Claims
+step-reads t = (
+  intern-reads.Asked,
+  intern-reads.Learnt,
+  act-of-reads.Asked,
+  act-of-reads.Learnt,
+  plain-reads.Asked,
+  plain-reads.Learnt,
+  mutating-below t,
+  mutating.Post,
+  capturing-below t,
+  capturing.Post,
+  assigning-below t,
+  assigning.Post,
+  creating-from-below t,
+  creating-from.Post,
+  creating-chosen-below t,
+  creating-chosen.Post,
+)
+
+assigning-begin-assign-requires : (t : ℕ) → assigning-lts.Need-begin-assign-requires (assigning-reads t) (assigning-at t) assigning.Post
 assigning-begin-assign-requires t c κs = search needs
 
--- src/lib.rt:207:9
-assigning-same-length : (t : ℕ) → assigning-lts.Need-same-length (
-  begin-assign-reads.Asked,
-  begin-assign-reads.Learnt,
-  is-frozen-reads.Asked,
-  is-frozen-reads.Learnt,
-  step-below t,
-  step.Post,
-  number-and-create-reads.Asked,
-  number-and-create-reads.Learnt,
-  assign-rest-reads.Asked,
-  assign-rest-reads.Learnt,
-) (assigning-at t) assigning.Post
+assigning-same-length : (t : ℕ) → assigning-lts.Need-same-length (assigning-reads t) (assigning-at t) assigning.Post
 assigning-same-length t c = search needs
 
--- src/lib.rt:207:9
-assigning-same-length-2 : (t : ℕ) → assigning-lts.Need-same-length-2 (
-  begin-assign-reads.Asked,
-  begin-assign-reads.Learnt,
-  is-frozen-reads.Asked,
-  is-frozen-reads.Learnt,
-  step-below t,
-  step.Post,
-  number-and-create-reads.Asked,
-  number-and-create-reads.Learnt,
-  assign-rest-reads.Asked,
-  assign-rest-reads.Learnt,
-) (assigning-at t) assigning.Post
+assigning-same-length-2 : (t : ℕ) → assigning-lts.Need-same-length-2 (assigning-reads t) (assigning-at t) assigning.Post
 assigning-same-length-2 t c = search needs
 
--- src/lib.rt:207:9
-assigning-returns : (t : ℕ) → assigning-lts.Need-returns (
-  begin-assign-reads.Asked,
-  begin-assign-reads.Learnt,
-  is-frozen-reads.Asked,
-  is-frozen-reads.Learnt,
-  step-below t,
-  step.Post,
-  number-and-create-reads.Asked,
-  number-and-create-reads.Learnt,
-  assign-rest-reads.Asked,
-  assign-rest-reads.Learnt,
-) (assigning-at t) assigning.Post
+assigning-returns : (t : ℕ) → assigning-lts.Need-returns (assigning-reads t) (assigning-at t) assigning.Post
 assigning-returns t c = part-stops _ _ _ _ (c .before .before .before .begin-assign .ensures (Text.step _) _ _) (c .if1 .taken)
 
--- src/lib.rt:214:8
-assigning-is-frozen-requires : (t : ℕ) → assigning-lts.Need-is-frozen-requires (
-  begin-assign-reads.Asked,
-  begin-assign-reads.Learnt,
-  is-frozen-reads.Asked,
-  is-frozen-reads.Learnt,
-  step-below t,
-  step.Post,
-  number-and-create-reads.Asked,
-  number-and-create-reads.Learnt,
-  assign-rest-reads.Asked,
-  assign-rest-reads.Learnt,
-) (assigning-at t) assigning.Post
+assigning-is-frozen-requires : (t : ℕ) → assigning-lts.Need-is-frozen-requires (assigning-reads t) (assigning-at t) assigning.Post
 assigning-is-frozen-requires t c κs = search needs
 
--- src/lib.rt:215:13
-assigning-step-requires : (t : ℕ) → assigning-lts.Need-step-requires (
-  begin-assign-reads.Asked,
-  begin-assign-reads.Learnt,
-  is-frozen-reads.Asked,
-  is-frozen-reads.Learnt,
-  step-below t,
-  step.Post,
-  number-and-create-reads.Asked,
-  number-and-create-reads.Learnt,
-  assign-rest-reads.Asked,
-  assign-rest-reads.Learnt,
-) (assigning-at t) assigning.Post
+assigning-step-requires : (t : ℕ) → assigning-lts.Need-step-requires (assigning-reads t) (assigning-at t) assigning.Post
 assigning-step-requires t c κs = search needs
 
--- src/lib.rt:227:13
-assigning-same-length-3 : (t : ℕ) → assigning-lts.Need-same-length-3 (
-  begin-assign-reads.Asked,
-  begin-assign-reads.Learnt,
-  is-frozen-reads.Asked,
-  is-frozen-reads.Learnt,
-  step-below t,
-  step.Post,
-  number-and-create-reads.Asked,
-  number-and-create-reads.Learnt,
-  assign-rest-reads.Asked,
-  assign-rest-reads.Learnt,
-) (assigning-at t) assigning.Post
+assigning-same-length-3 : (t : ℕ) → assigning-lts.Need-same-length-3 (assigning-reads t) (assigning-at t) assigning.Post
 assigning-same-length-3 t c = search needs
 
--- src/lib.rt:227:13
-assigning-same-length-4 : (t : ℕ) → assigning-lts.Need-same-length-4 (
-  begin-assign-reads.Asked,
-  begin-assign-reads.Learnt,
-  is-frozen-reads.Asked,
-  is-frozen-reads.Learnt,
-  step-below t,
-  step.Post,
-  number-and-create-reads.Asked,
-  number-and-create-reads.Learnt,
-  assign-rest-reads.Asked,
-  assign-rest-reads.Learnt,
-) (assigning-at t) assigning.Post
+assigning-same-length-4 : (t : ℕ) → assigning-lts.Need-same-length-4 (assigning-reads t) (assigning-at t) assigning.Post
 assigning-same-length-4 t c = search needs
 
--- src/lib.rt:227:13
-assigning-same-length-5 : (t : ℕ) → assigning-lts.Need-same-length-5 (
-  begin-assign-reads.Asked,
-  begin-assign-reads.Learnt,
-  is-frozen-reads.Asked,
-  is-frozen-reads.Learnt,
-  step-below t,
-  step.Post,
-  number-and-create-reads.Asked,
-  number-and-create-reads.Learnt,
-  assign-rest-reads.Asked,
-  assign-rest-reads.Learnt,
-) (assigning-at t) assigning.Post
+assigning-same-length-5 : (t : ℕ) → assigning-lts.Need-same-length-5 (assigning-reads t) (assigning-at t) assigning.Post
 assigning-same-length-5 t c = search needs
 
--- src/lib.rt:227:13
-assigning-same-length-6 : (t : ℕ) → assigning-lts.Need-same-length-6 (
-  begin-assign-reads.Asked,
-  begin-assign-reads.Learnt,
-  is-frozen-reads.Asked,
-  is-frozen-reads.Learnt,
-  step-below t,
-  step.Post,
-  number-and-create-reads.Asked,
-  number-and-create-reads.Learnt,
-  assign-rest-reads.Asked,
-  assign-rest-reads.Learnt,
-) (assigning-at t) assigning.Post
+assigning-same-length-6 : (t : ℕ) → assigning-lts.Need-same-length-6 (assigning-reads t) (assigning-at t) assigning.Post
 assigning-same-length-6 t c = search needs
 
--- src/lib.rt:227:13
-assigning-returns-2 : (t : ℕ) → assigning-lts.Need-returns-2 (
-  begin-assign-reads.Asked,
-  begin-assign-reads.Learnt,
-  is-frozen-reads.Asked,
-  is-frozen-reads.Learnt,
-  step-below t,
-  step.Post,
-  number-and-create-reads.Asked,
-  number-and-create-reads.Learnt,
-  assign-rest-reads.Asked,
-  assign-rest-reads.Learnt,
-) (assigning-at t) assigning.Post
+assigning-returns-2 : (t : ℕ) → assigning-lts.Need-returns-2 (assigning-reads t) (assigning-at t) assigning.Post
 assigning-returns-2 t c = part-goes _ _ _ _ (c .before .before .before .before .before .before .before .before .before .before .before .before .before .before .before .before .before .before .before .before .before .before .begin-assign .ensures (Text.step _) _ _) _ (c .before .before .before .before .before .before .before .before .before .before .before .before .before .before .before .before .before .before .before .if1 .left) (assign-stops _ _ _ _ _ _ _ (c .before .before .before .before .before .before .before .before .before .before .before .before .before .before .before .before .before .is-frozen .ensures) _ _ (c .before .before .before .before .before .before .before .before .before .before .before .before .before .before .before .before .if2 .taken) (c .before .before .before .before .before .before .before .before .before .before .before .step .ensures) (c .if3 .taken))
 
--- src/lib.rt:232:9
-assigning-number-and-create-requires : (t : ℕ) → assigning-lts.Need-number-and-create-requires (
-  begin-assign-reads.Asked,
-  begin-assign-reads.Learnt,
-  is-frozen-reads.Asked,
-  is-frozen-reads.Learnt,
-  step-below t,
-  step.Post,
-  number-and-create-reads.Asked,
-  number-and-create-reads.Learnt,
-  assign-rest-reads.Asked,
-  assign-rest-reads.Learnt,
-) (assigning-at t) assigning.Post
+assigning-number-and-create-requires : (t : ℕ) → assigning-lts.Need-number-and-create-requires (assigning-reads t) (assigning-at t) assigning.Post
 assigning-number-and-create-requires t c κs = search needs
 
--- src/lib.rt:232:9
-assigning-same-length-7 : (t : ℕ) → assigning-lts.Need-same-length-7 (
-  begin-assign-reads.Asked,
-  begin-assign-reads.Learnt,
-  is-frozen-reads.Asked,
-  is-frozen-reads.Learnt,
-  step-below t,
-  step.Post,
-  number-and-create-reads.Asked,
-  number-and-create-reads.Learnt,
-  assign-rest-reads.Asked,
-  assign-rest-reads.Learnt,
-) (assigning-at t) assigning.Post
+assigning-same-length-7 : (t : ℕ) → assigning-lts.Need-same-length-7 (assigning-reads t) (assigning-at t) assigning.Post
 assigning-same-length-7 t c = c .before .before .before .before .before .before .number-and-create .kept .0 ∙ c .before .before .before .before .before .before .before .before .before .before .before .before .before .before .before .before .before .before .before .before .before .step .kept .0
 
--- src/lib.rt:232:9
-assigning-same-length-8 : (t : ℕ) → assigning-lts.Need-same-length-8 (
-  begin-assign-reads.Asked,
-  begin-assign-reads.Learnt,
-  is-frozen-reads.Asked,
-  is-frozen-reads.Learnt,
-  step-below t,
-  step.Post,
-  number-and-create-reads.Asked,
-  number-and-create-reads.Learnt,
-  assign-rest-reads.Asked,
-  assign-rest-reads.Learnt,
-) (assigning-at t) assigning.Post
+assigning-same-length-8 : (t : ℕ) → assigning-lts.Need-same-length-8 (assigning-reads t) (assigning-at t) assigning.Post
 assigning-same-length-8 t c = c .before .before .before .before .before .before .number-and-create .kept .1 .0 ∙ c .before .before .before .before .before .before .before .before .before .before .before .before .before .before .before .before .before .before .before .before .before .step .kept .1 .0
 
--- src/lib.rt:232:9
-assigning-same-length-9 : (t : ℕ) → assigning-lts.Need-same-length-9 (
-  begin-assign-reads.Asked,
-  begin-assign-reads.Learnt,
-  is-frozen-reads.Asked,
-  is-frozen-reads.Learnt,
-  step-below t,
-  step.Post,
-  number-and-create-reads.Asked,
-  number-and-create-reads.Learnt,
-  assign-rest-reads.Asked,
-  assign-rest-reads.Learnt,
-) (assigning-at t) assigning.Post
+assigning-same-length-9 : (t : ℕ) → assigning-lts.Need-same-length-9 (assigning-reads t) (assigning-at t) assigning.Post
 assigning-same-length-9 t c = c .before .before .before .before .before .before .number-and-create .kept .1 .1 .0 ∙ c .before .before .before .before .before .before .before .before .before .before .before .before .before .before .before .before .before .before .before .before .before .step .kept .1 .1 .0
 
--- src/lib.rt:232:9
-assigning-same-length-10 : (t : ℕ) → assigning-lts.Need-same-length-10 (
-  begin-assign-reads.Asked,
-  begin-assign-reads.Learnt,
-  is-frozen-reads.Asked,
-  is-frozen-reads.Learnt,
-  step-below t,
-  step.Post,
-  number-and-create-reads.Asked,
-  number-and-create-reads.Learnt,
-  assign-rest-reads.Asked,
-  assign-rest-reads.Learnt,
-) (assigning-at t) assigning.Post
+assigning-same-length-10 : (t : ℕ) → assigning-lts.Need-same-length-10 (assigning-reads t) (assigning-at t) assigning.Post
 assigning-same-length-10 t c = c .before .before .before .before .before .before .before .before .before .before .before .before .before .before .before .before .before .before .before .before .before .step .kept .1 .1 .1 .0
 
--- src/lib.rt:232:9
-assigning-returns-3 : (t : ℕ) → assigning-lts.Need-returns-3 (
-  begin-assign-reads.Asked,
-  begin-assign-reads.Learnt,
-  is-frozen-reads.Asked,
-  is-frozen-reads.Learnt,
-  step-below t,
-  step.Post,
-  number-and-create-reads.Asked,
-  number-and-create-reads.Learnt,
-  assign-rest-reads.Asked,
-  assign-rest-reads.Learnt,
-) (assigning-at t) assigning.Post
+assigning-returns-3 : (t : ℕ) → assigning-lts.Need-returns-3 (assigning-reads t) (assigning-at t) assigning.Post
 assigning-returns-3 t c = part-goes _ _ _ _ (c .before .before .before .before .before .before .before .before .before .before .before .before .before .before .before .before .before .before .before .before .before .before .before .before .before .before .before .before .before .before .before .before .begin-assign .ensures (Text.step _) _ _) _ (c .before .before .before .before .before .before .before .before .before .before .before .before .before .before .before .before .before .before .before .before .before .before .before .before .before .before .before .before .before .if1 .left) (assign-goes _ _ _ _ _ _ _ (c .before .before .before .before .before .before .before .before .before .before .before .before .before .before .before .before .before .before .before .before .before .before .before .before .before .before .before .is-frozen .ensures) _ _ (c .before .before .before .before .before .before .before .before .before .before .before .before .before .before .before .before .before .before .before .before .before .before .before .before .before .before .if2 .taken) (c .before .before .before .before .before .before .before .before .before .before .before .before .before .before .before .before .before .before .before .before .before .step .ensures) _ (c .before .before .before .before .before .before .before .before .before .before .if3 .left) (c .before .before .before .before .before .before .number-and-create .ensures _))
 
--- src/lib.rt:234:5
-assigning-assign-rest-requires : (t : ℕ) → assigning-lts.Need-assign-rest-requires (
-  begin-assign-reads.Asked,
-  begin-assign-reads.Learnt,
-  is-frozen-reads.Asked,
-  is-frozen-reads.Learnt,
-  step-below t,
-  step.Post,
-  number-and-create-reads.Asked,
-  number-and-create-reads.Learnt,
-  assign-rest-reads.Asked,
-  assign-rest-reads.Learnt,
-) (assigning-at t) assigning.Post
+assigning-assign-rest-requires : (t : ℕ) → assigning-lts.Need-assign-rest-requires (assigning-reads t) (assigning-at t) assigning.Post
 assigning-assign-rest-requires t c κs = search needs
 
--- src/lib.rt:191:1
-assigning-same-length-11 : (t : ℕ) → assigning-lts.Need-same-length-11 (
-  begin-assign-reads.Asked,
-  begin-assign-reads.Learnt,
-  is-frozen-reads.Asked,
-  is-frozen-reads.Learnt,
-  step-below t,
-  step.Post,
-  number-and-create-reads.Asked,
-  number-and-create-reads.Learnt,
-  assign-rest-reads.Asked,
-  assign-rest-reads.Learnt,
-) (assigning-at t) assigning.Post
+assigning-same-length-11 : (t : ℕ) → assigning-lts.Need-same-length-11 (assigning-reads t) (assigning-at t) assigning.Post
 assigning-same-length-11 t c = search needs
 
--- src/lib.rt:191:1
-assigning-same-length-12 : (t : ℕ) → assigning-lts.Need-same-length-12 (
-  begin-assign-reads.Asked,
-  begin-assign-reads.Learnt,
-  is-frozen-reads.Asked,
-  is-frozen-reads.Learnt,
-  step-below t,
-  step.Post,
-  number-and-create-reads.Asked,
-  number-and-create-reads.Learnt,
-  assign-rest-reads.Asked,
-  assign-rest-reads.Learnt,
-) (assigning-at t) assigning.Post
+assigning-same-length-12 : (t : ℕ) → assigning-lts.Need-same-length-12 (assigning-reads t) (assigning-at t) assigning.Post
 assigning-same-length-12 t c = search needs
 
--- src/lib.rt:191:1
-assigning-same-length-13 : (t : ℕ) → assigning-lts.Need-same-length-13 (
-  begin-assign-reads.Asked,
-  begin-assign-reads.Learnt,
-  is-frozen-reads.Asked,
-  is-frozen-reads.Learnt,
-  step-below t,
-  step.Post,
-  number-and-create-reads.Asked,
-  number-and-create-reads.Learnt,
-  assign-rest-reads.Asked,
-  assign-rest-reads.Learnt,
-) (assigning-at t) assigning.Post
+assigning-same-length-13 : (t : ℕ) → assigning-lts.Need-same-length-13 (assigning-reads t) (assigning-at t) assigning.Post
 assigning-same-length-13 t c = search needs
 
--- src/lib.rt:191:1
-assigning-same-length-14 : (t : ℕ) → assigning-lts.Need-same-length-14 (
-  begin-assign-reads.Asked,
-  begin-assign-reads.Learnt,
-  is-frozen-reads.Asked,
-  is-frozen-reads.Learnt,
-  step-below t,
-  step.Post,
-  number-and-create-reads.Asked,
-  number-and-create-reads.Learnt,
-  assign-rest-reads.Asked,
-  assign-rest-reads.Learnt,
-) (assigning-at t) assigning.Post
+assigning-same-length-14 : (t : ℕ) → assigning-lts.Need-same-length-14 (assigning-reads t) (assigning-at t) assigning.Post
 assigning-same-length-14 t c = search needs
 
--- src/lib.rt:191:1
-assigning-returns-4 : (t : ℕ) → assigning-lts.Need-returns-4 (
-  begin-assign-reads.Asked,
-  begin-assign-reads.Learnt,
-  is-frozen-reads.Asked,
-  is-frozen-reads.Learnt,
-  step-below t,
-  step.Post,
-  number-and-create-reads.Asked,
-  number-and-create-reads.Learnt,
-  assign-rest-reads.Asked,
-  assign-rest-reads.Learnt,
-) (assigning-at t) assigning.Post
+assigning-returns-4 : (t : ℕ) → assigning-lts.Need-returns-4 (assigning-reads t) (assigning-at t) assigning.Post
 assigning-returns-4 t c = part-goes _ _ _ _ (c .before .before .before .before .before .before .before .before .before .before .before .before .before .before .before .before .before .before .before .begin-assign .ensures (Text.step _) _ _) _ (c .before .before .before .before .before .before .before .before .before .before .before .before .before .before .before .before .if1 .left) (assign-plain _ _ _ _ [] _ _ (c .before .before .before .before .before .before .before .before .before .before .before .before .before .before .is-frozen .ensures) _ (c .before .before .before .before .before .before .before .before .before .before .before .before .before .if2 .left) (c .before .before .before .before .before .before .before .before .assign-rest .ensures))
 
 abbrev capture-all-Inv-loop : capture-all-lts.InvT-loop
@@ -531,1891 +347,417 @@ capture-all-Inv-loop values₀ sets₀ context₀ output₀ depth into captures 
 abbrev capture-all-μ-loop : capture-all-lts.MeasureT-loop
 capture-all-μ-loop values₀ sets₀ context₀ output₀ depth into captures n now₀ k₀ values sets context output now k = n - k
 
--- src/lib.rt:261:9
-capture-all-field-requires : (t : ℕ) → capture-all-lts.Need-field-requires (
-  field-reads.Asked,
-  field-reads.Learnt,
-  place-in-reads.Asked,
-  place-in-reads.Learnt,
-  step-below t,
-  step.Post,
-) (capture-all-at t) capture-all.Post capture-all-Inv-loop capture-all-μ-loop
+capture-all-field-requires : (t : ℕ) → capture-all-lts.Need-field-requires (capture-all-reads t) (capture-all-at t) capture-all.Post capture-all-Inv-loop capture-all-μ-loop
 capture-all-field-requires t c κs = search needs
 
--- src/lib.rt:264:5
-capture-all-loop-holds : (t : ℕ) → capture-all-lts.Need-loop-holds (
-  field-reads.Asked,
-  field-reads.Learnt,
-  place-in-reads.Asked,
-  place-in-reads.Learnt,
-  step-below t,
-  step.Post,
-) (capture-all-at t) capture-all.Post capture-all-Inv-loop capture-all-μ-loop
+capture-all-loop-holds : (t : ℕ) → capture-all-lts.Need-loop-holds (capture-all-reads t) (capture-all-at t) capture-all.Post capture-all-Inv-loop capture-all-μ-loop
 capture-all-loop-holds t c = (refl, refl, refl, refl, refl)
 
--- src/lib.rt:265:13
-capture-all-place-in-requires : (t : ℕ) → capture-all-lts.Need-place-in-requires (
-  field-reads.Asked,
-  field-reads.Learnt,
-  place-in-reads.Asked,
-  place-in-reads.Learnt,
-  step-below t,
-  step.Post,
-) (capture-all-at t) capture-all.Post capture-all-Inv-loop capture-all-μ-loop
+capture-all-place-in-requires : (t : ℕ) → capture-all-lts.Need-place-in-requires (capture-all-reads t) (capture-all-at t) capture-all.Post capture-all-Inv-loop capture-all-μ-loop
 capture-all-place-in-requires t c κs = search needs
 
--- src/lib.rt:266:13
-capture-all-step-requires : (t : ℕ) → capture-all-lts.Need-step-requires (
-  field-reads.Asked,
-  field-reads.Learnt,
-  place-in-reads.Asked,
-  place-in-reads.Learnt,
-  step-below t,
-  step.Post,
-) (capture-all-at t) capture-all.Post capture-all-Inv-loop capture-all-μ-loop
+capture-all-step-requires : (t : ℕ) → capture-all-lts.Need-step-requires (capture-all-reads t) (capture-all-at t) capture-all.Post capture-all-Inv-loop capture-all-μ-loop
 capture-all-step-requires t c κs = search needs
 
--- src/lib.rt:277:13
-capture-all-same-length : (t : ℕ) → capture-all-lts.Need-same-length (
-  field-reads.Asked,
-  field-reads.Learnt,
-  place-in-reads.Asked,
-  place-in-reads.Learnt,
-  step-below t,
-  step.Post,
-) (capture-all-at t) capture-all.Post capture-all-Inv-loop capture-all-μ-loop
+capture-all-same-length : (t : ℕ) → capture-all-lts.Need-same-length (capture-all-reads t) (capture-all-at t) capture-all.Post capture-all-Inv-loop capture-all-μ-loop
 capture-all-same-length t c = search needs
 
--- src/lib.rt:277:13
-capture-all-same-length-2 : (t : ℕ) → capture-all-lts.Need-same-length-2 (
-  field-reads.Asked,
-  field-reads.Learnt,
-  place-in-reads.Asked,
-  place-in-reads.Learnt,
-  step-below t,
-  step.Post,
-) (capture-all-at t) capture-all.Post capture-all-Inv-loop capture-all-μ-loop
+capture-all-same-length-2 : (t : ℕ) → capture-all-lts.Need-same-length-2 (capture-all-reads t) (capture-all-at t) capture-all.Post capture-all-Inv-loop capture-all-μ-loop
 capture-all-same-length-2 t c = search needs
 
--- src/lib.rt:277:13
-capture-all-same-length-3 : (t : ℕ) → capture-all-lts.Need-same-length-3 (
-  field-reads.Asked,
-  field-reads.Learnt,
-  place-in-reads.Asked,
-  place-in-reads.Learnt,
-  step-below t,
-  step.Post,
-) (capture-all-at t) capture-all.Post capture-all-Inv-loop capture-all-μ-loop
+capture-all-same-length-3 : (t : ℕ) → capture-all-lts.Need-same-length-3 (capture-all-reads t) (capture-all-at t) capture-all.Post capture-all-Inv-loop capture-all-μ-loop
 capture-all-same-length-3 t c = search needs
 
--- src/lib.rt:277:13
-capture-all-same-length-4 : (t : ℕ) → capture-all-lts.Need-same-length-4 (
-  field-reads.Asked,
-  field-reads.Learnt,
-  place-in-reads.Asked,
-  place-in-reads.Learnt,
-  step-below t,
-  step.Post,
-) (capture-all-at t) capture-all.Post capture-all-Inv-loop capture-all-μ-loop
+capture-all-same-length-4 : (t : ℕ) → capture-all-lts.Need-same-length-4 (capture-all-reads t) (capture-all-at t) capture-all.Post capture-all-Inv-loop capture-all-μ-loop
 capture-all-same-length-4 t c = search needs
 
--- src/lib.rt:277:13
-capture-all-returns : (t : ℕ) → capture-all-lts.Need-returns (
-  field-reads.Asked,
-  field-reads.Learnt,
-  place-in-reads.Asked,
-  place-in-reads.Learnt,
-  step-below t,
-  step.Post,
-) (capture-all-at t) capture-all.Post capture-all-Inv-loop capture-all-μ-loop
+capture-all-returns : (t : ℕ) → capture-all-lts.Need-returns (capture-all-reads t) (capture-all-at t) capture-all.Post capture-all-Inv-loop capture-all-μ-loop
 capture-all-returns t c = captures-start (Text.step (c .before .before .before .before .before .before .before .before .before .before .before .before .before .before .before .before .before .before .before .before .before .before .before .before .args .depth)) (c .before .before .before .before .before .before .before .before .before .before .before .before .before .before .before .before .before .before .before .before .before .before .before .before .args .into) _ _ _ (c .before .before .before .before .before .before .before .before .before .before .before .before .before .before .before .before .before .before .field .ensures) ∙ c .before .before .before .before .before .before .before .before .before .before .before .before .before .before .before .before .before .loop .inv .4 ∙ captures-stop (Text.step (c .before .before .before .before .before .before .before .before .before .before .before .before .before .before .before .before .before .before .before .before .before .before .before .before .args .depth)) (c .before .before .before .before .before .before .before .before .before .before .before .before .before .before .before .before .before .before .before .before .before .before .before .before .args .into) _ _ _ _ _ _ _ _ (c .before .before .before .before .before .before .before .before .before .before .before .before .before .before .before .before .loop-test .taken) (c .before .before .before .before .before .before .before .before .before .before .before .before .before .before .before .place-in .ensures) (c .before .before .before .before .before .before .before .before .before .before .step .ensures) (c .if1 .taken)
 
--- src/lib.rt:280:9
-capture-all-add-k : (t : ℕ) → capture-all-lts.Need-add-k (
-  field-reads.Asked,
-  field-reads.Learnt,
-  place-in-reads.Asked,
-  place-in-reads.Learnt,
-  step-below t,
-  step.Post,
-) (capture-all-at t) capture-all.Post capture-all-Inv-loop capture-all-μ-loop
+capture-all-add-k : (t : ℕ) → capture-all-lts.Need-add-k (capture-all-reads t) (capture-all-at t) capture-all.Post capture-all-Inv-loop capture-all-μ-loop
 capture-all-add-k t c = search needs
 
--- src/lib.rt:264:5
-capture-all-loop-less : (t : ℕ) → capture-all-lts.Need-loop-less (
-  field-reads.Asked,
-  field-reads.Learnt,
-  place-in-reads.Asked,
-  place-in-reads.Learnt,
-  step-below t,
-  step.Post,
-) (capture-all-at t) capture-all.Post capture-all-Inv-loop capture-all-μ-loop
+capture-all-loop-less : (t : ℕ) → capture-all-lts.Need-loop-less (capture-all-reads t) (capture-all-at t) capture-all.Post capture-all-Inv-loop capture-all-μ-loop
 capture-all-loop-less t c = search needs
 
--- src/lib.rt:264:5
-capture-all-loop-again : (t : ℕ) → capture-all-lts.Need-loop-again (
-  field-reads.Asked,
-  field-reads.Learnt,
-  place-in-reads.Asked,
-  place-in-reads.Learnt,
-  step-below t,
-  step.Post,
-) (capture-all-at t) capture-all.Post capture-all-Inv-loop capture-all-μ-loop
+capture-all-loop-again : (t : ℕ) → capture-all-lts.Need-loop-again (capture-all-reads t) (capture-all-at t) capture-all.Post capture-all-Inv-loop capture-all-μ-loop
 capture-all-loop-again t c = (c .before .before .before .before .before .before .before .before .before .before .before .step .kept .0 ∙ c .before .before .before .before .before .before .before .before .before .before .before .before .before .before .before .before .before .before .loop .inv .0, c .before .before .before .before .before .before .before .before .before .before .before .step .kept .1 .0 ∙ c .before .before .before .before .before .before .before .before .before .before .before .before .before .before .before .before .before .before .loop .inv .1, c .before .before .before .before .before .before .before .before .before .before .before .step .kept .1 .1 .0 ∙ c .before .before .before .before .before .before .before .before .before .before .before .before .before .before .before .before .before .before .loop .inv .2, c .before .before .before .before .before .before .before .before .before .before .before .step .kept .1 .1 .1 .0 ∙ c .before .before .before .before .before .before .before .before .before .before .before .before .before .before .before .before .before .before .loop .inv .3, c .before .before .before .before .before .before .before .before .before .before .before .before .before .before .before .before .before .before .loop .inv .4 ∙ captures-next (Text.step (c .before .before .before .before .before .before .before .before .before .before .before .before .before .before .before .before .before .before .before .before .before .before .before .before .before .args .depth)) (c .before .before .before .before .before .before .before .before .before .before .before .before .before .before .before .before .before .before .before .before .before .before .before .before .before .args .into) _ _ _ _ _ _ _ _ (c .before .before .before .before .before .before .before .before .before .before .before .before .before .before .before .before .before .loop-test .taken) (c .before .before .before .before .before .before .before .before .before .before .before .before .before .before .before .before .place-in .ensures) (c .before .before .before .before .before .before .before .before .before .before .before .step .ensures) (c .before .if1 .left))
 
--- src/lib.rt:249:1
-capture-all-same-length-5 : (t : ℕ) → capture-all-lts.Need-same-length-5 (
-  field-reads.Asked,
-  field-reads.Learnt,
-  place-in-reads.Asked,
-  place-in-reads.Learnt,
-  step-below t,
-  step.Post,
-) (capture-all-at t) capture-all.Post capture-all-Inv-loop capture-all-μ-loop
+capture-all-same-length-5 : (t : ℕ) → capture-all-lts.Need-same-length-5 (capture-all-reads t) (capture-all-at t) capture-all.Post capture-all-Inv-loop capture-all-μ-loop
 capture-all-same-length-5 t c = search needs
 
--- src/lib.rt:249:1
-capture-all-same-length-6 : (t : ℕ) → capture-all-lts.Need-same-length-6 (
-  field-reads.Asked,
-  field-reads.Learnt,
-  place-in-reads.Asked,
-  place-in-reads.Learnt,
-  step-below t,
-  step.Post,
-) (capture-all-at t) capture-all.Post capture-all-Inv-loop capture-all-μ-loop
+capture-all-same-length-6 : (t : ℕ) → capture-all-lts.Need-same-length-6 (capture-all-reads t) (capture-all-at t) capture-all.Post capture-all-Inv-loop capture-all-μ-loop
 capture-all-same-length-6 t c = search needs
 
--- src/lib.rt:249:1
-capture-all-same-length-7 : (t : ℕ) → capture-all-lts.Need-same-length-7 (
-  field-reads.Asked,
-  field-reads.Learnt,
-  place-in-reads.Asked,
-  place-in-reads.Learnt,
-  step-below t,
-  step.Post,
-) (capture-all-at t) capture-all.Post capture-all-Inv-loop capture-all-μ-loop
+capture-all-same-length-7 : (t : ℕ) → capture-all-lts.Need-same-length-7 (capture-all-reads t) (capture-all-at t) capture-all.Post capture-all-Inv-loop capture-all-μ-loop
 capture-all-same-length-7 t c = search needs
 
--- src/lib.rt:249:1
-capture-all-same-length-8 : (t : ℕ) → capture-all-lts.Need-same-length-8 (
-  field-reads.Asked,
-  field-reads.Learnt,
-  place-in-reads.Asked,
-  place-in-reads.Learnt,
-  step-below t,
-  step.Post,
-) (capture-all-at t) capture-all.Post capture-all-Inv-loop capture-all-μ-loop
+capture-all-same-length-8 : (t : ℕ) → capture-all-lts.Need-same-length-8 (capture-all-reads t) (capture-all-at t) capture-all.Post capture-all-Inv-loop capture-all-μ-loop
 capture-all-same-length-8 t c = search needs
 
--- src/lib.rt:249:1
-capture-all-returns-2 : (t : ℕ) → capture-all-lts.Need-returns-2 (
-  field-reads.Asked,
-  field-reads.Learnt,
-  place-in-reads.Asked,
-  place-in-reads.Learnt,
-  step-below t,
-  step.Post,
-) (capture-all-at t) capture-all.Post capture-all-Inv-loop capture-all-μ-loop
+capture-all-returns-2 : (t : ℕ) → capture-all-lts.Need-returns-2 (capture-all-reads t) (capture-all-at t) capture-all.Post capture-all-Inv-loop capture-all-μ-loop
 capture-all-returns-2 t c = captures-start (Text.step (c .before .before .before .before .before .before .before .before .args .depth)) (c .before .before .before .before .before .before .before .before .args .into) _ _ _ (c .before .before .field .ensures) ∙ c .before .loop .inv .4 ∙ captures-end (Text.step (c .before .before .before .before .before .before .before .before .args .depth)) (c .before .before .before .before .before .before .before .before .args .into) _ _ _ _ (c .loop-test .left)
 
--- src/lib.rt:92:9
-capturing-flow-requires : (t : ℕ) → capturing-lts.Need-flow-requires (
-  flow-reads.Asked,
-  flow-reads.Learnt,
-  follow-below t,
-  follow.Post,
-) (capturing-at t) capturing.Post
+capturing-flow-requires : (t : ℕ) → capturing-lts.Need-flow-requires (capturing-reads t) (capturing-at t) capturing.Post
 capturing-flow-requires t c κs = search needs
 
--- src/lib.rt:95:9
-capturing-same-length : (t : ℕ) → capturing-lts.Need-same-length (
-  flow-reads.Asked,
-  flow-reads.Learnt,
-  follow-below t,
-  follow.Post,
-) (capturing-at t) capturing.Post
+capturing-same-length : (t : ℕ) → capturing-lts.Need-same-length (capturing-reads t) (capturing-at t) capturing.Post
 capturing-same-length t c = search needs
 
--- src/lib.rt:95:9
-capturing-same-length-2 : (t : ℕ) → capturing-lts.Need-same-length-2 (
-  flow-reads.Asked,
-  flow-reads.Learnt,
-  follow-below t,
-  follow.Post,
-) (capturing-at t) capturing.Post
+capturing-same-length-2 : (t : ℕ) → capturing-lts.Need-same-length-2 (capturing-reads t) (capturing-at t) capturing.Post
 capturing-same-length-2 t c = search needs
 
--- src/lib.rt:95:9
-capturing-returns : (t : ℕ) → capturing-lts.Need-returns (
-  flow-reads.Asked,
-  flow-reads.Learnt,
-  follow-below t,
-  follow.Post,
-) (capturing-at t) capturing.Post
+capturing-returns : (t : ℕ) → capturing-lts.Need-returns (capturing-reads t) (capturing-at t) capturing.Post
 capturing-returns t c = part-stops _ _ _ _ (c .before .before .before .flow .ensures (Text.step _) _ [] _ _) (c .if1 .taken)
 
--- src/lib.rt:101:5
-capturing-follow-requires : (t : ℕ) → capturing-lts.Need-follow-requires (
-  flow-reads.Asked,
-  flow-reads.Learnt,
-  follow-below t,
-  follow.Post,
-) (capturing-at t) capturing.Post
+capturing-follow-requires : (t : ℕ) → capturing-lts.Need-follow-requires (capturing-reads t) (capturing-at t) capturing.Post
 capturing-follow-requires t c κs = search needs
 
--- src/lib.rt:76:1
-capturing-same-length-3 : (t : ℕ) → capturing-lts.Need-same-length-3 (
-  flow-reads.Asked,
-  flow-reads.Learnt,
-  follow-below t,
-  follow.Post,
-) (capturing-at t) capturing.Post
+capturing-same-length-3 : (t : ℕ) → capturing-lts.Need-same-length-3 (capturing-reads t) (capturing-at t) capturing.Post
 capturing-same-length-3 t c = search needs
 
--- src/lib.rt:76:1
-capturing-same-length-4 : (t : ℕ) → capturing-lts.Need-same-length-4 (
-  flow-reads.Asked,
-  flow-reads.Learnt,
-  follow-below t,
-  follow.Post,
-) (capturing-at t) capturing.Post
+capturing-same-length-4 : (t : ℕ) → capturing-lts.Need-same-length-4 (capturing-reads t) (capturing-at t) capturing.Post
 capturing-same-length-4 t c = search needs
 
--- src/lib.rt:76:1
-capturing-same-length-5 : (t : ℕ) → capturing-lts.Need-same-length-5 (
-  flow-reads.Asked,
-  flow-reads.Learnt,
-  follow-below t,
-  follow.Post,
-) (capturing-at t) capturing.Post
+capturing-same-length-5 : (t : ℕ) → capturing-lts.Need-same-length-5 (capturing-reads t) (capturing-at t) capturing.Post
 capturing-same-length-5 t c = search needs
 
--- src/lib.rt:76:1
-capturing-same-length-6 : (t : ℕ) → capturing-lts.Need-same-length-6 (
-  flow-reads.Asked,
-  flow-reads.Learnt,
-  follow-below t,
-  follow.Post,
-) (capturing-at t) capturing.Post
+capturing-same-length-6 : (t : ℕ) → capturing-lts.Need-same-length-6 (capturing-reads t) (capturing-at t) capturing.Post
 capturing-same-length-6 t c = search needs
 
--- src/lib.rt:76:1
-capturing-returns-2 : (t : ℕ) → capturing-lts.Need-returns-2 (
-  flow-reads.Asked,
-  flow-reads.Learnt,
-  follow-below t,
-  follow.Post,
-) (capturing-at t) capturing.Post
+capturing-returns-2 : (t : ℕ) → capturing-lts.Need-returns-2 (capturing-reads t) (capturing-at t) capturing.Post
 capturing-returns-2 t c = part-goes _ _ _ _ (c .before .before .before .before .before .before .before .before .before .before .before .before .before .before .before .before .flow .ensures (Text.step _) _ _ _ _) _ (c .before .before .before .before .before .before .before .before .before .before .before .before .before .if1 .left) (c .before .before .before .before .before .before .before .before .follow .ensures)
 
--- src/lib.rt:331:47
 creating-chosen-slice-aggregate-choose-captures :
-    (t : ℕ) → creating-chosen-lts.Need-slice-aggregate-choose-captures (
-      choose-captures-reads.Asked,
-      choose-captures-reads.Learnt,
-      creating-function-below t,
-      creating-function.Post,
-    ) (creating-chosen-at t) creating-chosen.Post
+    (t : ℕ) → creating-chosen-lts.Need-slice-aggregate-choose-captures (creating-chosen-reads t) (creating-chosen-at t) creating-chosen.Post
 creating-chosen-slice-aggregate-choose-captures t c = search needs
 
--- src/lib.rt:331:5
 creating-chosen-choose-captures-requires :
-    (t : ℕ) → creating-chosen-lts.Need-choose-captures-requires (
-      choose-captures-reads.Asked,
-      choose-captures-reads.Learnt,
-      creating-function-below t,
-      creating-function.Post,
-    ) (creating-chosen-at t) creating-chosen.Post
+    (t : ℕ) → creating-chosen-lts.Need-choose-captures-requires (creating-chosen-reads t) (creating-chosen-at t) creating-chosen.Post
 creating-chosen-choose-captures-requires t c κs = search needs
 
--- src/lib.rt:341:9
 creating-chosen-slice-aggregate-creating-function :
-    (t : ℕ) → creating-chosen-lts.Need-slice-aggregate-creating-function (
-      choose-captures-reads.Asked,
-      choose-captures-reads.Learnt,
-      creating-function-below t,
-      creating-function.Post,
-    ) (creating-chosen-at t) creating-chosen.Post
+    (t : ℕ) → creating-chosen-lts.Need-slice-aggregate-creating-function (creating-chosen-reads t) (creating-chosen-at t) creating-chosen.Post
 creating-chosen-slice-aggregate-creating-function t c = search needs
 
--- src/lib.rt:332:5
 creating-chosen-creating-function-requires :
-    (t : ℕ) → creating-chosen-lts.Need-creating-function-requires (
-      choose-captures-reads.Asked,
-      choose-captures-reads.Learnt,
-      creating-function-below t,
-      creating-function.Post,
-    ) (creating-chosen-at t) creating-chosen.Post
+    (t : ℕ) → creating-chosen-lts.Need-creating-function-requires (creating-chosen-reads t) (creating-chosen-at t) creating-chosen.Post
 creating-chosen-creating-function-requires t c κs = search needs
 
--- src/lib.rt:316:1
-creating-chosen-same-length : (t : ℕ) → creating-chosen-lts.Need-same-length (
-  choose-captures-reads.Asked,
-  choose-captures-reads.Learnt,
-  creating-function-below t,
-  creating-function.Post,
-) (creating-chosen-at t) creating-chosen.Post
+creating-chosen-same-length : (t : ℕ) → creating-chosen-lts.Need-same-length (creating-chosen-reads t) (creating-chosen-at t) creating-chosen.Post
 creating-chosen-same-length t c = search needs
 
--- src/lib.rt:316:1
-creating-chosen-same-length-2 : (t : ℕ) → creating-chosen-lts.Need-same-length-2 (
-  choose-captures-reads.Asked,
-  choose-captures-reads.Learnt,
-  creating-function-below t,
-  creating-function.Post,
-) (creating-chosen-at t) creating-chosen.Post
+creating-chosen-same-length-2 : (t : ℕ) → creating-chosen-lts.Need-same-length-2 (creating-chosen-reads t) (creating-chosen-at t) creating-chosen.Post
 creating-chosen-same-length-2 t c = search needs
 
--- src/lib.rt:316:1
-creating-chosen-same-length-3 : (t : ℕ) → creating-chosen-lts.Need-same-length-3 (
-  choose-captures-reads.Asked,
-  choose-captures-reads.Learnt,
-  creating-function-below t,
-  creating-function.Post,
-) (creating-chosen-at t) creating-chosen.Post
+creating-chosen-same-length-3 : (t : ℕ) → creating-chosen-lts.Need-same-length-3 (creating-chosen-reads t) (creating-chosen-at t) creating-chosen.Post
 creating-chosen-same-length-3 t c = search needs
 
--- src/lib.rt:316:1
-creating-chosen-same-length-4 : (t : ℕ) → creating-chosen-lts.Need-same-length-4 (
-  choose-captures-reads.Asked,
-  choose-captures-reads.Learnt,
-  creating-function-below t,
-  creating-function.Post,
-) (creating-chosen-at t) creating-chosen.Post
+creating-chosen-same-length-4 : (t : ℕ) → creating-chosen-lts.Need-same-length-4 (creating-chosen-reads t) (creating-chosen-at t) creating-chosen.Post
 creating-chosen-same-length-4 t c = search needs
 
--- src/lib.rt:316:1
-creating-chosen-returns : (t : ℕ) → creating-chosen-lts.Need-returns (
-  choose-captures-reads.Asked,
-  choose-captures-reads.Learnt,
-  creating-function-below t,
-  creating-function.Post,
-) (creating-chosen-at t) creating-chosen.Post
+creating-chosen-returns : (t : ℕ) → creating-chosen-lts.Need-returns (creating-chosen-reads t) (creating-chosen-at t) creating-chosen.Post
 creating-chosen-returns t c = chosen-copied _ _ _ _ _ _ _ (c .before .before .before .before .before .before .before .before .before .before .before .before .before .before .before .choose-captures .ensures refl) (c .before .before .before .before .before .before .before .before .creating-function .ensures)
 
--- src/lib.rt:167:9
-creating-from-create-from-requires : (t : ℕ) → creating-from-lts.Need-create-from-requires (
-  create-from-reads.Asked,
-  create-from-reads.Learnt,
-  follow-below t,
-  follow.Post,
-) (creating-from-at t) creating-from.Post
+creating-from-create-from-requires : (t : ℕ) → creating-from-lts.Need-create-from-requires (creating-from-reads t) (creating-from-at t) creating-from.Post
 creating-from-create-from-requires t c κs = search needs
 
--- src/lib.rt:170:9
-creating-from-same-length : (t : ℕ) → creating-from-lts.Need-same-length (
-  create-from-reads.Asked,
-  create-from-reads.Learnt,
-  follow-below t,
-  follow.Post,
-) (creating-from-at t) creating-from.Post
+creating-from-same-length : (t : ℕ) → creating-from-lts.Need-same-length (creating-from-reads t) (creating-from-at t) creating-from.Post
 creating-from-same-length t c = search needs
 
--- src/lib.rt:170:9
-creating-from-same-length-2 : (t : ℕ) → creating-from-lts.Need-same-length-2 (
-  create-from-reads.Asked,
-  create-from-reads.Learnt,
-  follow-below t,
-  follow.Post,
-) (creating-from-at t) creating-from.Post
+creating-from-same-length-2 : (t : ℕ) → creating-from-lts.Need-same-length-2 (creating-from-reads t) (creating-from-at t) creating-from.Post
 creating-from-same-length-2 t c = search needs
 
--- src/lib.rt:170:9
-creating-from-same-length-3 : (t : ℕ) → creating-from-lts.Need-same-length-3 (
-  create-from-reads.Asked,
-  create-from-reads.Learnt,
-  follow-below t,
-  follow.Post,
-) (creating-from-at t) creating-from.Post
+creating-from-same-length-3 : (t : ℕ) → creating-from-lts.Need-same-length-3 (creating-from-reads t) (creating-from-at t) creating-from.Post
 creating-from-same-length-3 t c = search needs
 
--- src/lib.rt:170:9
-creating-from-same-length-4 : (t : ℕ) → creating-from-lts.Need-same-length-4 (
-  create-from-reads.Asked,
-  create-from-reads.Learnt,
-  follow-below t,
-  follow.Post,
-) (creating-from-at t) creating-from.Post
+creating-from-same-length-4 : (t : ℕ) → creating-from-lts.Need-same-length-4 (creating-from-reads t) (creating-from-at t) creating-from.Post
 creating-from-same-length-4 t c = search needs
 
--- src/lib.rt:170:9
-creating-from-returns : (t : ℕ) → creating-from-lts.Need-returns (
-  create-from-reads.Asked,
-  create-from-reads.Learnt,
-  follow-below t,
-  follow.Post,
-) (creating-from-at t) creating-from.Post
+creating-from-returns : (t : ℕ) → creating-from-lts.Need-returns (creating-from-reads t) (creating-from-at t) creating-from.Post
 creating-from-returns t c = part-stops _ _ _ _ (c .before .before .before .before .before .before .before .before .before .before .before .create-from .ensures (Text.step _) []) (c .if1 .taken)
 
--- src/lib.rt:176:5
-creating-from-follow-requires : (t : ℕ) → creating-from-lts.Need-follow-requires (
-  create-from-reads.Asked,
-  create-from-reads.Learnt,
-  follow-below t,
-  follow.Post,
-) (creating-from-at t) creating-from.Post
+creating-from-follow-requires : (t : ℕ) → creating-from-lts.Need-follow-requires (creating-from-reads t) (creating-from-at t) creating-from.Post
 creating-from-follow-requires t c κs = (omega (arith, c .before .before .before .before .before .before .before .before .before .before .before .before .before .before .before .before .before .before .before .before .before .before .before .before .before .pre .0), tt)
 
--- src/lib.rt:154:1
-creating-from-same-length-5 : (t : ℕ) → creating-from-lts.Need-same-length-5 (
-  create-from-reads.Asked,
-  create-from-reads.Learnt,
-  follow-below t,
-  follow.Post,
-) (creating-from-at t) creating-from.Post
+creating-from-same-length-5 : (t : ℕ) → creating-from-lts.Need-same-length-5 (creating-from-reads t) (creating-from-at t) creating-from.Post
 creating-from-same-length-5 t c = c .before .before .before .before .before .before .before .before .follow .kept .0 ∙ c .before .before .before .before .before .before .before .before .before .before .before .before .before .before .before .before .before .before .before .before .before .before .before .before .create-from .kept .0
 
--- src/lib.rt:154:1
-creating-from-same-length-6 : (t : ℕ) → creating-from-lts.Need-same-length-6 (
-  create-from-reads.Asked,
-  create-from-reads.Learnt,
-  follow-below t,
-  follow.Post,
-) (creating-from-at t) creating-from.Post
+creating-from-same-length-6 : (t : ℕ) → creating-from-lts.Need-same-length-6 (creating-from-reads t) (creating-from-at t) creating-from.Post
 creating-from-same-length-6 t c = c .before .before .before .before .before .before .before .before .follow .kept .1 .0 ∙ c .before .before .before .before .before .before .before .before .before .before .before .before .before .before .before .before .before .before .before .before .before .before .before .before .create-from .kept .1 .0
 
--- src/lib.rt:154:1
-creating-from-same-length-7 : (t : ℕ) → creating-from-lts.Need-same-length-7 (
-  create-from-reads.Asked,
-  create-from-reads.Learnt,
-  follow-below t,
-  follow.Post,
-) (creating-from-at t) creating-from.Post
+creating-from-same-length-7 : (t : ℕ) → creating-from-lts.Need-same-length-7 (creating-from-reads t) (creating-from-at t) creating-from.Post
 creating-from-same-length-7 t c = c .before .before .before .before .before .before .before .before .follow .kept .1 .1 .0 ∙ c .before .before .before .before .before .before .before .before .before .before .before .before .before .before .before .before .before .before .before .before .before .before .before .before .create-from .kept .1 .1 .0
 
--- src/lib.rt:154:1
-creating-from-same-length-8 : (t : ℕ) → creating-from-lts.Need-same-length-8 (
-  create-from-reads.Asked,
-  create-from-reads.Learnt,
-  follow-below t,
-  follow.Post,
-) (creating-from-at t) creating-from.Post
+creating-from-same-length-8 : (t : ℕ) → creating-from-lts.Need-same-length-8 (creating-from-reads t) (creating-from-at t) creating-from.Post
 creating-from-same-length-8 t c = c .before .before .before .before .before .before .before .before .follow .kept .1 .1 .1 .0 ∙ c .before .before .before .before .before .before .before .before .before .before .before .before .before .before .before .before .before .before .before .before .before .before .before .before .create-from .kept .1 .1 .1 .0
 
--- src/lib.rt:154:1
-creating-from-returns-2 : (t : ℕ) → creating-from-lts.Need-returns-2 (
-  create-from-reads.Asked,
-  create-from-reads.Learnt,
-  follow-below t,
-  follow.Post,
-) (creating-from-at t) creating-from.Post
+creating-from-returns-2 : (t : ℕ) → creating-from-lts.Need-returns-2 (creating-from-reads t) (creating-from-at t) creating-from.Post
 creating-from-returns-2 t c = part-goes _ _ _ _ (c .before .before .before .before .before .before .before .before .before .before .before .before .before .before .before .before .before .before .before .before .before .before .before .before .create-from .ensures (Text.step _) _) _ (c .before .before .before .before .before .before .before .before .before .before .before .before .before .if1 .left) (created-follows _ _ _ _ _ _ _ (c .before .before .before .before .before .before .before .before .follow .ensures))
 
--- src/lib.rt:303:9
 creating-function-make-function-requires :
-    (t : ℕ) → creating-function-lts.Need-make-function-requires (
-      make-function-reads.Asked,
-      make-function-reads.Learnt,
-      capture-all-below t,
-      capture-all.Post,
-    ) (creating-function-at t) creating-function.Post
+    (t : ℕ) → creating-function-lts.Need-make-function-requires (creating-function-reads t) (creating-function-at t) creating-function.Post
 creating-function-make-function-requires t c κs = search needs
 
--- src/lib.rt:306:9
-creating-function-same-length : (t : ℕ) → creating-function-lts.Need-same-length (
-  make-function-reads.Asked,
-  make-function-reads.Learnt,
-  capture-all-below t,
-  capture-all.Post,
-) (creating-function-at t) creating-function.Post
+creating-function-same-length : (t : ℕ) → creating-function-lts.Need-same-length (creating-function-reads t) (creating-function-at t) creating-function.Post
 creating-function-same-length t c = search needs
 
--- src/lib.rt:306:9
-creating-function-same-length-2 : (t : ℕ) → creating-function-lts.Need-same-length-2 (
-  make-function-reads.Asked,
-  make-function-reads.Learnt,
-  capture-all-below t,
-  capture-all.Post,
-) (creating-function-at t) creating-function.Post
+creating-function-same-length-2 : (t : ℕ) → creating-function-lts.Need-same-length-2 (creating-function-reads t) (creating-function-at t) creating-function.Post
 creating-function-same-length-2 t c = search needs
 
--- src/lib.rt:306:9
-creating-function-same-length-3 : (t : ℕ) → creating-function-lts.Need-same-length-3 (
-  make-function-reads.Asked,
-  make-function-reads.Learnt,
-  capture-all-below t,
-  capture-all.Post,
-) (creating-function-at t) creating-function.Post
+creating-function-same-length-3 : (t : ℕ) → creating-function-lts.Need-same-length-3 (creating-function-reads t) (creating-function-at t) creating-function.Post
 creating-function-same-length-3 t c = search needs
 
--- src/lib.rt:306:9
-creating-function-same-length-4 : (t : ℕ) → creating-function-lts.Need-same-length-4 (
-  make-function-reads.Asked,
-  make-function-reads.Learnt,
-  capture-all-below t,
-  capture-all.Post,
-) (creating-function-at t) creating-function.Post
+creating-function-same-length-4 : (t : ℕ) → creating-function-lts.Need-same-length-4 (creating-function-reads t) (creating-function-at t) creating-function.Post
 creating-function-same-length-4 t c = search needs
 
--- src/lib.rt:306:9
-creating-function-returns : (t : ℕ) → creating-function-lts.Need-returns (
-  make-function-reads.Asked,
-  make-function-reads.Learnt,
-  capture-all-below t,
-  capture-all.Post,
-) (creating-function-at t) creating-function.Post
+creating-function-returns : (t : ℕ) → creating-function-lts.Need-returns (creating-function-reads t) (creating-function-at t) creating-function.Post
 creating-function-returns t c = part-stops _ _ _ _ (c .before .before .before .before .before .before .before .before .before .before .before .make-function .ensures (Text.step _)) (c .if1 .taken)
 
--- src/lib.rt:311:5
-creating-function-capture-all-requires : (t : ℕ) → creating-function-lts.Need-capture-all-requires (
-  make-function-reads.Asked,
-  make-function-reads.Learnt,
-  capture-all-below t,
-  capture-all.Post,
-) (creating-function-at t) creating-function.Post
+creating-function-capture-all-requires : (t : ℕ) → creating-function-lts.Need-capture-all-requires (creating-function-reads t) (creating-function-at t) creating-function.Post
 creating-function-capture-all-requires t c κs = (omega (arith, c .before .before .before .before .before .before .before .before .before .before .before .before .before .before .before .before .before .before .before .before .before .before .before .before .before .pre .0), tt)
 
--- src/lib.rt:290:1
-creating-function-same-length-5 : (t : ℕ) → creating-function-lts.Need-same-length-5 (
-  make-function-reads.Asked,
-  make-function-reads.Learnt,
-  capture-all-below t,
-  capture-all.Post,
-) (creating-function-at t) creating-function.Post
+creating-function-same-length-5 : (t : ℕ) → creating-function-lts.Need-same-length-5 (creating-function-reads t) (creating-function-at t) creating-function.Post
 creating-function-same-length-5 t c = c .before .before .before .before .before .before .before .before .capture-all .kept .0 ∙ c .before .before .before .before .before .before .before .before .before .before .before .before .before .before .before .before .before .before .before .before .before .before .before .before .make-function .kept .0
 
--- src/lib.rt:290:1
-creating-function-same-length-6 : (t : ℕ) → creating-function-lts.Need-same-length-6 (
-  make-function-reads.Asked,
-  make-function-reads.Learnt,
-  capture-all-below t,
-  capture-all.Post,
-) (creating-function-at t) creating-function.Post
+creating-function-same-length-6 : (t : ℕ) → creating-function-lts.Need-same-length-6 (creating-function-reads t) (creating-function-at t) creating-function.Post
 creating-function-same-length-6 t c = c .before .before .before .before .before .before .before .before .capture-all .kept .1 .0 ∙ c .before .before .before .before .before .before .before .before .before .before .before .before .before .before .before .before .before .before .before .before .before .before .before .before .make-function .kept .1 .0
 
--- src/lib.rt:290:1
-creating-function-same-length-7 : (t : ℕ) → creating-function-lts.Need-same-length-7 (
-  make-function-reads.Asked,
-  make-function-reads.Learnt,
-  capture-all-below t,
-  capture-all.Post,
-) (creating-function-at t) creating-function.Post
+creating-function-same-length-7 : (t : ℕ) → creating-function-lts.Need-same-length-7 (creating-function-reads t) (creating-function-at t) creating-function.Post
 creating-function-same-length-7 t c = c .before .before .before .before .before .before .before .before .capture-all .kept .1 .1 .0 ∙ c .before .before .before .before .before .before .before .before .before .before .before .before .before .before .before .before .before .before .before .before .before .before .before .before .make-function .kept .1 .1 .0
 
--- src/lib.rt:290:1
-creating-function-same-length-8 : (t : ℕ) → creating-function-lts.Need-same-length-8 (
-  make-function-reads.Asked,
-  make-function-reads.Learnt,
-  capture-all-below t,
-  capture-all.Post,
-) (creating-function-at t) creating-function.Post
+creating-function-same-length-8 : (t : ℕ) → creating-function-lts.Need-same-length-8 (creating-function-reads t) (creating-function-at t) creating-function.Post
 creating-function-same-length-8 t c = c .before .before .before .before .before .before .before .before .capture-all .kept .1 .1 .1 .0 ∙ c .before .before .before .before .before .before .before .before .before .before .before .before .before .before .before .before .before .before .before .before .before .before .before .before .make-function .kept .1 .1 .1 .0
 
--- src/lib.rt:290:1
-creating-function-returns-2 : (t : ℕ) → creating-function-lts.Need-returns-2 (
-  make-function-reads.Asked,
-  make-function-reads.Learnt,
-  capture-all-below t,
-  capture-all.Post,
-) (creating-function-at t) creating-function.Post
+creating-function-returns-2 : (t : ℕ) → creating-function-lts.Need-returns-2 (creating-function-reads t) (creating-function-at t) creating-function.Post
 creating-function-returns-2 t c = part-goes _ _ _ _ (c .before .before .before .before .before .before .before .before .before .before .before .before .before .before .before .before .before .before .before .before .before .before .before .before .make-function .ensures (Text.step _)) _ (c .before .before .before .before .before .before .before .before .before .before .before .before .before .if1 .left) (c .before .before .before .before .before .before .before .before .capture-all .ensures)
 
--- src/lib.rt:62:26
-follow-enum-told : (t : ℕ) → follow-lts.Need-enum-told (
-  emit-reads.Asked,
-  emit-reads.Learnt,
-  step-below t,
-  step.Post,
-) (follow-at t) follow.Post
+follow-enum-told : (t : ℕ) → follow-lts.Need-enum-told (follow-reads t) (follow-at t) follow.Post
 follow-enum-told t c = search needs
 
--- src/lib.rt:64:31
-follow-enum-told-2 : (t : ℕ) → follow-lts.Need-enum-told-2 (
-  emit-reads.Asked,
-  emit-reads.Learnt,
-  step-below t,
-  step.Post,
-) (follow-at t) follow.Post
+follow-enum-told-2 : (t : ℕ) → follow-lts.Need-enum-told-2 (follow-reads t) (follow-at t) follow.Post
 follow-enum-told-2 t c = search needs
 
--- src/lib.rt:64:17
-follow-emit-requires : (t : ℕ) → follow-lts.Need-emit-requires (
-  emit-reads.Asked,
-  emit-reads.Learnt,
-  step-below t,
-  step.Post,
-) (follow-at t) follow.Post
+follow-emit-requires : (t : ℕ) → follow-lts.Need-emit-requires (follow-reads t) (follow-at t) follow.Post
 follow-emit-requires t c κs = search needs
 
--- src/lib.rt:70:23
-follow-enum-known-next : (t : ℕ) → follow-lts.Need-enum-known-next (
-  emit-reads.Asked,
-  emit-reads.Learnt,
-  step-below t,
-  step.Post,
-) (follow-at t) follow.Post
+follow-enum-known-next : (t : ℕ) → follow-lts.Need-enum-known-next (follow-reads t) (follow-at t) follow.Post
 follow-enum-known-next t c = search needs
 
--- src/lib.rt:70:29
-follow-step-requires : (t : ℕ) → follow-lts.Need-step-requires (
-  emit-reads.Asked,
-  emit-reads.Learnt,
-  step-below t,
-  step.Post,
-) (follow-at t) follow.Post
+follow-step-requires : (t : ℕ) → follow-lts.Need-step-requires (follow-reads t) (follow-at t) follow.Post
 follow-step-requires t c κs = search needs
 
--- src/lib.rt:48:1
-follow-returns : (t : ℕ) → follow-lts.Need-returns (
-  emit-reads.Asked,
-  emit-reads.Learnt,
-  step-below t,
-  step.Post,
-) (follow-at t) follow.Post
+follow-returns : (t : ℕ) → follow-lts.Need-returns (follow-reads t) (follow-at t) follow.Post
 follow-returns t c = follow-nothing _ _ _ _ _ (c .enum-told .given .1)
 
--- src/lib.rt:48:1
-follow-same-length : (t : ℕ) → follow-lts.Need-same-length (
-  emit-reads.Asked,
-  emit-reads.Learnt,
-  step-below t,
-  step.Post,
-) (follow-at t) follow.Post
+follow-same-length : (t : ℕ) → follow-lts.Need-same-length (follow-reads t) (follow-at t) follow.Post
 follow-same-length t c = search needs
 
--- src/lib.rt:48:1
-follow-returns-2 : (t : ℕ) → follow-lts.Need-returns-2 (
-  emit-reads.Asked,
-  emit-reads.Learnt,
-  step-below t,
-  step.Post,
-) (follow-at t) follow.Post
+follow-returns-2 : (t : ℕ) → follow-lts.Need-returns-2 (follow-reads t) (follow-at t) follow.Post
 follow-returns-2 t c = follow-itself _ _ _ _ _ _ (c .before .before .before .before .enum-told2 .given .1) (c .before .before .emit .ensures _ _ _)
 
--- src/lib.rt:48:1
-follow-same-length-2 : (t : ℕ) → follow-lts.Need-same-length-2 (
-  emit-reads.Asked,
-  emit-reads.Learnt,
-  step-below t,
-  step.Post,
-) (follow-at t) follow.Post
+follow-same-length-2 : (t : ℕ) → follow-lts.Need-same-length-2 (follow-reads t) (follow-at t) follow.Post
 follow-same-length-2 t c = search needs
 
--- src/lib.rt:48:1
-follow-same-length-3 : (t : ℕ) → follow-lts.Need-same-length-3 (
-  emit-reads.Asked,
-  emit-reads.Learnt,
-  step-below t,
-  step.Post,
-) (follow-at t) follow.Post
+follow-same-length-3 : (t : ℕ) → follow-lts.Need-same-length-3 (follow-reads t) (follow-at t) follow.Post
 follow-same-length-3 t c = search needs
 
--- src/lib.rt:48:1
-follow-same-length-4 : (t : ℕ) → follow-lts.Need-same-length-4 (
-  emit-reads.Asked,
-  emit-reads.Learnt,
-  step-below t,
-  step.Post,
-) (follow-at t) follow.Post
+follow-same-length-4 : (t : ℕ) → follow-lts.Need-same-length-4 (follow-reads t) (follow-at t) follow.Post
 follow-same-length-4 t c = search needs
 
--- src/lib.rt:48:1
-follow-same-length-5 : (t : ℕ) → follow-lts.Need-same-length-5 (
-  emit-reads.Asked,
-  emit-reads.Learnt,
-  step-below t,
-  step.Post,
-) (follow-at t) follow.Post
+follow-same-length-5 : (t : ℕ) → follow-lts.Need-same-length-5 (follow-reads t) (follow-at t) follow.Post
 follow-same-length-5 t c = search needs
 
--- src/lib.rt:48:1
-follow-returns-3 : (t : ℕ) → follow-lts.Need-returns-3 (
-  emit-reads.Asked,
-  emit-reads.Learnt,
-  step-below t,
-  step.Post,
-) (follow-at t) follow.Post
+follow-returns-3 : (t : ℕ) → follow-lts.Need-returns-3 (follow-reads t) (follow-at t) follow.Post
 follow-returns-3 t c = follow-derived _ _ _ _ _ _ _ (c .before .before .before .before .before .before .before .before .before .before .before .before .before .before .next .given .1) (c .before .before .before .before .before .before .before .before .step .ensures)
 
--- src/lib.rt:130:9
-mutating-mutation-requires : (t : ℕ) → mutating-lts.Need-mutation-requires (
-  mutation-reads.Asked,
-  mutation-reads.Learnt,
-  follow-below t,
-  follow.Post,
-) (mutating-at t) mutating.Post
+mutating-mutation-requires : (t : ℕ) → mutating-lts.Need-mutation-requires (mutating-reads t) (mutating-at t) mutating.Post
 mutating-mutation-requires t c κs = search needs
 
--- src/lib.rt:133:9
-mutating-same-length : (t : ℕ) → mutating-lts.Need-same-length (
-  mutation-reads.Asked,
-  mutation-reads.Learnt,
-  follow-below t,
-  follow.Post,
-) (mutating-at t) mutating.Post
+mutating-same-length : (t : ℕ) → mutating-lts.Need-same-length (mutating-reads t) (mutating-at t) mutating.Post
 mutating-same-length t c = search needs
 
--- src/lib.rt:133:9
-mutating-same-length-2 : (t : ℕ) → mutating-lts.Need-same-length-2 (
-  mutation-reads.Asked,
-  mutation-reads.Learnt,
-  follow-below t,
-  follow.Post,
-) (mutating-at t) mutating.Post
+mutating-same-length-2 : (t : ℕ) → mutating-lts.Need-same-length-2 (mutating-reads t) (mutating-at t) mutating.Post
 mutating-same-length-2 t c = search needs
 
--- src/lib.rt:133:9
-mutating-same-length-3 : (t : ℕ) → mutating-lts.Need-same-length-3 (
-  mutation-reads.Asked,
-  mutation-reads.Learnt,
-  follow-below t,
-  follow.Post,
-) (mutating-at t) mutating.Post
+mutating-same-length-3 : (t : ℕ) → mutating-lts.Need-same-length-3 (mutating-reads t) (mutating-at t) mutating.Post
 mutating-same-length-3 t c = search needs
 
--- src/lib.rt:133:9
-mutating-returns : (t : ℕ) → mutating-lts.Need-returns (
-  mutation-reads.Asked,
-  mutation-reads.Learnt,
-  follow-below t,
-  follow.Post,
-) (mutating-at t) mutating.Post
+mutating-returns : (t : ℕ) → mutating-lts.Need-returns (mutating-reads t) (mutating-at t) mutating.Post
 mutating-returns t c = part-stops _ _ _ _ (c .before .before .before .before .before .mutation .ensures (Text.step _) _ [] _) (c .if1 .taken)
 
--- src/lib.rt:139:5
-mutating-follow-requires : (t : ℕ) → mutating-lts.Need-follow-requires (
-  mutation-reads.Asked,
-  mutation-reads.Learnt,
-  follow-below t,
-  follow.Post,
-) (mutating-at t) mutating.Post
+mutating-follow-requires : (t : ℕ) → mutating-lts.Need-follow-requires (mutating-reads t) (mutating-at t) mutating.Post
 mutating-follow-requires t c κs = search needs
 
--- src/lib.rt:116:1
-mutating-same-length-4 : (t : ℕ) → mutating-lts.Need-same-length-4 (
-  mutation-reads.Asked,
-  mutation-reads.Learnt,
-  follow-below t,
-  follow.Post,
-) (mutating-at t) mutating.Post
+mutating-same-length-4 : (t : ℕ) → mutating-lts.Need-same-length-4 (mutating-reads t) (mutating-at t) mutating.Post
 mutating-same-length-4 t c = search needs
 
--- src/lib.rt:116:1
-mutating-same-length-5 : (t : ℕ) → mutating-lts.Need-same-length-5 (
-  mutation-reads.Asked,
-  mutation-reads.Learnt,
-  follow-below t,
-  follow.Post,
-) (mutating-at t) mutating.Post
+mutating-same-length-5 : (t : ℕ) → mutating-lts.Need-same-length-5 (mutating-reads t) (mutating-at t) mutating.Post
 mutating-same-length-5 t c = search needs
 
--- src/lib.rt:116:1
-mutating-same-length-6 : (t : ℕ) → mutating-lts.Need-same-length-6 (
-  mutation-reads.Asked,
-  mutation-reads.Learnt,
-  follow-below t,
-  follow.Post,
-) (mutating-at t) mutating.Post
+mutating-same-length-6 : (t : ℕ) → mutating-lts.Need-same-length-6 (mutating-reads t) (mutating-at t) mutating.Post
 mutating-same-length-6 t c = search needs
 
--- src/lib.rt:116:1
-mutating-same-length-7 : (t : ℕ) → mutating-lts.Need-same-length-7 (
-  mutation-reads.Asked,
-  mutation-reads.Learnt,
-  follow-below t,
-  follow.Post,
-) (mutating-at t) mutating.Post
+mutating-same-length-7 : (t : ℕ) → mutating-lts.Need-same-length-7 (mutating-reads t) (mutating-at t) mutating.Post
 mutating-same-length-7 t c = search needs
 
--- src/lib.rt:116:1
-mutating-returns-2 : (t : ℕ) → mutating-lts.Need-returns-2 (
-  mutation-reads.Asked,
-  mutation-reads.Learnt,
-  follow-below t,
-  follow.Post,
-) (mutating-at t) mutating.Post
+mutating-returns-2 : (t : ℕ) → mutating-lts.Need-returns-2 (mutating-reads t) (mutating-at t) mutating.Post
 mutating-returns-2 t c = part-goes _ _ _ _ (c .before .before .before .before .before .before .before .before .before .before .before .before .before .before .before .before .before .before .mutation .ensures (Text.step _) _ _ _) _ (c .before .before .before .before .before .before .before .before .before .before .before .before .before .if1 .left) (c .before .before .before .before .before .before .before .before .follow .ensures)
 
--- src/lib.rt:360:9
-step-returns : (t : ℕ) → step-lts.Need-returns (
-  intern-reads.Asked,
-  intern-reads.Learnt,
-  act-of-reads.Asked,
-  act-of-reads.Learnt,
-  plain-reads.Asked,
-  plain-reads.Learnt,
-  mutating-below t,
-  mutating.Post,
-  capturing-below t,
-  capturing.Post,
-  assigning-below t,
-  assigning.Post,
-  creating-from-below t,
-  creating-from.Post,
-  creating-chosen-below t,
-  creating-chosen.Post,
-) (step-at t) step.Post
+step-returns : (t : ℕ) → step-lts.Need-returns (step-reads t) (step-at t) step.Post
 step-returns t c = step-none _ _ _ (c .if1 .taken)
 
--- src/lib.rt:362:9
-step-intern-requires : (t : ℕ) → step-lts.Need-intern-requires (
-  intern-reads.Asked,
-  intern-reads.Learnt,
-  act-of-reads.Asked,
-  act-of-reads.Learnt,
-  plain-reads.Asked,
-  plain-reads.Learnt,
-  mutating-below t,
-  mutating.Post,
-  capturing-below t,
-  capturing.Post,
-  assigning-below t,
-  assigning.Post,
-  creating-from-below t,
-  creating-from.Post,
-  creating-chosen-below t,
-  creating-chosen.Post,
-) (step-at t) step.Post
+step-intern-requires : (t : ℕ) → step-lts.Need-intern-requires (step-reads t) (step-at t) step.Post
 step-intern-requires t c κs = search needs
 
--- src/lib.rt:366:9
-step-same-length : (t : ℕ) → step-lts.Need-same-length (
-  intern-reads.Asked,
-  intern-reads.Learnt,
-  act-of-reads.Asked,
-  act-of-reads.Learnt,
-  plain-reads.Asked,
-  plain-reads.Learnt,
-  mutating-below t,
-  mutating.Post,
-  capturing-below t,
-  capturing.Post,
-  assigning-below t,
-  assigning.Post,
-  creating-from-below t,
-  creating-from.Post,
-  creating-chosen-below t,
-  creating-chosen.Post,
-) (step-at t) step.Post
+step-same-length : (t : ℕ) → step-lts.Need-same-length (step-reads t) (step-at t) step.Post
 step-same-length t c = search needs
 
--- src/lib.rt:366:9
-step-returns-2 : (t : ℕ) → step-lts.Need-returns-2 (
-  intern-reads.Asked,
-  intern-reads.Learnt,
-  act-of-reads.Asked,
-  act-of-reads.Learnt,
-  plain-reads.Asked,
-  plain-reads.Learnt,
-  mutating-below t,
-  mutating.Post,
-  capturing-below t,
-  capturing.Post,
-  assigning-below t,
-  assigning.Post,
-  creating-from-below t,
-  creating-from.Post,
-  creating-chosen-below t,
-  creating-chosen.Post,
-) (step-at t) step.Post
+step-returns-2 : (t : ℕ) → step-lts.Need-returns-2 (step-reads t) (step-at t) step.Post
 step-returns-2 t c = step-refused _ _ _ _ _ _ (c .before .before .before .before .before .before .if1 .left) (c .before .before .before .before .intern .ensures _ _ _ _) (c .if2 .taken)
 
--- src/lib.rt:371:9
-step-act-of-requires : (t : ℕ) → step-lts.Need-act-of-requires (
-  intern-reads.Asked,
-  intern-reads.Learnt,
-  act-of-reads.Asked,
-  act-of-reads.Learnt,
-  plain-reads.Asked,
-  plain-reads.Learnt,
-  mutating-below t,
-  mutating.Post,
-  capturing-below t,
-  capturing.Post,
-  assigning-below t,
-  assigning.Post,
-  creating-from-below t,
-  creating-from.Post,
-  creating-chosen-below t,
-  creating-chosen.Post,
-) (step-at t) step.Post
+step-act-of-requires : (t : ℕ) → step-lts.Need-act-of-requires (step-reads t) (step-at t) step.Post
 step-act-of-requires t c κs = search needs
 
--- src/lib.rt:373:29
-step-enum-told : (t : ℕ) → step-lts.Need-enum-told (
-  intern-reads.Asked,
-  intern-reads.Learnt,
-  act-of-reads.Asked,
-  act-of-reads.Learnt,
-  plain-reads.Asked,
-  plain-reads.Learnt,
-  mutating-below t,
-  mutating.Post,
-  capturing-below t,
-  capturing.Post,
-  assigning-below t,
-  assigning.Post,
-  creating-from-below t,
-  creating-from.Post,
-  creating-chosen-below t,
-  creating-chosen.Post,
-) (step-at t) step.Post
+step-enum-told : (t : ℕ) → step-lts.Need-enum-told (step-reads t) (step-at t) step.Post
 step-enum-told t c = search needs
 
--- src/lib.rt:373:23
-step-plain-requires : (t : ℕ) → step-lts.Need-plain-requires (
-  intern-reads.Asked,
-  intern-reads.Learnt,
-  act-of-reads.Asked,
-  act-of-reads.Learnt,
-  plain-reads.Asked,
-  plain-reads.Learnt,
-  mutating-below t,
-  mutating.Post,
-  capturing-below t,
-  capturing.Post,
-  assigning-below t,
-  assigning.Post,
-  creating-from-below t,
-  creating-from.Post,
-  creating-chosen-below t,
-  creating-chosen.Post,
-) (step-at t) step.Post
+step-plain-requires : (t : ℕ) → step-lts.Need-plain-requires (step-reads t) (step-at t) step.Post
 step-plain-requires t c κs = search needs
 
--- src/lib.rt:374:25
-step-enum-known-a : (t : ℕ) → step-lts.Need-enum-known-a (
-  intern-reads.Asked,
-  intern-reads.Learnt,
-  act-of-reads.Asked,
-  act-of-reads.Learnt,
-  plain-reads.Asked,
-  plain-reads.Learnt,
-  mutating-below t,
-  mutating.Post,
-  capturing-below t,
-  capturing.Post,
-  assigning-below t,
-  assigning.Post,
-  creating-from-below t,
-  creating-from.Post,
-  creating-chosen-below t,
-  creating-chosen.Post,
-) (step-at t) step.Post
+step-enum-known-a : (t : ℕ) → step-lts.Need-enum-known-a (step-reads t) (step-at t) step.Post
 step-enum-known-a t c = search needs
 
--- src/lib.rt:380:13
-step-sub-mutating : (t : ℕ) → step-lts.Need-sub-mutating (
-  intern-reads.Asked,
-  intern-reads.Learnt,
-  act-of-reads.Asked,
-  act-of-reads.Learnt,
-  plain-reads.Asked,
-  plain-reads.Learnt,
-  mutating-below t,
-  mutating.Post,
-  capturing-below t,
-  capturing.Post,
-  assigning-below t,
-  assigning.Post,
-  creating-from-below t,
-  creating-from.Post,
-  creating-chosen-below t,
-  creating-chosen.Post,
-) (step-at t) step.Post
+step-sub-mutating : (t : ℕ) → step-lts.Need-sub-mutating (step-reads t) (step-at t) step.Post
 step-sub-mutating t c = search needs
 
--- src/lib.rt:374:45
-step-mutating-requires : (t : ℕ) → step-lts.Need-mutating-requires (
-  intern-reads.Asked,
-  intern-reads.Learnt,
-  act-of-reads.Asked,
-  act-of-reads.Learnt,
-  plain-reads.Asked,
-  plain-reads.Learnt,
-  mutating-below t,
-  mutating.Post,
-  capturing-below t,
-  capturing.Post,
-  assigning-below t,
-  assigning.Post,
-  creating-from-below t,
-  creating-from.Post,
-  creating-chosen-below t,
-  creating-chosen.Post,
-) (step-at t) step.Post
+step-mutating-requires : (t : ℕ) → step-lts.Need-mutating-requires (step-reads t) (step-at t) step.Post
 step-mutating-requires t c κs = (omega (arith, c .before .before .before .before .before .before .before .before .before .before .before .before .before .before .before .before .before .before .before .before .pre .0, c .before .before .before .before .before .before .before .before .before .before .before .before .before .before .if1 .left), tt)
 
--- src/lib.rt:387:13
-step-enum-known-a-2 : (t : ℕ) → step-lts.Need-enum-known-a-2 (
-  intern-reads.Asked,
-  intern-reads.Learnt,
-  act-of-reads.Asked,
-  act-of-reads.Learnt,
-  plain-reads.Asked,
-  plain-reads.Learnt,
-  mutating-below t,
-  mutating.Post,
-  capturing-below t,
-  capturing.Post,
-  assigning-below t,
-  assigning.Post,
-  creating-from-below t,
-  creating-from.Post,
-  creating-chosen-below t,
-  creating-chosen.Post,
-) (step-at t) step.Post
+step-enum-known-a-2 : (t : ℕ) → step-lts.Need-enum-known-a-2 (step-reads t) (step-at t) step.Post
 step-enum-known-a-2 t c = search needs
 
--- src/lib.rt:397:13
-step-sub-capturing : (t : ℕ) → step-lts.Need-sub-capturing (
-  intern-reads.Asked,
-  intern-reads.Learnt,
-  act-of-reads.Asked,
-  act-of-reads.Learnt,
-  plain-reads.Asked,
-  plain-reads.Learnt,
-  mutating-below t,
-  mutating.Post,
-  capturing-below t,
-  capturing.Post,
-  assigning-below t,
-  assigning.Post,
-  creating-from-below t,
-  creating-from.Post,
-  creating-chosen-below t,
-  creating-chosen.Post,
-) (step-at t) step.Post
+step-sub-capturing : (t : ℕ) → step-lts.Need-sub-capturing (step-reads t) (step-at t) step.Post
 step-sub-capturing t c = search needs
 
--- src/lib.rt:391:14
-step-capturing-requires : (t : ℕ) → step-lts.Need-capturing-requires (
-  intern-reads.Asked,
-  intern-reads.Learnt,
-  act-of-reads.Asked,
-  act-of-reads.Learnt,
-  plain-reads.Asked,
-  plain-reads.Learnt,
-  mutating-below t,
-  mutating.Post,
-  capturing-below t,
-  capturing.Post,
-  assigning-below t,
-  assigning.Post,
-  creating-from-below t,
-  creating-from.Post,
-  creating-chosen-below t,
-  creating-chosen.Post,
-) (step-at t) step.Post
+step-capturing-requires : (t : ℕ) → step-lts.Need-capturing-requires (step-reads t) (step-at t) step.Post
 step-capturing-requires t c κs = (omega (arith, c .before .before .before .before .before .before .before .before .before .before .before .before .before .before .before .before .before .before .before .before .pre .0, c .before .before .before .before .before .before .before .before .before .before .before .before .before .before .if1 .left), tt)
 
--- src/lib.rt:405:26
-step-enum-known-a-3 : (t : ℕ) → step-lts.Need-enum-known-a-3 (
-  intern-reads.Asked,
-  intern-reads.Learnt,
-  act-of-reads.Asked,
-  act-of-reads.Learnt,
-  plain-reads.Asked,
-  plain-reads.Learnt,
-  mutating-below t,
-  mutating.Post,
-  capturing-below t,
-  capturing.Post,
-  assigning-below t,
-  assigning.Post,
-  creating-from-below t,
-  creating-from.Post,
-  creating-chosen-below t,
-  creating-chosen.Post,
-) (step-at t) step.Post
+step-enum-known-a-3 : (t : ℕ) → step-lts.Need-enum-known-a-3 (step-reads t) (step-at t) step.Post
 step-enum-known-a-3 t c = search needs
 
--- src/lib.rt:411:13
-step-sub-assigning : (t : ℕ) → step-lts.Need-sub-assigning (
-  intern-reads.Asked,
-  intern-reads.Learnt,
-  act-of-reads.Asked,
-  act-of-reads.Learnt,
-  plain-reads.Asked,
-  plain-reads.Learnt,
-  mutating-below t,
-  mutating.Post,
-  capturing-below t,
-  capturing.Post,
-  assigning-below t,
-  assigning.Post,
-  creating-from-below t,
-  creating-from.Post,
-  creating-chosen-below t,
-  creating-chosen.Post,
-) (step-at t) step.Post
+step-sub-assigning : (t : ℕ) → step-lts.Need-sub-assigning (step-reads t) (step-at t) step.Post
 step-sub-assigning t c = search needs
 
--- src/lib.rt:405:42
-step-assigning-requires : (t : ℕ) → step-lts.Need-assigning-requires (
-  intern-reads.Asked,
-  intern-reads.Learnt,
-  act-of-reads.Asked,
-  act-of-reads.Learnt,
-  plain-reads.Asked,
-  plain-reads.Learnt,
-  mutating-below t,
-  mutating.Post,
-  capturing-below t,
-  capturing.Post,
-  assigning-below t,
-  assigning.Post,
-  creating-from-below t,
-  creating-from.Post,
-  creating-chosen-below t,
-  creating-chosen.Post,
-) (step-at t) step.Post
+step-assigning-requires : (t : ℕ) → step-lts.Need-assigning-requires (step-reads t) (step-at t) step.Post
 step-assigning-requires t c κs = (omega (arith, c .before .before .before .before .before .before .before .before .before .before .before .before .before .before .before .before .before .before .before .before .pre .0, c .before .before .before .before .before .before .before .before .before .before .before .before .before .before .if1 .left), tt)
 
--- src/lib.rt:416:29
-step-enum-known-a-4 : (t : ℕ) → step-lts.Need-enum-known-a-4 (
-  intern-reads.Asked,
-  intern-reads.Learnt,
-  act-of-reads.Asked,
-  act-of-reads.Learnt,
-  plain-reads.Asked,
-  plain-reads.Learnt,
-  mutating-below t,
-  mutating.Post,
-  capturing-below t,
-  capturing.Post,
-  assigning-below t,
-  assigning.Post,
-  creating-from-below t,
-  creating-from.Post,
-  creating-chosen-below t,
-  creating-chosen.Post,
-) (step-at t) step.Post
+step-enum-known-a-4 : (t : ℕ) → step-lts.Need-enum-known-a-4 (step-reads t) (step-at t) step.Post
 step-enum-known-a-4 t c = search needs
 
--- src/lib.rt:422:13
-step-sub-creating-from : (t : ℕ) → step-lts.Need-sub-creating-from (
-  intern-reads.Asked,
-  intern-reads.Learnt,
-  act-of-reads.Asked,
-  act-of-reads.Learnt,
-  plain-reads.Asked,
-  plain-reads.Learnt,
-  mutating-below t,
-  mutating.Post,
-  capturing-below t,
-  capturing.Post,
-  assigning-below t,
-  assigning.Post,
-  creating-from-below t,
-  creating-from.Post,
-  creating-chosen-below t,
-  creating-chosen.Post,
-) (step-at t) step.Post
+step-sub-creating-from : (t : ℕ) → step-lts.Need-sub-creating-from (step-reads t) (step-at t) step.Post
 step-sub-creating-from t c = search needs
 
--- src/lib.rt:416:45
-step-creating-from-requires : (t : ℕ) → step-lts.Need-creating-from-requires (
-  intern-reads.Asked,
-  intern-reads.Learnt,
-  act-of-reads.Asked,
-  act-of-reads.Learnt,
-  plain-reads.Asked,
-  plain-reads.Learnt,
-  mutating-below t,
-  mutating.Post,
-  capturing-below t,
-  capturing.Post,
-  assigning-below t,
-  assigning.Post,
-  creating-from-below t,
-  creating-from.Post,
-  creating-chosen-below t,
-  creating-chosen.Post,
-) (step-at t) step.Post
+step-creating-from-requires : (t : ℕ) → step-lts.Need-creating-from-requires (step-reads t) (step-at t) step.Post
 step-creating-from-requires t c κs = (omega (arith, c .before .before .before .before .before .before .before .before .before .before .before .before .before .before .before .before .before .before .before .before .pre .0, c .before .before .before .before .before .before .before .before .before .before .before .before .before .before .if1 .left), tt)
 
--- src/lib.rt:427:33
-step-enum-known-a-5 : (t : ℕ) → step-lts.Need-enum-known-a-5 (
-  intern-reads.Asked,
-  intern-reads.Learnt,
-  act-of-reads.Asked,
-  act-of-reads.Learnt,
-  plain-reads.Asked,
-  plain-reads.Learnt,
-  mutating-below t,
-  mutating.Post,
-  capturing-below t,
-  capturing.Post,
-  assigning-below t,
-  assigning.Post,
-  creating-from-below t,
-  creating-from.Post,
-  creating-chosen-below t,
-  creating-chosen.Post,
-) (step-at t) step.Post
+step-enum-known-a-5 : (t : ℕ) → step-lts.Need-enum-known-a-5 (step-reads t) (step-at t) step.Post
 step-enum-known-a-5 t c = search needs
 
--- src/lib.rt:433:13
-step-sub-creating-chosen : (t : ℕ) → step-lts.Need-sub-creating-chosen (
-  intern-reads.Asked,
-  intern-reads.Learnt,
-  act-of-reads.Asked,
-  act-of-reads.Learnt,
-  plain-reads.Asked,
-  plain-reads.Learnt,
-  mutating-below t,
-  mutating.Post,
-  capturing-below t,
-  capturing.Post,
-  assigning-below t,
-  assigning.Post,
-  creating-from-below t,
-  creating-from.Post,
-  creating-chosen-below t,
-  creating-chosen.Post,
-) (step-at t) step.Post
+step-sub-creating-chosen : (t : ℕ) → step-lts.Need-sub-creating-chosen (step-reads t) (step-at t) step.Post
 step-sub-creating-chosen t c = search needs
 
--- src/lib.rt:427:53
-step-creating-chosen-requires : (t : ℕ) → step-lts.Need-creating-chosen-requires (
-  intern-reads.Asked,
-  intern-reads.Learnt,
-  act-of-reads.Asked,
-  act-of-reads.Learnt,
-  plain-reads.Asked,
-  plain-reads.Learnt,
-  mutating-below t,
-  mutating.Post,
-  capturing-below t,
-  capturing.Post,
-  assigning-below t,
-  assigning.Post,
-  creating-from-below t,
-  creating-from.Post,
-  creating-chosen-below t,
-  creating-chosen.Post,
-) (step-at t) step.Post
+step-creating-chosen-requires : (t : ℕ) → step-lts.Need-creating-chosen-requires (step-reads t) (step-at t) step.Post
 step-creating-chosen-requires t c κs = (omega (arith, c .before .before .before .before .before .before .before .before .before .before .before .before .before .before .before .before .before .before .before .before .pre .0, c .before .before .before .before .before .before .before .before .before .before .before .before .before .before .if1 .left), tt)
 
--- src/lib.rt:347:1
-step-same-length-2 : (t : ℕ) → step-lts.Need-same-length-2 (
-  intern-reads.Asked,
-  intern-reads.Learnt,
-  act-of-reads.Asked,
-  act-of-reads.Learnt,
-  plain-reads.Asked,
-  plain-reads.Learnt,
-  mutating-below t,
-  mutating.Post,
-  capturing-below t,
-  capturing.Post,
-  assigning-below t,
-  assigning.Post,
-  creating-from-below t,
-  creating-from.Post,
-  creating-chosen-below t,
-  creating-chosen.Post,
-) (step-at t) step.Post
+step-same-length-2 : (t : ℕ) → step-lts.Need-same-length-2 (step-reads t) (step-at t) step.Post
 step-same-length-2 t c = c .before .before .before .before .before .before .before .before .plain .kept .0
 
--- src/lib.rt:347:1
-step-same-length-3 : (t : ℕ) → step-lts.Need-same-length-3 (
-  intern-reads.Asked,
-  intern-reads.Learnt,
-  act-of-reads.Asked,
-  act-of-reads.Learnt,
-  plain-reads.Asked,
-  plain-reads.Learnt,
-  mutating-below t,
-  mutating.Post,
-  capturing-below t,
-  capturing.Post,
-  assigning-below t,
-  assigning.Post,
-  creating-from-below t,
-  creating-from.Post,
-  creating-chosen-below t,
-  creating-chosen.Post,
-) (step-at t) step.Post
+step-same-length-3 : (t : ℕ) → step-lts.Need-same-length-3 (step-reads t) (step-at t) step.Post
 step-same-length-3 t c = c .before .before .before .before .before .before .before .before .plain .kept .1 .0
 
--- src/lib.rt:347:1
-step-same-length-4 : (t : ℕ) → step-lts.Need-same-length-4 (
-  intern-reads.Asked,
-  intern-reads.Learnt,
-  act-of-reads.Asked,
-  act-of-reads.Learnt,
-  plain-reads.Asked,
-  plain-reads.Learnt,
-  mutating-below t,
-  mutating.Post,
-  capturing-below t,
-  capturing.Post,
-  assigning-below t,
-  assigning.Post,
-  creating-from-below t,
-  creating-from.Post,
-  creating-chosen-below t,
-  creating-chosen.Post,
-) (step-at t) step.Post
+step-same-length-4 : (t : ℕ) → step-lts.Need-same-length-4 (step-reads t) (step-at t) step.Post
 step-same-length-4 t c = c .before .before .before .before .before .before .before .before .plain .kept .1 .1 .0 ∙ c .before .before .before .before .before .before .before .before .before .before .before .before .before .before .before .before .before .before .before .before .intern .kept .0
 
--- src/lib.rt:347:1
-step-same-length-5 : (t : ℕ) → step-lts.Need-same-length-5 (
-  intern-reads.Asked,
-  intern-reads.Learnt,
-  act-of-reads.Asked,
-  act-of-reads.Learnt,
-  plain-reads.Asked,
-  plain-reads.Learnt,
-  mutating-below t,
-  mutating.Post,
-  capturing-below t,
-  capturing.Post,
-  assigning-below t,
-  assigning.Post,
-  creating-from-below t,
-  creating-from.Post,
-  creating-chosen-below t,
-  creating-chosen.Post,
-) (step-at t) step.Post
+step-same-length-5 : (t : ℕ) → step-lts.Need-same-length-5 (step-reads t) (step-at t) step.Post
 step-same-length-5 t c = c .before .before .before .before .before .before .before .before .plain .kept .1 .1 .1 .0
 
--- src/lib.rt:347:1
-step-returns-3 : (t : ℕ) → step-lts.Need-returns-3 (
-  intern-reads.Asked,
-  intern-reads.Learnt,
-  act-of-reads.Asked,
-  act-of-reads.Learnt,
-  plain-reads.Asked,
-  plain-reads.Learnt,
-  mutating-below t,
-  mutating.Post,
-  capturing-below t,
-  capturing.Post,
-  assigning-below t,
-  assigning.Post,
-  creating-from-below t,
-  creating-from.Post,
-  creating-chosen-below t,
-  creating-chosen.Post,
-) (step-at t) step.Post
+step-returns-3 : (t : ℕ) → step-lts.Need-returns-3 (step-reads t) (step-at t) step.Post
 step-returns-3 t c = step-acts _ _ _ _ _ _ (c .before .before .before .before .before .before .before .before .before .before .before .before .before .before .before .before .before .before .before .before .before .before .if1 .left) (c .before .before .before .before .before .before .before .before .before .before .before .before .before .before .before .before .before .before .before .before .intern .ensures _ _ _ _) _ (c .before .before .before .before .before .before .before .before .before .before .before .before .before .before .before .before .if2 .left) (arm-plain _ _ _ _ _ _ _ (c .before .before .before .before .before .before .before .before .before .before .before .before .before .before .before .act-of .ensures) (c .before .before .before .before .before .before .before .before .before .before .before .before .before .enum-told .given .1) (c .before .before .before .before .before .before .before .before .plain .ensures))
 
--- src/lib.rt:347:1
-step-same-length-6 : (t : ℕ) → step-lts.Need-same-length-6 (
-  intern-reads.Asked,
-  intern-reads.Learnt,
-  act-of-reads.Asked,
-  act-of-reads.Learnt,
-  plain-reads.Asked,
-  plain-reads.Learnt,
-  mutating-below t,
-  mutating.Post,
-  capturing-below t,
-  capturing.Post,
-  assigning-below t,
-  assigning.Post,
-  creating-from-below t,
-  creating-from.Post,
-  creating-chosen-below t,
-  creating-chosen.Post,
-) (step-at t) step.Post
+step-same-length-6 : (t : ℕ) → step-lts.Need-same-length-6 (step-reads t) (step-at t) step.Post
 step-same-length-6 t c = c .before .before .before .before .before .before .before .before .mutating .kept .0
 
--- src/lib.rt:347:1
-step-same-length-7 : (t : ℕ) → step-lts.Need-same-length-7 (
-  intern-reads.Asked,
-  intern-reads.Learnt,
-  act-of-reads.Asked,
-  act-of-reads.Learnt,
-  plain-reads.Asked,
-  plain-reads.Learnt,
-  mutating-below t,
-  mutating.Post,
-  capturing-below t,
-  capturing.Post,
-  assigning-below t,
-  assigning.Post,
-  creating-from-below t,
-  creating-from.Post,
-  creating-chosen-below t,
-  creating-chosen.Post,
-) (step-at t) step.Post
+step-same-length-7 : (t : ℕ) → step-lts.Need-same-length-7 (step-reads t) (step-at t) step.Post
 step-same-length-7 t c = c .before .before .before .before .before .before .before .before .mutating .kept .1 .0
 
--- src/lib.rt:347:1
-step-same-length-8 : (t : ℕ) → step-lts.Need-same-length-8 (
-  intern-reads.Asked,
-  intern-reads.Learnt,
-  act-of-reads.Asked,
-  act-of-reads.Learnt,
-  plain-reads.Asked,
-  plain-reads.Learnt,
-  mutating-below t,
-  mutating.Post,
-  capturing-below t,
-  capturing.Post,
-  assigning-below t,
-  assigning.Post,
-  creating-from-below t,
-  creating-from.Post,
-  creating-chosen-below t,
-  creating-chosen.Post,
-) (step-at t) step.Post
+step-same-length-8 : (t : ℕ) → step-lts.Need-same-length-8 (step-reads t) (step-at t) step.Post
 step-same-length-8 t c = c .before .before .before .before .before .before .before .before .mutating .kept .1 .1 .0 ∙ c .before .before .before .before .before .before .before .before .before .before .before .before .before .before .before .before .before .before .before .before .before .intern .kept .0
 
--- src/lib.rt:347:1
-step-same-length-9 : (t : ℕ) → step-lts.Need-same-length-9 (
-  intern-reads.Asked,
-  intern-reads.Learnt,
-  act-of-reads.Asked,
-  act-of-reads.Learnt,
-  plain-reads.Asked,
-  plain-reads.Learnt,
-  mutating-below t,
-  mutating.Post,
-  capturing-below t,
-  capturing.Post,
-  assigning-below t,
-  assigning.Post,
-  creating-from-below t,
-  creating-from.Post,
-  creating-chosen-below t,
-  creating-chosen.Post,
-) (step-at t) step.Post
+step-same-length-9 : (t : ℕ) → step-lts.Need-same-length-9 (step-reads t) (step-at t) step.Post
 step-same-length-9 t c = c .before .before .before .before .before .before .before .before .mutating .kept .1 .1 .1 .0
 
--- src/lib.rt:347:1
-step-returns-4 : (t : ℕ) → step-lts.Need-returns-4 (
-  intern-reads.Asked,
-  intern-reads.Learnt,
-  act-of-reads.Asked,
-  act-of-reads.Learnt,
-  plain-reads.Asked,
-  plain-reads.Learnt,
-  mutating-below t,
-  mutating.Post,
-  capturing-below t,
-  capturing.Post,
-  assigning-below t,
-  assigning.Post,
-  creating-from-below t,
-  creating-from.Post,
-  creating-chosen-below t,
-  creating-chosen.Post,
-) (step-at t) step.Post
+step-returns-4 : (t : ℕ) → step-lts.Need-returns-4 (step-reads t) (step-at t) step.Post
 step-returns-4 t c = step-acts _ _ _ _ _ _ (c .before .before .before .before .before .before .before .before .before .before .before .before .before .before .before .before .before .before .before .before .before .before .before .if1 .left) (c .before .before .before .before .before .before .before .before .before .before .before .before .before .before .before .before .before .before .before .before .before .intern .ensures _ _ _ _) _ (c .before .before .before .before .before .before .before .before .before .before .before .before .before .before .before .before .before .if2 .left) (arm-mutating _ _ _ _ _ _ _ (c .before .before .before .before .before .before .before .before .before .before .before .before .before .before .before .before .act-of .ensures) _ _ (c .before .before .before .before .before .before .before .before .before .before .before .before .before .before .a .given .1) (c .before .before .before .before .before .before .before .before .mutating .ensures))
 
--- src/lib.rt:347:1
-step-same-length-10 : (t : ℕ) → step-lts.Need-same-length-10 (
-  intern-reads.Asked,
-  intern-reads.Learnt,
-  act-of-reads.Asked,
-  act-of-reads.Learnt,
-  plain-reads.Asked,
-  plain-reads.Learnt,
-  mutating-below t,
-  mutating.Post,
-  capturing-below t,
-  capturing.Post,
-  assigning-below t,
-  assigning.Post,
-  creating-from-below t,
-  creating-from.Post,
-  creating-chosen-below t,
-  creating-chosen.Post,
-) (step-at t) step.Post
+step-same-length-10 : (t : ℕ) → step-lts.Need-same-length-10 (step-reads t) (step-at t) step.Post
 step-same-length-10 t c = c .before .before .before .before .before .before .before .before .capturing .kept .0
 
--- src/lib.rt:347:1
-step-same-length-11 : (t : ℕ) → step-lts.Need-same-length-11 (
-  intern-reads.Asked,
-  intern-reads.Learnt,
-  act-of-reads.Asked,
-  act-of-reads.Learnt,
-  plain-reads.Asked,
-  plain-reads.Learnt,
-  mutating-below t,
-  mutating.Post,
-  capturing-below t,
-  capturing.Post,
-  assigning-below t,
-  assigning.Post,
-  creating-from-below t,
-  creating-from.Post,
-  creating-chosen-below t,
-  creating-chosen.Post,
-) (step-at t) step.Post
+step-same-length-11 : (t : ℕ) → step-lts.Need-same-length-11 (step-reads t) (step-at t) step.Post
 step-same-length-11 t c = c .before .before .before .before .before .before .before .before .capturing .kept .1 .0
 
--- src/lib.rt:347:1
-step-same-length-12 : (t : ℕ) → step-lts.Need-same-length-12 (
-  intern-reads.Asked,
-  intern-reads.Learnt,
-  act-of-reads.Asked,
-  act-of-reads.Learnt,
-  plain-reads.Asked,
-  plain-reads.Learnt,
-  mutating-below t,
-  mutating.Post,
-  capturing-below t,
-  capturing.Post,
-  assigning-below t,
-  assigning.Post,
-  creating-from-below t,
-  creating-from.Post,
-  creating-chosen-below t,
-  creating-chosen.Post,
-) (step-at t) step.Post
+step-same-length-12 : (t : ℕ) → step-lts.Need-same-length-12 (step-reads t) (step-at t) step.Post
 step-same-length-12 t c = c .before .before .before .before .before .before .before .before .capturing .kept .1 .1 .0 ∙ c .before .before .before .before .before .before .before .before .before .before .before .before .before .before .before .before .before .before .before .before .before .intern .kept .0
 
--- src/lib.rt:347:1
-step-same-length-13 : (t : ℕ) → step-lts.Need-same-length-13 (
-  intern-reads.Asked,
-  intern-reads.Learnt,
-  act-of-reads.Asked,
-  act-of-reads.Learnt,
-  plain-reads.Asked,
-  plain-reads.Learnt,
-  mutating-below t,
-  mutating.Post,
-  capturing-below t,
-  capturing.Post,
-  assigning-below t,
-  assigning.Post,
-  creating-from-below t,
-  creating-from.Post,
-  creating-chosen-below t,
-  creating-chosen.Post,
-) (step-at t) step.Post
+step-same-length-13 : (t : ℕ) → step-lts.Need-same-length-13 (step-reads t) (step-at t) step.Post
 step-same-length-13 t c = c .before .before .before .before .before .before .before .before .capturing .kept .1 .1 .1 .0
 
--- src/lib.rt:347:1
-step-returns-5 : (t : ℕ) → step-lts.Need-returns-5 (
-  intern-reads.Asked,
-  intern-reads.Learnt,
-  act-of-reads.Asked,
-  act-of-reads.Learnt,
-  plain-reads.Asked,
-  plain-reads.Learnt,
-  mutating-below t,
-  mutating.Post,
-  capturing-below t,
-  capturing.Post,
-  assigning-below t,
-  assigning.Post,
-  creating-from-below t,
-  creating-from.Post,
-  creating-chosen-below t,
-  creating-chosen.Post,
-) (step-at t) step.Post
+step-returns-5 : (t : ℕ) → step-lts.Need-returns-5 (step-reads t) (step-at t) step.Post
 step-returns-5 t c = step-acts _ _ _ _ _ _ (c .before .before .before .before .before .before .before .before .before .before .before .before .before .before .before .before .before .before .before .before .before .before .before .if1 .left) (c .before .before .before .before .before .before .before .before .before .before .before .before .before .before .before .before .before .before .before .before .before .intern .ensures _ _ _ _) _ (c .before .before .before .before .before .before .before .before .before .before .before .before .before .before .before .before .before .if2 .left) (arm-flowing _ _ _ _ _ _ _ (c .before .before .before .before .before .before .before .before .before .before .before .before .before .before .before .before .act-of .ensures) _ _ _ _ (c .before .before .before .before .before .before .before .before .before .before .before .before .before .before .a2 .given .1) (c .before .before .before .before .before .before .before .before .capturing .ensures))
 
--- src/lib.rt:347:1
-step-same-length-14 : (t : ℕ) → step-lts.Need-same-length-14 (
-  intern-reads.Asked,
-  intern-reads.Learnt,
-  act-of-reads.Asked,
-  act-of-reads.Learnt,
-  plain-reads.Asked,
-  plain-reads.Learnt,
-  mutating-below t,
-  mutating.Post,
-  capturing-below t,
-  capturing.Post,
-  assigning-below t,
-  assigning.Post,
-  creating-from-below t,
-  creating-from.Post,
-  creating-chosen-below t,
-  creating-chosen.Post,
-) (step-at t) step.Post
+step-same-length-14 : (t : ℕ) → step-lts.Need-same-length-14 (step-reads t) (step-at t) step.Post
 step-same-length-14 t c = c .before .before .before .before .before .before .before .before .assigning .kept .0
 
--- src/lib.rt:347:1
-step-same-length-15 : (t : ℕ) → step-lts.Need-same-length-15 (
-  intern-reads.Asked,
-  intern-reads.Learnt,
-  act-of-reads.Asked,
-  act-of-reads.Learnt,
-  plain-reads.Asked,
-  plain-reads.Learnt,
-  mutating-below t,
-  mutating.Post,
-  capturing-below t,
-  capturing.Post,
-  assigning-below t,
-  assigning.Post,
-  creating-from-below t,
-  creating-from.Post,
-  creating-chosen-below t,
-  creating-chosen.Post,
-) (step-at t) step.Post
+step-same-length-15 : (t : ℕ) → step-lts.Need-same-length-15 (step-reads t) (step-at t) step.Post
 step-same-length-15 t c = c .before .before .before .before .before .before .before .before .assigning .kept .1 .0
 
--- src/lib.rt:347:1
-step-same-length-16 : (t : ℕ) → step-lts.Need-same-length-16 (
-  intern-reads.Asked,
-  intern-reads.Learnt,
-  act-of-reads.Asked,
-  act-of-reads.Learnt,
-  plain-reads.Asked,
-  plain-reads.Learnt,
-  mutating-below t,
-  mutating.Post,
-  capturing-below t,
-  capturing.Post,
-  assigning-below t,
-  assigning.Post,
-  creating-from-below t,
-  creating-from.Post,
-  creating-chosen-below t,
-  creating-chosen.Post,
-) (step-at t) step.Post
+step-same-length-16 : (t : ℕ) → step-lts.Need-same-length-16 (step-reads t) (step-at t) step.Post
 step-same-length-16 t c = c .before .before .before .before .before .before .before .before .assigning .kept .1 .1 .0 ∙ c .before .before .before .before .before .before .before .before .before .before .before .before .before .before .before .before .before .before .before .before .before .intern .kept .0
 
--- src/lib.rt:347:1
-step-same-length-17 : (t : ℕ) → step-lts.Need-same-length-17 (
-  intern-reads.Asked,
-  intern-reads.Learnt,
-  act-of-reads.Asked,
-  act-of-reads.Learnt,
-  plain-reads.Asked,
-  plain-reads.Learnt,
-  mutating-below t,
-  mutating.Post,
-  capturing-below t,
-  capturing.Post,
-  assigning-below t,
-  assigning.Post,
-  creating-from-below t,
-  creating-from.Post,
-  creating-chosen-below t,
-  creating-chosen.Post,
-) (step-at t) step.Post
+step-same-length-17 : (t : ℕ) → step-lts.Need-same-length-17 (step-reads t) (step-at t) step.Post
 step-same-length-17 t c = c .before .before .before .before .before .before .before .before .assigning .kept .1 .1 .1 .0
 
--- src/lib.rt:347:1
-step-returns-6 : (t : ℕ) → step-lts.Need-returns-6 (
-  intern-reads.Asked,
-  intern-reads.Learnt,
-  act-of-reads.Asked,
-  act-of-reads.Learnt,
-  plain-reads.Asked,
-  plain-reads.Learnt,
-  mutating-below t,
-  mutating.Post,
-  capturing-below t,
-  capturing.Post,
-  assigning-below t,
-  assigning.Post,
-  creating-from-below t,
-  creating-from.Post,
-  creating-chosen-below t,
-  creating-chosen.Post,
-) (step-at t) step.Post
+step-returns-6 : (t : ℕ) → step-lts.Need-returns-6 (step-reads t) (step-at t) step.Post
 step-returns-6 t c = step-acts _ _ _ _ _ _ (c .before .before .before .before .before .before .before .before .before .before .before .before .before .before .before .before .before .before .before .before .before .before .before .if1 .left) (c .before .before .before .before .before .before .before .before .before .before .before .before .before .before .before .before .before .before .before .before .before .intern .ensures _ _ _ _) _ (c .before .before .before .before .before .before .before .before .before .before .before .before .before .before .before .before .before .if2 .left) (arm-assigning _ _ _ [] _ _ _ (c .before .before .before .before .before .before .before .before .before .before .before .before .before .before .before .before .act-of .ensures) _ _ (c .before .before .before .before .before .before .before .before .before .before .before .before .before .before .a3 .given .1) (c .before .before .before .before .before .before .before .before .assigning .ensures))
 
--- src/lib.rt:347:1
-step-same-length-18 : (t : ℕ) → step-lts.Need-same-length-18 (
-  intern-reads.Asked,
-  intern-reads.Learnt,
-  act-of-reads.Asked,
-  act-of-reads.Learnt,
-  plain-reads.Asked,
-  plain-reads.Learnt,
-  mutating-below t,
-  mutating.Post,
-  capturing-below t,
-  capturing.Post,
-  assigning-below t,
-  assigning.Post,
-  creating-from-below t,
-  creating-from.Post,
-  creating-chosen-below t,
-  creating-chosen.Post,
-) (step-at t) step.Post
+step-same-length-18 : (t : ℕ) → step-lts.Need-same-length-18 (step-reads t) (step-at t) step.Post
 step-same-length-18 t c = c .before .before .before .before .before .before .before .before .creating-from .kept .0
 
--- src/lib.rt:347:1
-step-same-length-19 : (t : ℕ) → step-lts.Need-same-length-19 (
-  intern-reads.Asked,
-  intern-reads.Learnt,
-  act-of-reads.Asked,
-  act-of-reads.Learnt,
-  plain-reads.Asked,
-  plain-reads.Learnt,
-  mutating-below t,
-  mutating.Post,
-  capturing-below t,
-  capturing.Post,
-  assigning-below t,
-  assigning.Post,
-  creating-from-below t,
-  creating-from.Post,
-  creating-chosen-below t,
-  creating-chosen.Post,
-) (step-at t) step.Post
+step-same-length-19 : (t : ℕ) → step-lts.Need-same-length-19 (step-reads t) (step-at t) step.Post
 step-same-length-19 t c = c .before .before .before .before .before .before .before .before .creating-from .kept .1 .0
 
--- src/lib.rt:347:1
-step-same-length-20 : (t : ℕ) → step-lts.Need-same-length-20 (
-  intern-reads.Asked,
-  intern-reads.Learnt,
-  act-of-reads.Asked,
-  act-of-reads.Learnt,
-  plain-reads.Asked,
-  plain-reads.Learnt,
-  mutating-below t,
-  mutating.Post,
-  capturing-below t,
-  capturing.Post,
-  assigning-below t,
-  assigning.Post,
-  creating-from-below t,
-  creating-from.Post,
-  creating-chosen-below t,
-  creating-chosen.Post,
-) (step-at t) step.Post
+step-same-length-20 : (t : ℕ) → step-lts.Need-same-length-20 (step-reads t) (step-at t) step.Post
 step-same-length-20 t c = c .before .before .before .before .before .before .before .before .creating-from .kept .1 .1 .0 ∙ c .before .before .before .before .before .before .before .before .before .before .before .before .before .before .before .before .before .before .before .before .before .intern .kept .0
 
--- src/lib.rt:347:1
-step-same-length-21 : (t : ℕ) → step-lts.Need-same-length-21 (
-  intern-reads.Asked,
-  intern-reads.Learnt,
-  act-of-reads.Asked,
-  act-of-reads.Learnt,
-  plain-reads.Asked,
-  plain-reads.Learnt,
-  mutating-below t,
-  mutating.Post,
-  capturing-below t,
-  capturing.Post,
-  assigning-below t,
-  assigning.Post,
-  creating-from-below t,
-  creating-from.Post,
-  creating-chosen-below t,
-  creating-chosen.Post,
-) (step-at t) step.Post
+step-same-length-21 : (t : ℕ) → step-lts.Need-same-length-21 (step-reads t) (step-at t) step.Post
 step-same-length-21 t c = c .before .before .before .before .before .before .before .before .creating-from .kept .1 .1 .1 .0
 
--- src/lib.rt:347:1
-step-returns-7 : (t : ℕ) → step-lts.Need-returns-7 (
-  intern-reads.Asked,
-  intern-reads.Learnt,
-  act-of-reads.Asked,
-  act-of-reads.Learnt,
-  plain-reads.Asked,
-  plain-reads.Learnt,
-  mutating-below t,
-  mutating.Post,
-  capturing-below t,
-  capturing.Post,
-  assigning-below t,
-  assigning.Post,
-  creating-from-below t,
-  creating-from.Post,
-  creating-chosen-below t,
-  creating-chosen.Post,
-) (step-at t) step.Post
+step-returns-7 : (t : ℕ) → step-lts.Need-returns-7 (step-reads t) (step-at t) step.Post
 step-returns-7 t c = step-acts _ _ _ _ _ _ (c .before .before .before .before .before .before .before .before .before .before .before .before .before .before .before .before .before .before .before .before .before .before .before .if1 .left) (c .before .before .before .before .before .before .before .before .before .before .before .before .before .before .before .before .before .before .before .before .before .intern .ensures _ _ _ _) _ (c .before .before .before .before .before .before .before .before .before .before .before .before .before .before .before .before .before .if2 .left) (arm-from _ _ _ [] _ _ _ (c .before .before .before .before .before .before .before .before .before .before .before .before .before .before .before .before .act-of .ensures) _ _ (c .before .before .before .before .before .before .before .before .before .before .before .before .before .before .a4 .given .1) (c .before .before .before .before .before .before .before .before .creating-from .ensures))
 
--- src/lib.rt:347:1
-step-same-length-22 : (t : ℕ) → step-lts.Need-same-length-22 (
-  intern-reads.Asked,
-  intern-reads.Learnt,
-  act-of-reads.Asked,
-  act-of-reads.Learnt,
-  plain-reads.Asked,
-  plain-reads.Learnt,
-  mutating-below t,
-  mutating.Post,
-  capturing-below t,
-  capturing.Post,
-  assigning-below t,
-  assigning.Post,
-  creating-from-below t,
-  creating-from.Post,
-  creating-chosen-below t,
-  creating-chosen.Post,
-) (step-at t) step.Post
+step-same-length-22 : (t : ℕ) → step-lts.Need-same-length-22 (step-reads t) (step-at t) step.Post
 step-same-length-22 t c = c .before .before .before .before .before .before .before .before .creating-chosen .kept .0
 
--- src/lib.rt:347:1
-step-same-length-23 : (t : ℕ) → step-lts.Need-same-length-23 (
-  intern-reads.Asked,
-  intern-reads.Learnt,
-  act-of-reads.Asked,
-  act-of-reads.Learnt,
-  plain-reads.Asked,
-  plain-reads.Learnt,
-  mutating-below t,
-  mutating.Post,
-  capturing-below t,
-  capturing.Post,
-  assigning-below t,
-  assigning.Post,
-  creating-from-below t,
-  creating-from.Post,
-  creating-chosen-below t,
-  creating-chosen.Post,
-) (step-at t) step.Post
+step-same-length-23 : (t : ℕ) → step-lts.Need-same-length-23 (step-reads t) (step-at t) step.Post
 step-same-length-23 t c = c .before .before .before .before .before .before .before .before .creating-chosen .kept .1 .0
 
--- src/lib.rt:347:1
-step-same-length-24 : (t : ℕ) → step-lts.Need-same-length-24 (
-  intern-reads.Asked,
-  intern-reads.Learnt,
-  act-of-reads.Asked,
-  act-of-reads.Learnt,
-  plain-reads.Asked,
-  plain-reads.Learnt,
-  mutating-below t,
-  mutating.Post,
-  capturing-below t,
-  capturing.Post,
-  assigning-below t,
-  assigning.Post,
-  creating-from-below t,
-  creating-from.Post,
-  creating-chosen-below t,
-  creating-chosen.Post,
-) (step-at t) step.Post
+step-same-length-24 : (t : ℕ) → step-lts.Need-same-length-24 (step-reads t) (step-at t) step.Post
 step-same-length-24 t c = c .before .before .before .before .before .before .before .before .creating-chosen .kept .1 .1 .0 ∙ c .before .before .before .before .before .before .before .before .before .before .before .before .before .before .before .before .before .before .before .before .before .intern .kept .0
 
--- src/lib.rt:347:1
-step-same-length-25 : (t : ℕ) → step-lts.Need-same-length-25 (
-  intern-reads.Asked,
-  intern-reads.Learnt,
-  act-of-reads.Asked,
-  act-of-reads.Learnt,
-  plain-reads.Asked,
-  plain-reads.Learnt,
-  mutating-below t,
-  mutating.Post,
-  capturing-below t,
-  capturing.Post,
-  assigning-below t,
-  assigning.Post,
-  creating-from-below t,
-  creating-from.Post,
-  creating-chosen-below t,
-  creating-chosen.Post,
-) (step-at t) step.Post
+step-same-length-25 : (t : ℕ) → step-lts.Need-same-length-25 (step-reads t) (step-at t) step.Post
 step-same-length-25 t c = c .before .before .before .before .before .before .before .before .creating-chosen .kept .1 .1 .1 .0
 
--- src/lib.rt:347:1
-step-returns-8 : (t : ℕ) → step-lts.Need-returns-8 (
-  intern-reads.Asked,
-  intern-reads.Learnt,
-  act-of-reads.Asked,
-  act-of-reads.Learnt,
-  plain-reads.Asked,
-  plain-reads.Learnt,
-  mutating-below t,
-  mutating.Post,
-  capturing-below t,
-  capturing.Post,
-  assigning-below t,
-  assigning.Post,
-  creating-from-below t,
-  creating-from.Post,
-  creating-chosen-below t,
-  creating-chosen.Post,
-) (step-at t) step.Post
+step-returns-8 : (t : ℕ) → step-lts.Need-returns-8 (step-reads t) (step-at t) step.Post
 step-returns-8 t c = step-acts _ _ _ _ _ _ (c .before .before .before .before .before .before .before .before .before .before .before .before .before .before .before .before .before .before .before .before .before .before .before .if1 .left) (c .before .before .before .before .before .before .before .before .before .before .before .before .before .before .before .before .before .before .before .before .before .intern .ensures _ _ _ _) _ (c .before .before .before .before .before .before .before .before .before .before .before .before .before .before .before .before .before .if2 .left) (arm-function _ _ _ [] _ _ _ (c .before .before .before .before .before .before .before .before .before .before .before .before .before .before .before .before .act-of .ensures) _ _ (c .before .before .before .before .before .before .before .before .before .before .before .before .before .before .a5 .given .1) (c .before .before .before .before .before .before .before .before .creating-chosen .ensures))
 
 pub +assigning+capture-all+capturing+creating-chosen+creating-from+creating-function+follow+mutating+step-spec :
@@ -2431,18 +773,7 @@ pub +assigning+capture-all+capturing+creating-chosen+creating-from+creating-func
     μ-follow
     μ-mutating
     μ-step
-    (λ t. assigning-lts.spec (
-      begin-assign-reads.Asked,
-      begin-assign-reads.Learnt,
-      is-frozen-reads.Asked,
-      is-frozen-reads.Learnt,
-      step-below t,
-      step.Post,
-      number-and-create-reads.Asked,
-      number-and-create-reads.Learnt,
-      assign-rest-reads.Asked,
-      assign-rest-reads.Learnt,
-    )
+    (λ t. assigning-lts.spec (assigning-reads t)
     (assigning-at t)
     assigning.Post
     (assigning-begin-assign-requires t)
@@ -2468,14 +799,7 @@ pub +assigning+capture-all+capturing+creating-chosen+creating-from+creating-func
     (assigning-same-length-13 t)
     (assigning-same-length-14 t)
     (assigning-returns-4 t))
-    (λ t. capture-all-lts.spec (
-      field-reads.Asked,
-      field-reads.Learnt,
-      place-in-reads.Asked,
-      place-in-reads.Learnt,
-      step-below t,
-      step.Post,
-    )
+    (λ t. capture-all-lts.spec (capture-all-reads t)
     (capture-all-at t)
     capture-all.Post
     capture-all-Inv-loop
@@ -2511,12 +835,7 @@ pub +assigning+capture-all+capturing+creating-chosen+creating-from+creating-func
     (capturing-same-length-5 t)
     (capturing-same-length-6 t)
     (capturing-returns-2 t))
-    (λ t. creating-chosen-lts.spec (
-      choose-captures-reads.Asked,
-      choose-captures-reads.Learnt,
-      creating-function-below t,
-      creating-function.Post,
-    )
+    (λ t. creating-chosen-lts.spec (creating-chosen-reads t)
     (creating-chosen-at t)
     creating-chosen.Post
     (creating-chosen-slice-aggregate-choose-captures t)
@@ -2528,12 +847,7 @@ pub +assigning+capture-all+capturing+creating-chosen+creating-from+creating-func
     (creating-chosen-same-length-3 t)
     (creating-chosen-same-length-4 t)
     (creating-chosen-returns t))
-    (λ t. creating-from-lts.spec (
-      create-from-reads.Asked,
-      create-from-reads.Learnt,
-      follow-below t,
-      follow.Post,
-    )
+    (λ t. creating-from-lts.spec (creating-from-reads t)
     (creating-from-at t)
     creating-from.Post
     (creating-from-create-from-requires t)
@@ -2548,12 +862,7 @@ pub +assigning+capture-all+capturing+creating-chosen+creating-from+creating-func
     (creating-from-same-length-7 t)
     (creating-from-same-length-8 t)
     (creating-from-returns-2 t))
-    (λ t. creating-function-lts.spec (
-      make-function-reads.Asked,
-      make-function-reads.Learnt,
-      capture-all-below t,
-      capture-all.Post,
-    )
+    (λ t. creating-function-lts.spec (creating-function-reads t)
     (creating-function-at t)
     creating-function.Post
     (creating-function-make-function-requires t)
@@ -2585,12 +894,7 @@ pub +assigning+capture-all+capturing+creating-chosen+creating-from+creating-func
     (follow-same-length-4 t)
     (follow-same-length-5 t)
     (follow-returns-3 t))
-    (λ t. mutating-lts.spec (
-      mutation-reads.Asked,
-      mutation-reads.Learnt,
-      follow-below t,
-      follow.Post,
-    )
+    (λ t. mutating-lts.spec (mutating-reads t)
     (mutating-at t)
     mutating.Post
     (mutating-mutation-requires t)
@@ -2604,24 +908,7 @@ pub +assigning+capture-all+capturing+creating-chosen+creating-from+creating-func
     (mutating-same-length-6 t)
     (mutating-same-length-7 t)
     (mutating-returns-2 t))
-    λ t. step-lts.spec (
-      intern-reads.Asked,
-      intern-reads.Learnt,
-      act-of-reads.Asked,
-      act-of-reads.Learnt,
-      plain-reads.Asked,
-      plain-reads.Learnt,
-      mutating-below t,
-      mutating.Post,
-      capturing-below t,
-      capturing.Post,
-      assigning-below t,
-      assigning.Post,
-      creating-from-below t,
-      creating-from.Post,
-      creating-chosen-below t,
-      creating-chosen.Post,
-    )
+    λ t. step-lts.spec (step-reads t)
     (step-at t)
     step.Post
     (step-returns t)

@@ -33,574 +33,8 @@ enter-at t = and 3 enter-kinds.ps (is 3 enter-kinds.ps μ-enter t) enter.Pre
 abbrev enter-below : ℕ → In 3 enter-kinds.ps
 enter-below t = and 3 enter-kinds.ps (falls 3 enter-kinds.ps _<_ μ-enter t) enter.Pre
 
-abbrev enter-Inv-loop2 : enter-lts.InvT-loop2
-enter-Inv-loop2 values₀ sets context reason v freeze entries made₀ all₀ f n k i m₀ values made all m =
-    (length values ≡ length values₀)
-    × RunsRow values₀ sets context reason i made₀ all₀ m values made all
-
-abbrev enter-μ-loop2 : enter-lts.MeasureT-loop2
-enter-μ-loop2 values₀ sets context reason v freeze entries made₀ all₀ f n k i m₀ values made all m = 1024 - m
-
-abbrev enter-Inv-loop : enter-lts.InvT-loop
-enter-Inv-loop values₀ sets context reason v freeze entries made₀ all₀ f n k₀ values made all k =
-    (length values ≡ length values₀)
-    × Runs values₀ sets context reason v freeze entries f n k values made all
-
-abbrev enter-μ-loop : enter-lts.MeasureT-loop
-enter-μ-loop values₀ sets context reason v freeze entries made₀ all₀ f n k₀ values made all k = n - k
-
--- src/lib.rt:78:9
-enter-returns : (t : ℕ) → enter-lts.Need-returns (
-  one-more-reads.Asked,
-  one-more-reads.Learnt,
-  link-of-reads.Asked,
-  link-of-reads.Learnt,
-  context-count-reads.Asked,
-  context-count-reads.Learnt,
-  context-identifier-reads.Asked,
-  context-identifier-reads.Learnt,
-  opens-reads.Asked,
-  opens-reads.Learnt,
-  next-member-reads.Asked,
-  next-member-reads.Learnt,
-  freeze-value-reads.Asked,
-  freeze-value-reads.Learnt,
-  enter-below t,
-  enter.Post,
-) (enter-at t) enter.Post enter-Inv-loop2 enter-μ-loop2 enter-Inv-loop enter-μ-loop
-enter-returns t c = enters-none _ _ _ _ _ _ _ (c .if1 .taken)
-
--- src/lib.rt:84:20
-enter-add-made : (t : ℕ) → enter-lts.Need-add-made (
-  one-more-reads.Asked,
-  one-more-reads.Learnt,
-  link-of-reads.Asked,
-  link-of-reads.Learnt,
-  context-count-reads.Asked,
-  context-count-reads.Learnt,
-  context-identifier-reads.Asked,
-  context-identifier-reads.Learnt,
-  opens-reads.Asked,
-  opens-reads.Learnt,
-  next-member-reads.Asked,
-  next-member-reads.Learnt,
-  freeze-value-reads.Asked,
-  freeze-value-reads.Learnt,
-  enter-below t,
-  enter.Post,
-) (enter-at t) enter.Post enter-Inv-loop2 enter-μ-loop2 enter-Inv-loop enter-μ-loop
-enter-add-made t c = search needs
-
--- src/lib.rt:85:9
-enter-one-more-requires : (t : ℕ) → enter-lts.Need-one-more-requires (
-  one-more-reads.Asked,
-  one-more-reads.Learnt,
-  link-of-reads.Asked,
-  link-of-reads.Learnt,
-  context-count-reads.Asked,
-  context-count-reads.Learnt,
-  context-identifier-reads.Asked,
-  context-identifier-reads.Learnt,
-  opens-reads.Asked,
-  opens-reads.Learnt,
-  next-member-reads.Asked,
-  next-member-reads.Learnt,
-  freeze-value-reads.Asked,
-  freeze-value-reads.Learnt,
-  enter-below t,
-  enter.Post,
-) (enter-at t) enter.Post enter-Inv-loop2 enter-μ-loop2 enter-Inv-loop enter-μ-loop
-enter-one-more-requires t c κs = search needs
-
--- src/lib.rt:86:24
-enter-link-of-requires : (t : ℕ) → enter-lts.Need-link-of-requires (
-  one-more-reads.Asked,
-  one-more-reads.Learnt,
-  link-of-reads.Asked,
-  link-of-reads.Learnt,
-  context-count-reads.Asked,
-  context-count-reads.Learnt,
-  context-identifier-reads.Asked,
-  context-identifier-reads.Learnt,
-  opens-reads.Asked,
-  opens-reads.Learnt,
-  next-member-reads.Asked,
-  next-member-reads.Learnt,
-  freeze-value-reads.Asked,
-  freeze-value-reads.Learnt,
-  enter-below t,
-  enter.Post,
-) (enter-at t) enter.Post enter-Inv-loop2 enter-μ-loop2 enter-Inv-loop enter-μ-loop
-enter-link-of-requires t c κs = search needs
-
--- src/lib.rt:86:19
-enter-enum-known-f : (t : ℕ) → enter-lts.Need-enum-known-f (
-  one-more-reads.Asked,
-  one-more-reads.Learnt,
-  link-of-reads.Asked,
-  link-of-reads.Learnt,
-  context-count-reads.Asked,
-  context-count-reads.Learnt,
-  context-identifier-reads.Asked,
-  context-identifier-reads.Learnt,
-  opens-reads.Asked,
-  opens-reads.Learnt,
-  next-member-reads.Asked,
-  next-member-reads.Learnt,
-  freeze-value-reads.Asked,
-  freeze-value-reads.Learnt,
-  enter-below t,
-  enter.Post,
-) (enter-at t) enter.Post enter-Inv-loop2 enter-μ-loop2 enter-Inv-loop enter-μ-loop
-enter-enum-known-f t c = search needs
-
--- src/lib.rt:87:9
-enter-enum-told : (t : ℕ) → enter-lts.Need-enum-told (
-  one-more-reads.Asked,
-  one-more-reads.Learnt,
-  link-of-reads.Asked,
-  link-of-reads.Learnt,
-  context-count-reads.Asked,
-  context-count-reads.Learnt,
-  context-identifier-reads.Asked,
-  context-identifier-reads.Learnt,
-  opens-reads.Asked,
-  opens-reads.Learnt,
-  next-member-reads.Asked,
-  next-member-reads.Learnt,
-  freeze-value-reads.Asked,
-  freeze-value-reads.Learnt,
-  enter-below t,
-  enter.Post,
-) (enter-at t) enter.Post enter-Inv-loop2 enter-μ-loop2 enter-Inv-loop enter-μ-loop
-enter-enum-told t c = search needs
-
--- src/lib.rt:87:9
-enter-returns-2 : (t : ℕ) → enter-lts.Need-returns-2 (
-  one-more-reads.Asked,
-  one-more-reads.Learnt,
-  link-of-reads.Asked,
-  link-of-reads.Learnt,
-  context-count-reads.Asked,
-  context-count-reads.Learnt,
-  context-identifier-reads.Asked,
-  context-identifier-reads.Learnt,
-  opens-reads.Asked,
-  opens-reads.Learnt,
-  next-member-reads.Asked,
-  next-member-reads.Learnt,
-  freeze-value-reads.Asked,
-  freeze-value-reads.Learnt,
-  enter-below t,
-  enter.Post,
-) (enter-at t) enter.Post enter-Inv-loop2 enter-μ-loop2 enter-Inv-loop enter-μ-loop
-enter-returns-2 t c = enters-plain _ _ _ _ _ _ _ _ _ _ (c .before .before .before .before .if1 .left) refl (c .before .before .before .one-more .ensures) (c .before .before .link-of .ensures) (ap optionOf (c .enum-told .given .1))
-
--- src/lib.rt:93:9
-enter-context-count-requires : (t : ℕ) → enter-lts.Need-context-count-requires (
-  one-more-reads.Asked,
-  one-more-reads.Learnt,
-  link-of-reads.Asked,
-  link-of-reads.Learnt,
-  context-count-reads.Asked,
-  context-count-reads.Learnt,
-  context-identifier-reads.Asked,
-  context-identifier-reads.Learnt,
-  opens-reads.Asked,
-  opens-reads.Learnt,
-  next-member-reads.Asked,
-  next-member-reads.Learnt,
-  freeze-value-reads.Asked,
-  freeze-value-reads.Learnt,
-  enter-below t,
-  enter.Post,
-) (enter-at t) enter.Post enter-Inv-loop2 enter-μ-loop2 enter-Inv-loop enter-μ-loop
-enter-context-count-requires t c κs = search needs
-
--- src/lib.rt:95:5
-enter-loop-holds : (t : ℕ) → enter-lts.Need-loop-holds (
-  one-more-reads.Asked,
-  one-more-reads.Learnt,
-  link-of-reads.Asked,
-  link-of-reads.Learnt,
-  context-count-reads.Asked,
-  context-count-reads.Learnt,
-  context-identifier-reads.Asked,
-  context-identifier-reads.Learnt,
-  opens-reads.Asked,
-  opens-reads.Learnt,
-  next-member-reads.Asked,
-  next-member-reads.Learnt,
-  freeze-value-reads.Asked,
-  freeze-value-reads.Learnt,
-  enter-below t,
-  enter.Post,
-) (enter-at t) enter.Post enter-Inv-loop2 enter-μ-loop2 enter-Inv-loop enter-μ-loop
-enter-loop-holds t c = (refl, runs-start _ _ _ _ _ _ _ _ _ _ _ _ (c .before .before .before .before .before .before .if1 .left) refl (c .before .before .before .before .before .one-more .ensures) (c .before .before .before .before .link-of .ensures) (ap optionOf (c .before .before .f .given .1)) (c .context-count .ensures))
-
--- src/lib.rt:96:13
-enter-context-identifier-requires : (t : ℕ) → enter-lts.Need-context-identifier-requires (
-  one-more-reads.Asked,
-  one-more-reads.Learnt,
-  link-of-reads.Asked,
-  link-of-reads.Learnt,
-  context-count-reads.Asked,
-  context-count-reads.Learnt,
-  context-identifier-reads.Asked,
-  context-identifier-reads.Learnt,
-  opens-reads.Asked,
-  opens-reads.Learnt,
-  next-member-reads.Asked,
-  next-member-reads.Learnt,
-  freeze-value-reads.Asked,
-  freeze-value-reads.Learnt,
-  enter-below t,
-  enter.Post,
-) (enter-at t) enter.Post enter-Inv-loop2 enter-μ-loop2 enter-Inv-loop enter-μ-loop
-enter-context-identifier-requires t c κs = search needs
-
--- src/lib.rt:97:12
-enter-opens-requires : (t : ℕ) → enter-lts.Need-opens-requires (
-  one-more-reads.Asked,
-  one-more-reads.Learnt,
-  link-of-reads.Asked,
-  link-of-reads.Learnt,
-  context-count-reads.Asked,
-  context-count-reads.Learnt,
-  context-identifier-reads.Asked,
-  context-identifier-reads.Learnt,
-  opens-reads.Asked,
-  opens-reads.Learnt,
-  next-member-reads.Asked,
-  next-member-reads.Learnt,
-  freeze-value-reads.Asked,
-  freeze-value-reads.Learnt,
-  enter-below t,
-  enter.Post,
-) (enter-at t) enter.Post enter-Inv-loop2 enter-μ-loop2 enter-Inv-loop enter-μ-loop
-enter-opens-requires t c κs = search needs
-
--- src/lib.rt:98:17
-enter-next-member-requires : (t : ℕ) → enter-lts.Need-next-member-requires (
-  one-more-reads.Asked,
-  one-more-reads.Learnt,
-  link-of-reads.Asked,
-  link-of-reads.Learnt,
-  context-count-reads.Asked,
-  context-count-reads.Learnt,
-  context-identifier-reads.Asked,
-  context-identifier-reads.Learnt,
-  opens-reads.Asked,
-  opens-reads.Learnt,
-  next-member-reads.Asked,
-  next-member-reads.Learnt,
-  freeze-value-reads.Asked,
-  freeze-value-reads.Learnt,
-  enter-below t,
-  enter.Post,
-) (enter-at t) enter.Post enter-Inv-loop2 enter-μ-loop2 enter-Inv-loop enter-μ-loop
-enter-next-member-requires t c κs = search needs
-
--- src/lib.rt:99:13
-enter-loop2-holds : (t : ℕ) → enter-lts.Need-loop2-holds (
-  one-more-reads.Asked,
-  one-more-reads.Learnt,
-  link-of-reads.Asked,
-  link-of-reads.Learnt,
-  context-count-reads.Asked,
-  context-count-reads.Learnt,
-  context-identifier-reads.Asked,
-  context-identifier-reads.Learnt,
-  opens-reads.Asked,
-  opens-reads.Learnt,
-  next-member-reads.Asked,
-  next-member-reads.Learnt,
-  freeze-value-reads.Asked,
-  freeze-value-reads.Learnt,
-  enter-below t,
-  enter.Post,
-) (enter-at t) enter.Post enter-Inv-loop2 enter-μ-loop2 enter-Inv-loop enter-μ-loop
-enter-loop2-holds t c = (refl, row-start _ _ _ _ _ _ _ _ _ _ _ _ _ _ _ (c .before .before .before .before .before .before .loop .inv .1) (c .before .before .before .before .before .loop-test .taken) (c .before .before .before .before .context-identifier .ensures) (c .before .before .opens .ensures) _ (c .before .if2 .taken) (c .next-member .ensures))
-
--- src/lib.rt:100:17
-enter-freeze-value-requires : (t : ℕ) → enter-lts.Need-freeze-value-requires (
-  one-more-reads.Asked,
-  one-more-reads.Learnt,
-  link-of-reads.Asked,
-  link-of-reads.Learnt,
-  context-count-reads.Asked,
-  context-count-reads.Learnt,
-  context-identifier-reads.Asked,
-  context-identifier-reads.Learnt,
-  opens-reads.Asked,
-  opens-reads.Learnt,
-  next-member-reads.Asked,
-  next-member-reads.Learnt,
-  freeze-value-reads.Asked,
-  freeze-value-reads.Learnt,
-  enter-below t,
-  enter.Post,
-) (enter-at t) enter.Post enter-Inv-loop2 enter-μ-loop2 enter-Inv-loop enter-μ-loop
-enter-freeze-value-requires t c κs = search needs
-
--- src/lib.rt:101:21
-enter-enter-requires : (t : ℕ) → enter-lts.Need-enter-requires (
-  one-more-reads.Asked,
-  one-more-reads.Learnt,
-  link-of-reads.Asked,
-  link-of-reads.Learnt,
-  context-count-reads.Asked,
-  context-count-reads.Learnt,
-  context-identifier-reads.Asked,
-  context-identifier-reads.Learnt,
-  opens-reads.Asked,
-  opens-reads.Learnt,
-  next-member-reads.Asked,
-  next-member-reads.Learnt,
-  freeze-value-reads.Asked,
-  freeze-value-reads.Learnt,
-  enter-below t,
-  enter.Post,
-) (enter-at t) enter.Post enter-Inv-loop2 enter-μ-loop2 enter-Inv-loop enter-μ-loop
-enter-enter-requires t c κs = (let x = c .before .before .before .before .before .before .before .before .before .before .before .before .before .loop .inv .1 .less in let y = c .before .before .before .before .before .before .loop2 .inv .1 .less in let z = c .before .before .before .before .before .before .before .before .before .before .before .before .before .loop .inv .1 .room in omega (arith, c .before .before .before .before .before .before .before .before .before .before .before .before .before .before .before .before .before .before .before .before .before .before .before .before .pre .0), tt)
-
--- src/lib.rt:103:21
-enter-same-length : (t : ℕ) → enter-lts.Need-same-length (
-  one-more-reads.Asked,
-  one-more-reads.Learnt,
-  link-of-reads.Asked,
-  link-of-reads.Learnt,
-  context-count-reads.Asked,
-  context-count-reads.Learnt,
-  context-identifier-reads.Asked,
-  context-identifier-reads.Learnt,
-  opens-reads.Asked,
-  opens-reads.Learnt,
-  next-member-reads.Asked,
-  next-member-reads.Learnt,
-  freeze-value-reads.Asked,
-  freeze-value-reads.Learnt,
-  enter-below t,
-  enter.Post,
-) (enter-at t) enter.Post enter-Inv-loop2 enter-μ-loop2 enter-Inv-loop enter-μ-loop
-enter-same-length t c = c .before .before .before .before .enter .kept .0 ∙ c .before .before .before .before .before .before .before .before .freeze-value .kept .0 ∙ c .before .before .before .before .before .before .before .before .before .before .before .loop2 .inv .0 ∙ c .before .before .before .before .before .before .before .before .before .before .before .before .before .before .before .before .before .before .loop .inv .0
-
--- src/lib.rt:103:21
-enter-returns-3 : (t : ℕ) → enter-lts.Need-returns-3 (
-  one-more-reads.Asked,
-  one-more-reads.Learnt,
-  link-of-reads.Asked,
-  link-of-reads.Learnt,
-  context-count-reads.Asked,
-  context-count-reads.Learnt,
-  context-identifier-reads.Asked,
-  context-identifier-reads.Learnt,
-  opens-reads.Asked,
-  opens-reads.Learnt,
-  next-member-reads.Asked,
-  next-member-reads.Learnt,
-  freeze-value-reads.Asked,
-  freeze-value-reads.Learnt,
-  enter-below t,
-  enter.Post,
-) (enter-at t) enter.Post enter-Inv-loop2 enter-μ-loop2 enter-Inv-loop enter-μ-loop
-enter-returns-3 t c = runs-refused _ _ _ _ _ _ _ _ _ _ _ _ _ _ _ (c .before .before .before .before .before .before .before .before .before .before .before .before .before .before .before .before .before .before .loop .inv .1) (c .before .before .before .before .before .before .before .before .before .before .before .before .before .before .before .before .before .loop-test .taken) (c .before .before .before .before .before .before .before .before .before .before .before .before .before .before .before .before .context-identifier .ensures) (c .before .before .before .before .before .before .before .before .before .before .before .before .before .before .opens .ensures) _ _ _ _ (c .before .before .before .before .before .before .before .before .before .before .before .before .before .if2 .taken) (c .if3 .taken) (let x = c .before .before .before .before .before .before .before .before .before .before .before .loop2 .inv .1 .less in let y = c .before .before .before .before .enter .ensures .grows in omega arith) (row-refused _ _ _ _ _ _ _ _ _ _ _ _ _ _ _ _ (c .before .before .before .before .before .before .before .before .before .before .before .loop2 .inv .1) (c .before .before .before .before .before .before .before .before .before .before .loop2-test .taken) (c .before .before .before .before .before .before .before .before .freeze-value .ensures) (c .before .before .before .before .enter .ensures) (c .if3 .taken))
-
--- src/lib.rt:107:42
-enter-add-next-member : (t : ℕ) → enter-lts.Need-add-next-member (
-  one-more-reads.Asked,
-  one-more-reads.Learnt,
-  link-of-reads.Asked,
-  link-of-reads.Learnt,
-  context-count-reads.Asked,
-  context-count-reads.Learnt,
-  context-identifier-reads.Asked,
-  context-identifier-reads.Learnt,
-  opens-reads.Asked,
-  opens-reads.Learnt,
-  next-member-reads.Asked,
-  next-member-reads.Learnt,
-  freeze-value-reads.Asked,
-  freeze-value-reads.Learnt,
-  enter-below t,
-  enter.Post,
-) (enter-at t) enter.Post enter-Inv-loop2 enter-μ-loop2 enter-Inv-loop enter-μ-loop
-enter-add-next-member t c = search needs
-
--- src/lib.rt:107:17
-enter-next-member-requires-2 : (t : ℕ) → enter-lts.Need-next-member-requires-2 (
-  one-more-reads.Asked,
-  one-more-reads.Learnt,
-  link-of-reads.Asked,
-  link-of-reads.Learnt,
-  context-count-reads.Asked,
-  context-count-reads.Learnt,
-  context-identifier-reads.Asked,
-  context-identifier-reads.Learnt,
-  opens-reads.Asked,
-  opens-reads.Learnt,
-  next-member-reads.Asked,
-  next-member-reads.Learnt,
-  freeze-value-reads.Asked,
-  freeze-value-reads.Learnt,
-  enter-below t,
-  enter.Post,
-) (enter-at t) enter.Post enter-Inv-loop2 enter-μ-loop2 enter-Inv-loop enter-μ-loop
-enter-next-member-requires-2 t c κs = search needs
-
--- src/lib.rt:99:13
-enter-loop2-less : (t : ℕ) → enter-lts.Need-loop2-less (
-  one-more-reads.Asked,
-  one-more-reads.Learnt,
-  link-of-reads.Asked,
-  link-of-reads.Learnt,
-  context-count-reads.Asked,
-  context-count-reads.Learnt,
-  context-identifier-reads.Asked,
-  context-identifier-reads.Learnt,
-  opens-reads.Asked,
-  opens-reads.Learnt,
-  next-member-reads.Asked,
-  next-member-reads.Learnt,
-  freeze-value-reads.Asked,
-  freeze-value-reads.Learnt,
-  enter-below t,
-  enter.Post,
-) (enter-at t) enter.Post enter-Inv-loop2 enter-μ-loop2 enter-Inv-loop enter-μ-loop
-enter-loop2-less t c = let g = next-ge _ _ (c .before .before .before .before .before .before .before .before .before .before .before .before .loop2 .m + 1) (c .next-member2 .result) (c .next-member2 .ensures) in omega arith
-
--- src/lib.rt:99:13
-enter-loop2-again : (t : ℕ) → enter-lts.Need-loop2-again (
-  one-more-reads.Asked,
-  one-more-reads.Learnt,
-  link-of-reads.Asked,
-  link-of-reads.Learnt,
-  context-count-reads.Asked,
-  context-count-reads.Learnt,
-  context-identifier-reads.Asked,
-  context-identifier-reads.Learnt,
-  opens-reads.Asked,
-  opens-reads.Learnt,
-  next-member-reads.Asked,
-  next-member-reads.Learnt,
-  freeze-value-reads.Asked,
-  freeze-value-reads.Learnt,
-  enter-below t,
-  enter.Post,
-) (enter-at t) enter.Post enter-Inv-loop2 enter-μ-loop2 enter-Inv-loop enter-μ-loop
-enter-loop2-again t c = (c .before .before .before .before .before .enter .kept .0 ∙ c .before .before .before .before .before .before .before .before .before .freeze-value .kept .0 ∙ c .before .before .before .before .before .before .before .before .before .before .before .before .loop2 .inv .0, row-next _ _ _ _ _ _ _ _ _ _ _ _ _ _ _ _ (c .before .before .before .before .before .before .before .before .before .before .before .before .loop2 .inv .1) (c .before .before .before .before .before .before .before .before .before .before .before .loop2-test .taken) (c .before .before .before .before .before .before .before .before .before .freeze-value .ensures) (c .before .before .before .before .before .enter .ensures) _ (c .before .if3 .left) (c .next-member2 .ensures))
-
--- src/lib.rt:110:9
-enter-add-k : (t : ℕ) → enter-lts.Need-add-k (
-  one-more-reads.Asked,
-  one-more-reads.Learnt,
-  link-of-reads.Asked,
-  link-of-reads.Learnt,
-  context-count-reads.Asked,
-  context-count-reads.Learnt,
-  context-identifier-reads.Asked,
-  context-identifier-reads.Learnt,
-  opens-reads.Asked,
-  opens-reads.Learnt,
-  next-member-reads.Asked,
-  next-member-reads.Learnt,
-  freeze-value-reads.Asked,
-  freeze-value-reads.Learnt,
-  enter-below t,
-  enter.Post,
-) (enter-at t) enter.Post enter-Inv-loop2 enter-μ-loop2 enter-Inv-loop enter-μ-loop
-enter-add-k t c = search needs
-
--- src/lib.rt:95:5
-enter-loop-less : (t : ℕ) → enter-lts.Need-loop-less (
-  one-more-reads.Asked,
-  one-more-reads.Learnt,
-  link-of-reads.Asked,
-  link-of-reads.Learnt,
-  context-count-reads.Asked,
-  context-count-reads.Learnt,
-  context-identifier-reads.Asked,
-  context-identifier-reads.Learnt,
-  opens-reads.Asked,
-  opens-reads.Learnt,
-  next-member-reads.Asked,
-  next-member-reads.Learnt,
-  freeze-value-reads.Asked,
-  freeze-value-reads.Learnt,
-  enter-below t,
-  enter.Post,
-) (enter-at t) enter.Post enter-Inv-loop2 enter-μ-loop2 enter-Inv-loop enter-μ-loop
-enter-loop-less t c = search needs
-
--- src/lib.rt:95:5
-enter-loop-again : (t : ℕ) → enter-lts.Need-loop-again (
-  one-more-reads.Asked,
-  one-more-reads.Learnt,
-  link-of-reads.Asked,
-  link-of-reads.Learnt,
-  context-count-reads.Asked,
-  context-count-reads.Learnt,
-  context-identifier-reads.Asked,
-  context-identifier-reads.Learnt,
-  opens-reads.Asked,
-  opens-reads.Learnt,
-  next-member-reads.Asked,
-  next-member-reads.Learnt,
-  freeze-value-reads.Asked,
-  freeze-value-reads.Learnt,
-  enter-below t,
-  enter.Post,
-) (enter-at t) enter.Post enter-Inv-loop2 enter-μ-loop2 enter-Inv-loop enter-μ-loop
-enter-loop-again t c =
-    ⊎-elim
-    (λ w. rw (w .4, w .5, w .6) (w .2 .inv .0 ∙ c .before .before .before .before .before .loop .inv .0, runs-open _ _ _ _ _ _ _ _ _ _ _ _ _ _ _ (c .before .before .before .before .before .loop .inv .1) (c .before .before .before .before .loop-test .taken) (c .before .before .before .context-identifier .ensures) (c .before .opens .ensures) _ _ _ _ (w .0 .taken) (w .2 .inv .1) (w .3 .left)))
-    (λ w. rw (w .1, w .2, w .3) (c .before .before .before .before .before .loop .inv .0, runs-shut _ _ _ _ _ _ _ _ _ _ _ _ _ _ _ (c .before .before .before .before .before .loop .inv .1) (c .before .before .before .before .loop-test .taken) (c .before .before .before .context-identifier .ensures) (c .before .opens .ensures) (w .0 .left)))
-    (c .if2 .came)
-
--- src/lib.rt:66:1
-enter-same-length-2 : (t : ℕ) → enter-lts.Need-same-length-2 (
-  one-more-reads.Asked,
-  one-more-reads.Learnt,
-  link-of-reads.Asked,
-  link-of-reads.Learnt,
-  context-count-reads.Asked,
-  context-count-reads.Learnt,
-  context-identifier-reads.Asked,
-  context-identifier-reads.Learnt,
-  opens-reads.Asked,
-  opens-reads.Learnt,
-  next-member-reads.Asked,
-  next-member-reads.Learnt,
-  freeze-value-reads.Asked,
-  freeze-value-reads.Learnt,
-  enter-below t,
-  enter.Post,
-) (enter-at t) enter.Post enter-Inv-loop2 enter-μ-loop2 enter-Inv-loop enter-μ-loop
-enter-same-length-2 t c = search needs
-
--- src/lib.rt:66:1
-enter-returns-4 : (t : ℕ) → enter-lts.Need-returns-4 (
-  one-more-reads.Asked,
-  one-more-reads.Learnt,
-  link-of-reads.Asked,
-  link-of-reads.Learnt,
-  context-count-reads.Asked,
-  context-count-reads.Learnt,
-  context-identifier-reads.Asked,
-  context-identifier-reads.Learnt,
-  opens-reads.Asked,
-  opens-reads.Learnt,
-  next-member-reads.Asked,
-  next-member-reads.Learnt,
-  freeze-value-reads.Asked,
-  freeze-value-reads.Learnt,
-  enter-below t,
-  enter.Post,
-) (enter-at t) enter.Post enter-Inv-loop2 enter-μ-loop2 enter-Inv-loop enter-μ-loop
-enter-returns-4 t c = runs-end _ _ _ _ _ _ _ _ _ _ _ _ _ (c .before .loop .inv .1) (c .loop-test .left)
-
-pub +enter-spec : {M : Type 1} → statement M
-+enter-spec = close μ-enter λ t. enter-lts.spec (
+abbrev enter-reads : ℕ → enter-lts.Claims
+enter-reads t = (
   one-more-reads.Asked,
   one-more-reads.Learnt,
   link-of-reads.Asked,
@@ -618,6 +52,107 @@ pub +enter-spec : {M : Type 1} → statement M
   enter-below t,
   enter.Post,
 )
+
+abbrev enter-Inv-loop2 : enter-lts.InvT-loop2
+enter-Inv-loop2 values₀ sets context reason v freeze entries made₀ all₀ f n k i m₀ values made all m =
+    (length values ≡ length values₀)
+    × RunsRow values₀ sets context reason i made₀ all₀ m values made all
+
+abbrev enter-μ-loop2 : enter-lts.MeasureT-loop2
+enter-μ-loop2 values₀ sets context reason v freeze entries made₀ all₀ f n k i m₀ values made all m = 1024 - m
+
+abbrev enter-Inv-loop : enter-lts.InvT-loop
+enter-Inv-loop values₀ sets context reason v freeze entries made₀ all₀ f n k₀ values made all k =
+    (length values ≡ length values₀)
+    × Runs values₀ sets context reason v freeze entries f n k values made all
+
+abbrev enter-μ-loop : enter-lts.MeasureT-loop
+enter-μ-loop values₀ sets context reason v freeze entries made₀ all₀ f n k₀ values made all k = n - k
+
+enter-returns : (t : ℕ) → enter-lts.Need-returns (enter-reads t) (enter-at t) enter.Post enter-Inv-loop2 enter-μ-loop2 enter-Inv-loop enter-μ-loop
+enter-returns t c = enters-none _ _ _ _ _ _ _ (c .if1 .taken)
+
+enter-add-made : (t : ℕ) → enter-lts.Need-add-made (enter-reads t) (enter-at t) enter.Post enter-Inv-loop2 enter-μ-loop2 enter-Inv-loop enter-μ-loop
+enter-add-made t c = search needs
+
+enter-one-more-requires : (t : ℕ) → enter-lts.Need-one-more-requires (enter-reads t) (enter-at t) enter.Post enter-Inv-loop2 enter-μ-loop2 enter-Inv-loop enter-μ-loop
+enter-one-more-requires t c κs = search needs
+
+enter-link-of-requires : (t : ℕ) → enter-lts.Need-link-of-requires (enter-reads t) (enter-at t) enter.Post enter-Inv-loop2 enter-μ-loop2 enter-Inv-loop enter-μ-loop
+enter-link-of-requires t c κs = search needs
+
+enter-enum-known-f : (t : ℕ) → enter-lts.Need-enum-known-f (enter-reads t) (enter-at t) enter.Post enter-Inv-loop2 enter-μ-loop2 enter-Inv-loop enter-μ-loop
+enter-enum-known-f t c = search needs
+
+enter-enum-told : (t : ℕ) → enter-lts.Need-enum-told (enter-reads t) (enter-at t) enter.Post enter-Inv-loop2 enter-μ-loop2 enter-Inv-loop enter-μ-loop
+enter-enum-told t c = search needs
+
+enter-returns-2 : (t : ℕ) → enter-lts.Need-returns-2 (enter-reads t) (enter-at t) enter.Post enter-Inv-loop2 enter-μ-loop2 enter-Inv-loop enter-μ-loop
+enter-returns-2 t c = enters-plain _ _ _ _ _ _ _ _ _ _ (c .before .before .before .before .if1 .left) refl (c .before .before .before .one-more .ensures) (c .before .before .link-of .ensures) (ap optionOf (c .enum-told .given .1))
+
+enter-context-count-requires : (t : ℕ) → enter-lts.Need-context-count-requires (enter-reads t) (enter-at t) enter.Post enter-Inv-loop2 enter-μ-loop2 enter-Inv-loop enter-μ-loop
+enter-context-count-requires t c κs = search needs
+
+enter-loop-holds : (t : ℕ) → enter-lts.Need-loop-holds (enter-reads t) (enter-at t) enter.Post enter-Inv-loop2 enter-μ-loop2 enter-Inv-loop enter-μ-loop
+enter-loop-holds t c = (refl, runs-start _ _ _ _ _ _ _ _ _ _ _ _ (c .before .before .before .before .before .before .if1 .left) refl (c .before .before .before .before .before .one-more .ensures) (c .before .before .before .before .link-of .ensures) (ap optionOf (c .before .before .f .given .1)) (c .context-count .ensures))
+
+enter-context-identifier-requires : (t : ℕ) → enter-lts.Need-context-identifier-requires (enter-reads t) (enter-at t) enter.Post enter-Inv-loop2 enter-μ-loop2 enter-Inv-loop enter-μ-loop
+enter-context-identifier-requires t c κs = search needs
+
+enter-opens-requires : (t : ℕ) → enter-lts.Need-opens-requires (enter-reads t) (enter-at t) enter.Post enter-Inv-loop2 enter-μ-loop2 enter-Inv-loop enter-μ-loop
+enter-opens-requires t c κs = search needs
+
+enter-next-member-requires : (t : ℕ) → enter-lts.Need-next-member-requires (enter-reads t) (enter-at t) enter.Post enter-Inv-loop2 enter-μ-loop2 enter-Inv-loop enter-μ-loop
+enter-next-member-requires t c κs = search needs
+
+enter-loop2-holds : (t : ℕ) → enter-lts.Need-loop2-holds (enter-reads t) (enter-at t) enter.Post enter-Inv-loop2 enter-μ-loop2 enter-Inv-loop enter-μ-loop
+enter-loop2-holds t c = (refl, row-start _ _ _ _ _ _ _ _ _ _ _ _ _ _ _ (c .before .before .before .before .before .before .loop .inv .1) (c .before .before .before .before .before .loop-test .taken) (c .before .before .before .before .context-identifier .ensures) (c .before .before .opens .ensures) _ (c .before .if2 .taken) (c .next-member .ensures))
+
+enter-freeze-value-requires : (t : ℕ) → enter-lts.Need-freeze-value-requires (enter-reads t) (enter-at t) enter.Post enter-Inv-loop2 enter-μ-loop2 enter-Inv-loop enter-μ-loop
+enter-freeze-value-requires t c κs = search needs
+
+enter-enter-requires : (t : ℕ) → enter-lts.Need-enter-requires (enter-reads t) (enter-at t) enter.Post enter-Inv-loop2 enter-μ-loop2 enter-Inv-loop enter-μ-loop
+enter-enter-requires t c κs = (let x = c .before .before .before .before .before .before .before .before .before .before .before .before .before .loop .inv .1 .less in let y = c .before .before .before .before .before .before .loop2 .inv .1 .less in let z = c .before .before .before .before .before .before .before .before .before .before .before .before .before .loop .inv .1 .room in omega (arith, c .before .before .before .before .before .before .before .before .before .before .before .before .before .before .before .before .before .before .before .before .before .before .before .before .pre .0), tt)
+
+enter-same-length : (t : ℕ) → enter-lts.Need-same-length (enter-reads t) (enter-at t) enter.Post enter-Inv-loop2 enter-μ-loop2 enter-Inv-loop enter-μ-loop
+enter-same-length t c = c .before .before .before .before .enter .kept .0 ∙ c .before .before .before .before .before .before .before .before .freeze-value .kept .0 ∙ c .before .before .before .before .before .before .before .before .before .before .before .loop2 .inv .0 ∙ c .before .before .before .before .before .before .before .before .before .before .before .before .before .before .before .before .before .before .loop .inv .0
+
+enter-returns-3 : (t : ℕ) → enter-lts.Need-returns-3 (enter-reads t) (enter-at t) enter.Post enter-Inv-loop2 enter-μ-loop2 enter-Inv-loop enter-μ-loop
+enter-returns-3 t c = runs-refused _ _ _ _ _ _ _ _ _ _ _ _ _ _ _ (c .before .before .before .before .before .before .before .before .before .before .before .before .before .before .before .before .before .before .loop .inv .1) (c .before .before .before .before .before .before .before .before .before .before .before .before .before .before .before .before .before .loop-test .taken) (c .before .before .before .before .before .before .before .before .before .before .before .before .before .before .before .before .context-identifier .ensures) (c .before .before .before .before .before .before .before .before .before .before .before .before .before .before .opens .ensures) _ _ _ _ (c .before .before .before .before .before .before .before .before .before .before .before .before .before .if2 .taken) (c .if3 .taken) (let x = c .before .before .before .before .before .before .before .before .before .before .before .loop2 .inv .1 .less in let y = c .before .before .before .before .enter .ensures .grows in omega arith) (row-refused _ _ _ _ _ _ _ _ _ _ _ _ _ _ _ _ (c .before .before .before .before .before .before .before .before .before .before .before .loop2 .inv .1) (c .before .before .before .before .before .before .before .before .before .before .loop2-test .taken) (c .before .before .before .before .before .before .before .before .freeze-value .ensures) (c .before .before .before .before .enter .ensures) (c .if3 .taken))
+
+enter-add-next-member : (t : ℕ) → enter-lts.Need-add-next-member (enter-reads t) (enter-at t) enter.Post enter-Inv-loop2 enter-μ-loop2 enter-Inv-loop enter-μ-loop
+enter-add-next-member t c = search needs
+
+enter-next-member-requires-2 : (t : ℕ) → enter-lts.Need-next-member-requires-2 (enter-reads t) (enter-at t) enter.Post enter-Inv-loop2 enter-μ-loop2 enter-Inv-loop enter-μ-loop
+enter-next-member-requires-2 t c κs = search needs
+
+enter-loop2-less : (t : ℕ) → enter-lts.Need-loop2-less (enter-reads t) (enter-at t) enter.Post enter-Inv-loop2 enter-μ-loop2 enter-Inv-loop enter-μ-loop
+enter-loop2-less t c = let g = next-ge _ _ (c .before .before .before .before .before .before .before .before .before .before .before .before .loop2 .m + 1) (c .next-member2 .result) (c .next-member2 .ensures) in omega arith
+
+enter-loop2-again : (t : ℕ) → enter-lts.Need-loop2-again (enter-reads t) (enter-at t) enter.Post enter-Inv-loop2 enter-μ-loop2 enter-Inv-loop enter-μ-loop
+enter-loop2-again t c = (c .before .before .before .before .before .enter .kept .0 ∙ c .before .before .before .before .before .before .before .before .before .freeze-value .kept .0 ∙ c .before .before .before .before .before .before .before .before .before .before .before .before .loop2 .inv .0, row-next _ _ _ _ _ _ _ _ _ _ _ _ _ _ _ _ (c .before .before .before .before .before .before .before .before .before .before .before .before .loop2 .inv .1) (c .before .before .before .before .before .before .before .before .before .before .before .loop2-test .taken) (c .before .before .before .before .before .before .before .before .before .freeze-value .ensures) (c .before .before .before .before .before .enter .ensures) _ (c .before .if3 .left) (c .next-member2 .ensures))
+
+enter-add-k : (t : ℕ) → enter-lts.Need-add-k (enter-reads t) (enter-at t) enter.Post enter-Inv-loop2 enter-μ-loop2 enter-Inv-loop enter-μ-loop
+enter-add-k t c = search needs
+
+enter-loop-less : (t : ℕ) → enter-lts.Need-loop-less (enter-reads t) (enter-at t) enter.Post enter-Inv-loop2 enter-μ-loop2 enter-Inv-loop enter-μ-loop
+enter-loop-less t c = search needs
+
+enter-loop-again : (t : ℕ) → enter-lts.Need-loop-again (enter-reads t) (enter-at t) enter.Post enter-Inv-loop2 enter-μ-loop2 enter-Inv-loop enter-μ-loop
+enter-loop-again t c =
+    ⊎-elim
+    (λ w. rw (w .4, w .5, w .6) (w .2 .inv .0 ∙ c .before .before .before .before .before .loop .inv .0, runs-open _ _ _ _ _ _ _ _ _ _ _ _ _ _ _ (c .before .before .before .before .before .loop .inv .1) (c .before .before .before .before .loop-test .taken) (c .before .before .before .context-identifier .ensures) (c .before .opens .ensures) _ _ _ _ (w .0 .taken) (w .2 .inv .1) (w .3 .left)))
+    (λ w. rw (w .1, w .2, w .3) (c .before .before .before .before .before .loop .inv .0, runs-shut _ _ _ _ _ _ _ _ _ _ _ _ _ _ _ (c .before .before .before .before .before .loop .inv .1) (c .before .before .before .before .loop-test .taken) (c .before .before .before .context-identifier .ensures) (c .before .opens .ensures) (w .0 .left)))
+    (c .if2 .came)
+
+enter-same-length-2 : (t : ℕ) → enter-lts.Need-same-length-2 (enter-reads t) (enter-at t) enter.Post enter-Inv-loop2 enter-μ-loop2 enter-Inv-loop enter-μ-loop
+enter-same-length-2 t c = search needs
+
+enter-returns-4 : (t : ℕ) → enter-lts.Need-returns-4 (enter-reads t) (enter-at t) enter.Post enter-Inv-loop2 enter-μ-loop2 enter-Inv-loop enter-μ-loop
+enter-returns-4 t c = runs-end _ _ _ _ _ _ _ _ _ _ _ _ _ (c .before .loop .inv .1) (c .loop-test .left)
+
+pub +enter-spec : {M : Type 1} → statement M
++enter-spec = close μ-enter λ t. enter-lts.spec (enter-reads t)
     (enter-at t)
     enter.Post
     enter-Inv-loop2
