@@ -1,6 +1,6 @@
 -- Where each table of a context stands in its one lent list of words. Assumes nothing: these are definitions.
 -- What an instruction only reads comes first (options, identifiers, functions), then what it may change, and last the interned effects,
--- for which the host lends as many records as it likes up to 2,048.
+-- so that a refusal restores one run of words and clears the effects that were appended.
 use Prim.Native.Nat.{ℕ}
 use Rattle.words.specs.declared.Table.{Table}
 
@@ -9,11 +9,13 @@ use Rattle.words.specs.declared.Table.{Table}
 abbrev pub options : ℕ
 options = 0
 
--- how many identifiers and functions there are
--- "identifiers (at most 512)", "functions (64)"
+-- how many identifiers there are
+-- "identifiers (at most 512)"
 abbrev pub identifierCount : ℕ
 identifierCount = 1
 
+-- how many functions there are
+-- "functions (64)"
 abbrev pub functionCount : ℕ
 functionCount = 2
 
@@ -27,11 +29,13 @@ identifiers = record { base = 3; count = 512; width = 4 }
 abbrev pub functions : Table
 functions = record { base = 2051; count = 64; width = 163 }
 
--- how many interned effects and diagnostics there are
+-- how many interned effects there are
 -- they are appended, in the order in which they come
 abbrev pub internedCount : ℕ
 internedCount = 12483
 
+-- how many diagnostics there are
+-- appended too
 abbrev pub diagnosticCount : ℕ
 diagnosticCount = 12484
 
@@ -56,6 +60,11 @@ abbrev pub diagnostics : Table
 diagnostics = record { base = 32965; count = 256; width = 9 }
 
 -- interned effects: the first effect under a key
--- the last table, so that the host may lend a shorter one
+-- the last table: 2,048 records
 abbrev pub interned : Table
 interned = record { base = 35269; count = 2048; width = 98 }
+
+-- how many words a context has
+-- "1 a lent slice .. has the wrong length"
+abbrev pub long : ℕ
+long = 235973

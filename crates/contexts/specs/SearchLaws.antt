@@ -90,7 +90,7 @@ module _ (c : List ℕ) (k : ℕ) (key : Key) (is : List ℕ) (i : ℕ) (e : i �
 
 -- the effects that are left, with one to look at
 -- as a loop counts
-effects-more : (t : Table) (c : List ℕ) (k n : ℕ) → k < n → effectsIn t c k (n - k) ≡ effectIn t c k ∷ effectsIn t c (k + 1) (n - (k + 1))
+pub effects-more : (t : Table) (c : List ℕ) (k n : ℕ) → k < n → effectsIn t c k (n - k) ≡ effectIn t c k ∷ effectsIn t c (k + 1) (n - (k + 1))
 unfolding effectsIn
 effects-more t c k n h =
     let m : n - k ≡ suc (n - (k + 1)) = omega arith in
@@ -98,7 +98,7 @@ effects-more t c k n h =
 
 -- the effects that are left when none is
 -- the loop's end
-effects-none : (t : Table) (c : List ℕ) (k n : ℕ) → n ≤ k → effectsIn t c k (n - k) ≡ []
+pub effects-none : (t : Table) (c : List ℕ) (k n : ℕ) → n ≤ k → effectsIn t c k (n - k) ≡ []
 unfolding effectsIn
 effects-none t c k n h =
     let m : n - k ≡ 0 = omega arith in

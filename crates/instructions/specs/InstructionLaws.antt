@@ -35,11 +35,12 @@ use Rattle.words.specs.WordLaws.{within-yes, within-no-word, field-in, field-ou
 use Rattle.records.specs.declared.AliasingEffect.{AliasingEffect as Head}
 use Rattle.records.specs.declared.AliasingEffect.the-variants as Head
 use Rattle.records.specs.Records.{effectIn, effectWith, headIn, capturesOf, copiedCaptures, countedPlaces}
-use Rattle.records.specs.RecordLaws.{captures-copied}
+use Rattle.records.specs.CaptureLaws.{captures-copied}
 use Rattle.runs.specs.declared.Run.{Run}
 use Rattle.contexts.specs.Layout as Layout
 use Rattle.contexts.specs.Lent as Lent
 use Rattle.contexts.specs.Lent.{effectsIn}
+use Rattle.contexts.specs.SearchLaws.{effects-more, effects-none}
 use Rattle.monads.specs.Answers.{answer, bind-ok, bind-goes, bind-refused, then-goes, then-refused, if-true, if-false, each-goes, each-refused, each-ends, done-ok}
 use Rattle.lent.specs.World.{lent, world}
 use Rattle.instructions.specs.Instructions.{candidateTable, ownOf, instructionOf, insideRun, insidePlaces, copiedInsideFrom, copiedInside, keptEntries}
@@ -353,37 +354,23 @@ module _ (act : AliasingEffect → M (World lent) Done) (xs : List ℕ) where
   pub candidates-start : (n : ℕ) (w : World lent) → each (effectsIn candidateTable xs 0 n) act w ≡ each (effectsIn candidateTable xs 0 (n - 0)) act w
   candidates-start n w = let z : n ≡ n - 0 = omega arith in ap (λ (m : ℕ). each (effectsIn candidateTable xs 0 m) act w) z
 
-  -- the candidates that are left, with one to do
-  -- as a loop counts
-  candidates-more : (k n : ℕ) → k < n → effectsIn candidateTable xs k (n - k) ≡ effectIn candidateTable xs k ∷ effectsIn candidateTable xs (k + 1) (n - (k + 1))
-  unfolding effectsIn
-  candidates-more k n h =
-      let m : n - k ≡ suc (n - (k + 1)) = omega arith in
-      ap (effectsIn candidateTable xs k) m ∙ ap (λ (z : ℕ). effectIn candidateTable xs k ∷ effectsIn candidateTable xs z (n - (k + 1))) (sym (add-one k))
-
-  -- the candidates that are left when none is
-  -- the loop's end
-  candidates-none : (k n : ℕ) → n ≤ k → effectsIn candidateTable xs k (n - k) ≡ []
-  unfolding effectsIn
-  candidates-none k n h = let m : n - k ≡ 0 = omega arith in ap (effectsIn candidateTable xs k) m
-
   -- one candidate
   -- it goes on, or it is refused
   module _ (n k : ℕ) (r : ℕ) (w u : World lent) (h : k < n) (s : act (effectIn candidateTable xs k) w ≡ answer r tt u) where
     -- it goes on
     -- the next turn does the rest
     pub candidates-next : r ≡ 0 → each (effectsIn candidateTable xs k (n - k)) act w ≡ each (effectsIn candidateTable xs (k + 1) (n - (k + 1))) act u
-    candidates-next z = each-goes act _ _ _ r w u (candidates-more k n h) s z
+    candidates-next z = each-goes act _ _ _ r w u (effects-more candidateTable xs k n h) s z
 
     -- it is refused
     -- so is the whole
     pub candidates-stop : ¬ (r ≡ 0) → each (effectsIn candidateTable xs k (n - k)) act w ≡ answer r tt u
-    candidates-stop z = each-refused act _ _ _ r w u (candidates-more k n h) s z
+    candidates-stop z = each-refused act _ _ _ r w u (effects-more candidateTable xs k n h) s z
 
   -- no candidate is left
   -- the loop's end is the whole
   pub candidates-end : (n k : ℕ) (w : World lent) → n ≤ k → each (effectsIn candidateTable xs k (n - k)) act w ≡ answer 0 tt w
-  candidates-end n k w h = each-ends act _ w (candidates-none k n h)
+  candidates-end n k w h = each-ends act _ w (effects-none candidateTable xs k n h)
 
 -- ---- the lvalue
 

@@ -1,2 +1,7 @@
 pub mod KeyRecords
+pub mod OptionLaws
+pub mod EffectKeyLaws
+pub mod SameKeyLaws
+pub mod NumberLaws
 pub mod KeyRecordLaws
+pub mod KeyFrames

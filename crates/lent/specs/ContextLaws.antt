@@ -21,13 +21,13 @@ use Rattle.words.specs.declared.Table.{Table}
 use Rattle.words.specs.Words.{index, end, apart, field, putField, placeIn, placesIn}
 use Rattle.words.specs.WordLaws.{put-length, put-out, put-same, put-other, put-apart, set-outside, places-cong, within-yes, within-no-record}
 use Rattle.records.specs.Records.{putEffect}
-use Rattle.records.specs.RecordLaws.{effect-apart}
+use Rattle.records.specs.EffectFrames.{effect-apart}
 use Rattle.keys.specs.KeyRecords.{optionIn, putOption}
 use Rattle.keys.specs.KeyRecords as Keys
 use Rattle.contexts.specs.Layout as Layout
 use Rattle.contexts.specs.Lent.{effectsIn, internedCount, findEffect, addEffect, keyAt, findNumber, putKey, linkOf, putLink, contextOf, readPlace, readPlaces, makeRead, instanceCount, putDiagnostic, addDiagnostic}
 use Rattle.lent.specs.World.{lent}
-use Rattle.lent.specs.KeyFrames.{option-cong, key-cong, key-apart, key-record, option-apart, option-record}
+use Rattle.keys.specs.KeyFrames.{option-cong, key-cong, key-apart, key-record, option-apart, option-record}
 
 -- ---- the tables that lead somewhere
 
@@ -46,7 +46,7 @@ keys-same c d h n = key-cong Layout.cached c d n (h n)
 -- a link is two words
 pub links-same : (c d : List ℕ) → Same Layout.links c d → (v : ℕ) → linkOf d v ≡ linkOf c v
 unfolding linkOf
-links-same c d h v = option-cong Layout.links c d v (h v) 0
+links-same c d h v = option-cong Layout.links c d v 0 (h v)
 
 -- and the context places of functions
 -- their count stands with the function
@@ -236,7 +236,7 @@ link-contexts c v f g = ap identifiers (contexts-same c (putLink c v f) (link-le
 -- each has a record of its own
 link-other : (c : List ℕ) (v f x : ℕ) → (v ≡ x → ⊥) → linkOf (putLink c v f) x ≡ linkOf c x
 unfolding linkOf putLink
-link-other c v f x d = option-cong Layout.links c (putOption Layout.links c v 0 (some f)) x (λ w. option-record Layout.links c v 0 (some f) x w d) 0
+link-other c v f x d = option-cong Layout.links c (putOption Layout.links c v 0 (some f)) x 0 (λ w. option-record Layout.links c v 0 (some f) x w d)
 
 -- past the table nothing is written
 -- there are 512 fresh numbers

@@ -1,13 +1,13 @@
 -- The lent tables are lawful, so demand 3 holds of the definition over lent lists; and what no instruction writes stays. Assumes nothing.
 use Prim.Native.Nat.{ℕ, _+_, _*_, _≤_, _<_}
-use mathlib.Core.Path.{_≡_, refl, ap, _∙_}
+use mathlib.Core.Path.{_≡_, refl, sym, ap, _∙_}
 use mathlib.Core.Bool.{_&&_}
 use mathlib.Core.Logic.{_⊎_, inl, inr, ⊎-elim}
 use mathlib.Core.List.{List}
 use mathlib.Core.Option.{some}
 use native.Mathlib.Omega.{arith}
 use lib.Dec.{ltb}
-use lib.ListN.{length, getD, set, length-set}
+use lib.ListN.{length, getD, set, length-set, List·getD-eq-default}
 use lib.Seq.{getD-set-same, getD-set-other, set-out}
 use Rattle.effects.specs.Effects.{AliasingEffect}
 use Rattle.effects.specs.Keys.{EffectKey}
@@ -22,10 +22,10 @@ use Rattle.rows.specs.BitLaws.{lt-or-ge}
 use Rattle.words.specs.Words.{index, end}
 use Rattle.words.specs.WordLaws.{put-length, put-outside}
 use Rattle.records.specs.Records.{putEffect}
-use Rattle.records.specs.RecordLaws.{effect-length, effect-outside, effect-before}
+use Rattle.records.specs.EffectFrames.{effect-length, effect-outside, effect-before, effect-after}
 use Rattle.contexts.specs.Layout as Layout
 use Rattle.contexts.specs.Lent.{internedCount, addEffect, putKey, putLink, makeRead, instanceCount, putDiagnostic, addDiagnostic}
-use Rattle.lent.specs.KeyFrames.{key-length, key-outside, option-length, option-outside}
+use Rattle.keys.specs.KeyFrames.{key-length, key-outside, option-length, option-outside}
 use Rattle.lent.specs.World.{lent}
 use Rattle.lent.specs.StateLaws.{FitValues, fit-value, value-cong, value-other, FitSets, fit-set, set-cong, set-other, set-has}
 use Rattle.lent.specs.ContextLaws.{diagnostic-keeps, read-keeps, effect-found, number-found, effect-same, diagnostic-same, read-same, key-put, key-links, key-contexts, link-put, link-keys, link-contexts}
@@ -38,16 +38,17 @@ abbrev pub Fixed : List ℕ → ℕ → Type 0
 Fixed c₀ k = (k < 12483) ⊎ ((35269 ≤ k) × (k < 35269 + internedCount c₀ * 98))
 
 -- a context that instructions made of c₀
--- effects are only appended, so those of c₀ keep their numbers
+-- effects are only appended: those of c₀ keep their numbers, and after the last nothing is written
 pub record KeptFrom (c₀ c : List ℕ) : Type 0 where
   pub long : length c ≡ length c₀
   pub grown : internedCount c₀ ≤ internedCount c
   pub fixed : (k : ℕ) → Fixed c₀ k → getD c k 0 ≡ getD c₀ k 0
+  pub after : (k : ℕ) → 35269 + internedCount c * 98 ≤ k → getD c k 0 ≡ getD c₀ k 0
 
 -- every context is made of itself
 -- before the first instruction
 pub kept-start : (c : List ℕ) → KeptFrom c c
-kept-start c = record { long = refl; grown = omega arith; fixed = λ k f. refl }
+kept-start c = record { long = refl; grown = omega arith; fixed = λ k f. refl; after = λ k l. refl }
 
 -- what keeps every place but those from the count of diagnostics to the interned effects keeps all this
 -- four of the five changes write only there
@@ -57,6 +58,7 @@ kept-apart c₀ c d l h p = record {
   long = l ∙ p .long;
   grown = let e : getD d 12483 0 ≡ getD c 12483 0 = h 12483 (inl (omega arith)) in let g = p .grown in omega arith;
   fixed = λ k f. h k (⊎-elim {C = (k < 12484) ⊎ (35269 ≤ k)} (λ a. inl (omega arith)) (λ a. inr (a .0)) f) ∙ p .fixed k f;
+  after = λ k f. let e : getD d 12483 0 ≡ getD c 12483 0 = h 12483 (inl (omega arith)) in h k (inr (omega arith)) ∙ p .after k (omega arith);
 }
 
 -- ---- the five changes
@@ -69,6 +71,7 @@ effect-kept c₀ c e p = record {
   long = length-set d 12483 (n + 1) ∙ effect-length Layout.interned c n e ∙ p .long;
   grown = ⊎-elim {C = getD c₀ 12483 0 ≤ getD (set d 12483 (n + 1)) 12483 0} inside past (lt-or-ge 12483 (length d));
   fixed = λ k f. getD-set-other d 12483 k (n + 1) 0 (other k f) ∙ effect-before Layout.interned c n e k (before k f) ∙ p .fixed k f;
+  after = λ k l. ⊎-elim {C = getD (set d 12483 (n + 1)) k 0 ≡ getD c₀ k 0} (λ h. beyond h k l) (λ h. short h k l) (lt-or-ge 12483 (length d));
 }
   where
     n : ℕ
@@ -89,6 +92,18 @@ effect-kept c₀ c e p = record {
 
     other : (k : ℕ) → Fixed c₀ k → k ≡ 12483 → ⊥
     other k f q = ⊎-elim {C = ⊥} (λ a. omega arith) (λ a. let b = a .0 in omega arith) f
+
+    beyond : 12483 < length d → (k : ℕ) → 35269 + getD (set d 12483 (n + 1)) 12483 0 * 98 ≤ k → getD (set d 12483 (n + 1)) k 0 ≡ getD c₀ k 0
+    beyond h k l =
+        let z : getD (set d 12483 (n + 1)) 12483 0 ≡ n + 1 = getD-set-same d 12483 (n + 1) 0 h in
+        getD-set-other d 12483 k (n + 1) 0 (λ q. omega arith) ∙ effect-after Layout.interned c n e k (omega arith) ∙ p .after k (omega arith)
+
+    short : length d ≤ 12483 → (k : ℕ) → 35269 + getD (set d 12483 (n + 1)) 12483 0 * 98 ≤ k → getD (set d 12483 (n + 1)) k 0 ≡ getD c₀ k 0
+    short h k l =
+        let a : length (set d 12483 (n + 1)) ≡ length d = length-set d 12483 (n + 1) in
+        let b : length d ≡ length c = effect-length Layout.interned c n e in
+        let g = p .long in
+        List·getD-eq-default (set d 12483 (n + 1)) 0 {n = k} (omega arith) ∙ sym (List·getD-eq-default c₀ 0 {n = k} (omega arith))
 
     before : (k : ℕ) → Fixed c₀ k → k < 35269 + n * 98 + 0
     before k f = let g = p .grown in ⊎-elim {C = k < 35269 + n * 98 + 0} (λ a. omega arith) (λ a. let b = a .1 in omega arith) f

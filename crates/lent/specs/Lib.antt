@@ -1,5 +1,4 @@
 pub mod World
 pub mod StateLaws
-pub mod KeyFrames
 pub mod ContextLaws
 pub mod LentLawful

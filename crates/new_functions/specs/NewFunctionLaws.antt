@@ -26,7 +26,7 @@ use Rattle.words.specs.Words.{index, field, placesIn}
 use Rattle.words.specs.WordLaws.{within-yes, within-no-word, field-in, field-out, places-cong}
 use Rattle.records.specs.declared.AliasingEffect.the-variants as Head
 use Rattle.records.specs.Records.{effectWith, capturesOf, countedPlaces, oneRun, copiedCaptures}
-use Rattle.records.specs.RecordLaws.{captures-copied}
+use Rattle.records.specs.CaptureLaws.{captures-copied}
 use Rattle.keys.specs.declared.Key.{Key}
 use Rattle.keys.specs.declared.Found.{Found}
 use Rattle.keys.specs.declared.Found.the-variants.{Nowhere, At}

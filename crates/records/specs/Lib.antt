@@ -1,2 +1,5 @@
 pub mod Records
-pub mod RecordLaws
+pub mod HeadLaws
+pub mod EffectWrites
+pub mod CaptureLaws
+pub mod EffectFrames

@@ -18,10 +18,10 @@ use Rattle.transfer.specs.Pure.{findEffect, isKey, firstCached}
 use Rattle.words.specs.Words.{field}
 use Rattle.records.specs.declared.AliasingEffect.{AliasingEffect as Head}
 use Rattle.records.specs.Records.{effectWith, headIn, effectIn, capturesOf, copiedCaptures}
-use Rattle.records.specs.RecordLaws.{captures-copied}
+use Rattle.records.specs.CaptureLaws.{captures-copied}
 use Rattle.keys.specs.declared.Key.{Key}
 use Rattle.keys.specs.KeyRecords.{keyWith, sameHead, numbersIn, keyHeadIn, keyIn}
-use Rattle.keys.specs.KeyRecordLaws.{keys-differ, keys-captures}
+use Rattle.keys.specs.SameKeyLaws.{keys-differ, keys-captures}
 use Rattle.contexts.specs.Layout as Layout
 use Rattle.contexts.specs.Lent.{effectsIn, keyAt}
 use Rattle.repeats.specs.Repeats.{internedTwice, keyHere, keyTwice}

@@ -21,7 +21,8 @@ use Rattle.transfer.specs.Reach.{Node, val, id, entry, Named, by-effect,
 use Rattle.transfer.specs.Lawful.{Lawful}
 use Rattle.transfer.specs.Sim.{Any, Rel}
 use Rattle.transfer.specs.Worlds.{Reaching, Inv, frame, pointed}
-use Rattle.transfer.specs.Within.{reaching, run-sim}
+use Rattle.transfer.specs.Closed.{reaching}
+use Rattle.transfer.specs.Within.{run-sim}
 
 module _ {T : Tables} where
   abbrev world : State T → Rest T → World T

@@ -14,6 +14,8 @@ pub mod Computing
 pub mod Sim
 pub mod Lawful
 pub mod Worlds
+pub mod Closed
+pub mod Derived
 pub mod Within
 pub mod Isolation
 pub mod PureLaws

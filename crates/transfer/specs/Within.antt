@@ -1,14 +1,12 @@
 -- The transfer keeps within its reach: each part of the step, the fold over the candidates, and the lvalue step. Assumes nothing.
-use Prim.Native.Nat.{ℕ, zero, suc, _+_, _≤_, _<_}
-use native.Mathlib.Nat.{le-refl, le-trans, le-suc, le-of-suc-le-suc, not-suc-le-zero}
-use native.Mathlib.Omega.{arith}
-use mathlib.Core.Path.{_≡_, refl, sym, ap, _∙_, subst}
-use mathlib.Core.Bool.{Bool, true, false, not, false≢true, _&&_, _||_}
-use mathlib.Core.List.{List, [], _∷_, _++_, List·Memᴰ}
+use Prim.Native.Nat.{ℕ, zero, suc, _≤_, _<_}
+use native.Mathlib.Nat.{le-refl, le-trans, le-suc, not-suc-le-zero}
+use mathlib.Core.Path.{_≡_, refl, sym, subst}
+use mathlib.Core.Bool.{Bool, true, false, not}
+use mathlib.Core.List.{List, [], _∷_}
 use mathlib.Core.Logic.{⊎-elim}
 use mathlib.Core.Option.{Option, none, some}
-use lib.Dec.{eqb, leb, ltb, eqb→eq, nleb→lt, ltb→lt, lt→ltb}
-use lib.ListN.{getD}
+use lib.Dec.{leb, ltb, nleb→lt, ltb→lt}
 use Rattle.sets.specs.Members.{members, singleton}
 use Rattle.sets.specs.MemberLaws.{All, all-singleton}
 use Rattle.kinds.specs.declared.ValueKind.{ValueKind}
@@ -16,134 +14,26 @@ use Rattle.kinds.specs.declared.AbstractValue.{AbstractValue}
 use Rattle.effects.specs.declared.Span.{Span}
 use Rattle.effects.specs.declared.Place.{Place}
 use Rattle.effects.specs.declared.AliasingDiagnostic.{AliasingDiagnostic}
-use Rattle.effects.specs.declared.Session.{Session}
 use Rattle.effects.specs.declared.MutateVariant.{MutateVariant}
 use Rattle.effects.specs.declared.MutationResult.{MutationResult}
 use Rattle.effects.specs.declared.MutationResult.the-variants as Result
 use Rattle.effects.specs.Places.{identifiers}
 use Rattle.effects.specs.Effects.{AliasingEffect, Freeze, Mutate, MutateConditionally, MutateTransitive, MutateTransitiveConditionally, Capture, Alias, MaybeAlias, Assign, Create, CreateFrom, ImmutableCapture, CreateFunction, MutateFrozen, MutateGlobal, Impure, Render}
-use Rattle.effects.specs.Keys.{EffectKey, effectKey, one, namedBy, names, creates, listed}
-use Rattle.transfer.specs.Monad.{M, Done, _>>=_, _>>_, return, refuse, done, if_then_else_, each}
+use Rattle.effects.specs.Keys.{EffectKey, effectKey, namedBy, names, creates, listed}
+use Rattle.transfer.specs.Monad.{M, Done, each}
 use Rattle.transfer.specs.Diagnostics.{Diagnostic}
 use Rattle.transfer.specs.Tables.{Tables, State, Rest, World}
-use Rattle.transfer.specs.State.{isSome, valuesOf, firstAccess, setOf, valueOf, peek, initialize, point, ask, change, recordAccess, isDefined, kindWithSpan, kindAt, kind, define, orInsert, assignSet, assign, freezeValue, toFreeze, freeze, fromIdentifier}
-use Rattle.transfer.specs.Context.{diagnosticOf, refreshed, putEffect, internNew, intern, setNext, freshNumber, cache, orFresh, numberFor, linkTo, functionContext, linkedContext, makeRead, putDiagnostic, newIdentity, newInstance, internDiagnostic, emit, isInitialized, putInitialized, begin, startFreeze, countEntry}
+use Rattle.transfer.specs.State.{valuesOf, ask, recordAccess, kindWithSpan, kind, define, orInsert, assignSet, assign, freezeValue, toFreeze, freeze, fromIdentifier}
+use Rattle.transfer.specs.Context.{refreshed, putEffect, internNew, intern, setNext, freshNumber, cache, orFresh, numberFor, linkTo, functionContext, linkedContext, makeRead, putDiagnostic, newIdentity, newInstance, internDiagnostic, emit, isInitialized, putInitialized, begin, startFreeze, countEntry}
 use Rattle.transfer.specs.Walk.{freezeAndEnter, enterPlace, enterContext, enter, walk}
 use Rattle.transfer.specs.Step.{Flow, Immutable, Same, Maybe, Nothing, Source, FromContext, FromNothing, FromFrozen, FromMutable, Destination, flowOf, create, isWritten, anyWritten, updateContext, byFlow, mutate, flowing, reportModified, reportHoisted, report, mutating, freezing, creating, capturingImmutably, listCreated, creatingFrom, assigning, creatingFunction, act, step}
-use Rattle.transfer.specs.Instruction.{Instruction, has, reportEarly, earlyError, earlyErrors, defineLvalue, run}
+use Rattle.transfer.specs.Instruction.{Instruction, reportEarly, earlyError, earlyErrors, defineLvalue, run}
 use Rattle.transfer.specs.Reach.{Node, val, id}
-use Rattle.transfer.specs.Lawful.{SameLinks, Lawful}
+use Rattle.transfer.specs.Lawful.{Lawful}
 use Rattle.transfer.specs.Sim.{Any, bind-sim, then-sim, bind-any, return-sim, done-sim, refuse-sim, if-sim, test-sim, each-sim}
 use Rattle.transfer.specs.Worlds.{Reaching, Keeps, sims, setOf-sim, peek-sim, bind-number, bind-set, bind-places, each-place, each-reached, ask-sim, look-sim, change-sim}
-
--- what a set R asks of session and context: N are the identifiers that candidates name, F the functions that they create
-pub record Closed (T : Tables) (K : T .Context → Type 0) (R : Node → Type 0) (N F : ℕ → Type 0) (next : ℕ) (context : T .Context) : Type 0 where
-  pub kept : K context
-  pub fresh-in : (n : ℕ) → next ≤ n → n < 512 → R (val n)
-  pub cached-in : (n i : ℕ) (k : EffectKey) → T .keyAt context n ≡ some k → k .into ≡ some i → N i → R (val n)
-  pub links-in : (v : ℕ) → R (val v) → (f : ℕ) → T .linkOf context v ≡ some f → All (λ j. R (id j)) (identifiers (T .contextOf context f))
-  pub created-in : (f : ℕ) → F f → All (λ j. R (id j)) (identifiers (T .contextOf context f))
-
--- a context that leads nowhere else keeps what R asks
-closed-same : (T : Tables) (K : T .Context → Type 0) (R : Node → Type 0) (N F : ℕ → Type 0) (next : ℕ) (c d : T .Context) → SameLinks T c d → (K c → K d) → Closed T K R N F next c → Closed T K R N F next d
-closed-same T K R N F next c d s g h = record {
-  kept = g (h .kept);
-  fresh-in = h .fresh-in;
-  cached-in = λ n i k e g a. h .cached-in n i k (s .keys n k e) g a;
-  links-in = λ v q f e. subst (All (λ j. R (id j))) (sym (s .contexts f)) (h .links-in v q f (s .links v f e));
-  created-in = λ f q. subst (All (λ j. R (id j))) (sym (s .contexts f)) (h .created-in f q);
-}
-
-abbrev pub reaching : (T : Tables) → (T .Context → Type 0) → (Node → Type 0) → (ℕ → Type 0) → (ℕ → Type 0) → State T → State T → Reaching T
-reaching T K R N F s t = record { R = R; OkRest = λ r. Closed T K R N F (r .session .next) (r .context); s₀ = s; t₀ = t }
-
--- ---- keys
-
--- an effect whose key holds an identity has that identity; Impure's key (16) holds none
-same-identity : (c : ℕ) (q : Place) (x : AliasingDiagnostic) (e : AliasingEffect) → effectKey e ≡ one c q 0 (x .identity) → ¬ (16 ≡ c) → diagnosticOf x e .identity ≡ x .identity
-same-identity c q x (Freeze p r) h n = refl
-same-identity c q x (Mutate p r) h n = refl
-same-identity c q x (MutateConditionally p) h n = refl
-same-identity c q x (MutateTransitive p) h n = refl
-same-identity c q x (MutateTransitiveConditionally p) h n = refl
-same-identity c q x (Capture f i) h n = refl
-same-identity c q x (Alias f i) h n = refl
-same-identity c q x (MaybeAlias f i) h n = refl
-same-identity c q x (Assign f i) h n = refl
-same-identity c q x (Create i k r) h n = refl
-same-identity c q x (CreateFrom f i) h n = refl
-same-identity c q x (ImmutableCapture f i) h n = refl
-same-identity c q x (CreateFunction cs f i) h n = refl
-same-identity c q x (MutateFrozen p d) h n = ap (λ (k : EffectKey). k .identity) h
-same-identity c q x (MutateGlobal p d) h n = ap (λ (k : EffectKey). k .identity) h
-same-identity c q x (Impure p d) h n = absurd (n (ap (λ (k : EffectKey). k .code) h))
-same-identity c q x (Render p) h n = refl
-
--- what interning hands out has the key of what it was given
-refreshed-key : (e x : AliasingEffect) → effectKey e ≡ effectKey x → effectKey e ≡ effectKey (refreshed e x)
-refreshed-key e (Freeze p r) h = h
-refreshed-key e (Mutate p r) h = h
-refreshed-key e (MutateConditionally p) h = h
-refreshed-key e (MutateTransitive p) h = h
-refreshed-key e (MutateTransitiveConditionally p) h = h
-refreshed-key e (Capture f i) h = h
-refreshed-key e (Alias f i) h = h
-refreshed-key e (MaybeAlias f i) h = h
-refreshed-key e (Assign f i) h = h
-refreshed-key e (Create i k r) h = h
-refreshed-key e (CreateFrom f i) h = h
-refreshed-key e (ImmutableCapture f i) h = h
-refreshed-key e (CreateFunction cs f i) h = h
-refreshed-key e (MutateFrozen p d) h = h ∙ ap (one 14 p 0) (sym (same-identity 14 p d e h (λ z. omega arith)))
-refreshed-key e (MutateGlobal p d) h = h ∙ ap (one 15 p 0) (sym (same-identity 15 p d e h (λ z. omega arith)))
-refreshed-key e (Impure p d) h = h
-refreshed-key e (Render p) h = h
-
--- ---- lists
-
-has-all : (P : ℕ → Type 0) (i : ℕ) (l : List ℕ) → All P l → has i l ≡ true → P i
-unfolding has
-has-all P i [] a e = absurd (false≢true e)
-has-all P i (j ∷ js) a e = go (eqb i j) (eqb→eq i j) (has-all P i js (a .1)) e
-  where
-    go : (b : Bool) → (lib.Dec.T b → i ≡ j) → (has i js ≡ true → P i) → (b || has i js) ≡ true → P i
-    go true q r e = subst P (sym (q tt)) (a .0)
-    go false q r e = r e
-
--- recording an access leaves the next number
-first-next : (a : ℕ) (span : Span) (s : Session) → firstAccess a span s .next ≡ s .next
-first-next a span s = go (eqb (s .access) 0)
-  where
-    go : (b : Bool) → _≡_ {A = ℕ} ((elim b as (λ x. Session) [ true ↦ record { next = s .next; access = a; span = span; entries = s .entries } | false ↦ s ]) .next) (s .next)
-    go true = refl
-    go false = refl
-
--- ---- how many more effects can be derived, one from the other, by the code of a key: Capture and Alias 2, CreateFunction 3
-
-abbrev rank : EffectKey → ℕ
-rank k = getD (0 ∷ 1 ∷ 1 ∷ 1 ∷ 1 ∷ 2 ∷ 2 ∷ 1 ∷ 1 ∷ 0 ∷ 1 ∷ 0 ∷ 0 ∷ 3 ∷ []) (k .code) 0
-
-lower : (d a b : ℕ) → lib.Dec.T (ltb a b) → lib.Dec.T (ltb b (suc d)) → lib.Dec.T (ltb a d)
-lower d a b p q = lt→ltb a d (le-trans (ltb→lt a b p) (le-of-suc-le-suc (ltb→lt b (suc d) q)))
-
-rank-4 : (e : AliasingEffect) → lib.Dec.T (ltb (rank (effectKey e)) 4)
-rank-4 (Freeze p r) = tt
-rank-4 (Mutate p r) = tt
-rank-4 (MutateConditionally p) = tt
-rank-4 (MutateTransitive p) = tt
-rank-4 (MutateTransitiveConditionally p) = tt
-rank-4 (Capture f i) = tt
-rank-4 (Alias f i) = tt
-rank-4 (MaybeAlias f i) = tt
-rank-4 (Assign f i) = tt
-rank-4 (Create i k r) = tt
-rank-4 (CreateFrom f i) = tt
-rank-4 (ImmutableCapture f i) = tt
-rank-4 (CreateFunction cs f i) = tt
-rank-4 (MutateFrozen p d) = tt
-rank-4 (MutateGlobal p d) = tt
-rank-4 (Impure p d) = tt
-rank-4 (Render p) = tt
+use Rattle.transfer.specs.Closed.{Closed, closed-same, reaching}
+use Rattle.transfer.specs.Derived.{refreshed-key, has-all, first-next, rank, lower, rank-4}
 
 module _ {T : Tables} (L : Lawful T) (R : Node → Type 0) (N F : ℕ → Type 0) (s₀ t₀ : State T) (own : (i : ℕ) → R (id i) → R (val (fromIdentifier i))) (named : (i : ℕ) → N i → R (id i)) where
   abbrev 𝓡 : Reaching T

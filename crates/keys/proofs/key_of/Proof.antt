@@ -1,5 +1,5 @@
 -- `keys::key_of` meets its contract: one law for each variant. Assumes nothing.
-use Rattle.keys.specs.KeyRecordLaws.{key-freeze, key-mutate, key-mutate-conditionally, key-mutate-transitive, key-mutate-transitive-conditionally, key-capture, key-alias, key-maybe-alias, key-assign, key-create, key-create-from, key-immutable-capture, key-create-function, key-mutate-frozen, key-mutate-global, key-impure, key-render}
+use Rattle.keys.specs.EffectKeyLaws.{key-freeze, key-mutate, key-mutate-conditionally, key-mutate-transitive, key-mutate-transitive-conditionally, key-capture, key-alias, key-maybe-alias, key-assign, key-create, key-create-from, key-immutable-capture, key-create-function, key-mutate-frozen, key-mutate-global, key-impure, key-render}
 use borrow.Author.Needs.{needs}
 use Rattle.keys.proofs.key_of.Statement.{statement}
 use Rattle.keys.proofs.key_of.Tie as tie

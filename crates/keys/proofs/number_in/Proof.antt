@@ -1,6 +1,6 @@
 -- `keys::number_in` meets its contract: one read, at a place that fits 64 bits. Assumes nothing.
 use native.Mathlib.Omega.{arith}
-use Rattle.keys.specs.KeyRecordLaws.{number-fits, reads-number}
+use Rattle.keys.specs.NumberLaws.{number-fits, reads-number}
 use borrow.Author.Needs.{needs}
 use Rattle.keys.proofs.number_in.Statement.{statement}
 use Rattle.keys.proofs.number_in.Tie as tie

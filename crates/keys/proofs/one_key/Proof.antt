@@ -1,5 +1,5 @@
 -- `keys::one_key` meets its contract: the key of one place. Assumes nothing.
-use Rattle.keys.specs.KeyRecordLaws.{one-is}
+use Rattle.keys.specs.EffectKeyLaws.{one-is}
 use Rattle.keys.proofs.one_key.Statement.{statement}
 use Rattle.keys.proofs.one_key.Tie as tie
 

@@ -1,5 +1,5 @@
 -- `keys::option_in` meets its contract: a word that is not 0 stands before a number. Assumes nothing.
-use Rattle.keys.specs.KeyRecordLaws.{option-absent, option-present}
+use Rattle.keys.specs.OptionLaws.{option-absent, option-present}
 use borrow.Author.Needs.{needs}
 use Rattle.keys.proofs.option_in.Statement.{statement}
 use Rattle.keys.proofs.option_in.Tie as tie

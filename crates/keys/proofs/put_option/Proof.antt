@@ -1,5 +1,5 @@
 -- `keys::put_option` meets its contract: two writes. Assumes nothing.
-use Rattle.keys.specs.KeyRecordLaws.{writes-absent, writes-present}
+use Rattle.keys.specs.OptionLaws.{writes-absent, writes-present}
 use borrow.Author.Needs.{needs}
 use Rattle.keys.proofs.put_option.Statement.{statement}
 use Rattle.keys.proofs.put_option.Tie as tie

@@ -1,5 +1,5 @@
 -- `keys::same_head` meets its contract: one law for each way. Assumes nothing.
-use Rattle.keys.specs.KeyRecordLaws.{same-code, same-from, same-into, same-kind, same-reason, same-function, same-identity}
+use Rattle.keys.specs.SameKeyLaws.{same-code, same-from, same-into, same-kind, same-reason, same-function, same-identity}
 use borrow.Author.Needs.{needs}
 use Rattle.keys.proofs.same_head.Statement.{statement}
 use Rattle.keys.proofs.same_head.Tie as tie

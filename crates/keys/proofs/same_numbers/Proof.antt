@@ -5,7 +5,7 @@ use Prim.Native.Nat.{_-_, _≤_}
 use mathlib.Core.Path.{_≡_, _∙_}
 use Rattle.effects.specs.Keys.{eqList}
 use Rattle.keys.specs.KeyRecords.{numbersIn}
-use Rattle.keys.specs.KeyRecordLaws.{alike, counts-differ, alike-start, alike-next, alike-not, alike-end}
+use Rattle.keys.specs.NumberLaws.{alike, counts-differ, alike-start, alike-next, alike-not, alike-end}
 use Rattle.keys.proofs.same_numbers.Statement.{statement}
 use Rattle.keys.proofs.same_numbers.Tie as tie
 

@@ -1,5 +1,5 @@
 -- `keys::same_option` meets its contract: one law for each way. Assumes nothing.
-use Rattle.keys.specs.KeyRecordLaws.{option-none, option-left, option-right, option-both}
+use Rattle.keys.specs.OptionLaws.{option-none, option-left, option-right, option-both}
 use borrow.Author.Needs.{needs}
 use Rattle.keys.proofs.same_option.Statement.{statement}
 use Rattle.keys.proofs.same_option.Tie as tie

@@ -1,5 +1,5 @@
 -- `keys::two_key` meets its contract: the key of two places. Assumes nothing.
-use Rattle.keys.specs.KeyRecordLaws.{two-is}
+use Rattle.keys.specs.EffectKeyLaws.{two-is}
 use Rattle.keys.proofs.two_key.Statement.{statement}
 use Rattle.keys.proofs.two_key.Tie as tie
 

@@ -1,6 +1,6 @@
 -- `records::code_in` meets its contract: 12 and what is past 17 read as Render. Assumes nothing.
 use native.Mathlib.Omega.{arith}
-use Rattle.records.specs.RecordLaws.{code-past, code-apply, code-known}
+use Rattle.records.specs.HeadLaws.{code-past, code-apply, code-known}
 use borrow.Author.Needs.{needs}
 use Rattle.records.proofs.code_in.Statement.{statement}
 use Rattle.records.proofs.code_in.Tie as tie

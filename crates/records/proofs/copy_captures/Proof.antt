@@ -5,7 +5,7 @@ use Prim.Native.Nat.{_-_, _≤_}
 use mathlib.Core.Path.{_≡_, refl, _∙_}
 use lib.ListN.{length}
 use Rattle.records.specs.Records.{copiedFrom, copiedCaptures}
-use Rattle.records.specs.RecordLaws.{copied-more, copied-kept, copied-none}
+use Rattle.records.specs.CaptureLaws.{copied-more, copied-kept, copied-none}
 use Rattle.records.proofs.copy_captures.Statement.{statement}
 use Rattle.records.proofs.copy_captures.Tie as tie
 

@@ -1,7 +1,7 @@
 -- `records::effect_in` meets its contract: one law for each arm. Assumes nothing.
 use mathlib.Core.Path.{ap, _∙_}
 use Rattle.kinds.specs.Kinds.{kindAt}
-use Rattle.records.specs.RecordLaws.{head-0, head-1, head-2, head-3, head-4, head-5, head-6, head-7, head-8, head-9, head-10, head-11, head-13, head-14, head-15, head-16, head-rest}
+use Rattle.records.specs.HeadLaws.{head-0, head-1, head-2, head-3, head-4, head-5, head-6, head-7, head-8, head-9, head-10, head-11, head-13, head-14, head-15, head-16, head-rest}
 use borrow.Author.Needs.{needs}
 use Rattle.records.proofs.effect_in.Statement.{statement}
 use Rattle.records.proofs.effect_in.Tie as tie

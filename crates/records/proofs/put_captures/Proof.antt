@@ -7,7 +7,7 @@ use lib.ListN.{length}
 use Rattle.words.specs.Words.{putPlaces, placesIn}
 use Rattle.words.specs.WordLaws.{place-length}
 use Rattle.records.specs.Records.{oneRun, capturesOf}
-use Rattle.records.specs.RecordLaws.{put-start, put-more, put-none}
+use Rattle.records.specs.CaptureLaws.{put-start, put-more, put-none}
 use Rattle.records.proofs.put_captures.Statement.{statement}
 use Rattle.records.proofs.put_captures.Tie as tie
 

@@ -1,5 +1,5 @@
 -- `records::put_create` meets its contract: four writes. Assumes nothing.
-use Rattle.records.specs.RecordLaws.{writes-create}
+use Rattle.records.specs.EffectWrites.{writes-create}
 use borrow.Author.Needs.{needs}
 use Rattle.records.proofs.put_create.Statement.{statement}
 use Rattle.records.proofs.put_create.Tie as tie

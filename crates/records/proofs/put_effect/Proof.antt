@@ -1,5 +1,5 @@
 -- `records::put_effect` meets its contract: one law for each variant. Assumes nothing.
-use Rattle.records.specs.RecordLaws.{put-freeze, put-mutate, put-mutate-conditionally, put-mutate-transitive, put-mutate-transitive-conditionally, put-capture, put-alias, put-maybe-alias, put-assign, put-create, put-create-from, put-immutable-capture, put-create-function, put-mutate-frozen, put-mutate-global, put-impure, put-render}
+use Rattle.records.specs.EffectWrites.{put-freeze, put-mutate, put-mutate-conditionally, put-mutate-transitive, put-mutate-transitive-conditionally, put-capture, put-alias, put-maybe-alias, put-assign, put-create, put-create-from, put-immutable-capture, put-create-function, put-mutate-frozen, put-mutate-global, put-impure, put-render}
 use borrow.Author.Needs.{needs}
 use Rattle.records.proofs.put_effect.Statement.{statement}
 use Rattle.records.proofs.put_effect.Tie as tie

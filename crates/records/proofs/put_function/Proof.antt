@@ -1,5 +1,5 @@
 -- `records::put_function` meets its contract: four writes, then the captures. Assumes nothing.
-use Rattle.records.specs.RecordLaws.{writes-function}
+use Rattle.records.specs.EffectWrites.{writes-function}
 use borrow.Author.Needs.{needs}
 use Rattle.records.proofs.put_function.Statement.{statement}
 use Rattle.records.proofs.put_function.Tie as tie
