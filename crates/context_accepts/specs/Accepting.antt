@@ -63,15 +63,10 @@ keysClass identifiers functions c next = lower (lowestBelow next (cachedClass id
 unfoldable pub diagnosticsClass : ℕ → List ℕ → ℕ
 diagnosticsClass identifiers c = lower (lowestBelow (instanceCount c) (diagnosticClass identifiers c)) (strayAfter Layout.diagnostics c (instanceCount c))
 
--- the words of the records that are lent after n interned effects
--- the host lends as many records as it likes
-unfoldable pub roomClass : List ℕ → ℕ → ℕ → ℕ
-roomClass c n room = strayFrom c (index Layout.interned n 0) ((room - n) * 98)
-
--- the interned effects, for a number of records that are lent
+-- the interned effects
 -- as many as the context counts
-unfoldable pub effectsClass : ℕ → ℕ → List ℕ → ℕ → ℕ
-effectsClass identifiers functions c room = lower (lowestBelow (internedCount c) (internedClass identifiers functions c)) (roomClass c (internedCount c) room)
+unfoldable pub effectsClass : ℕ → ℕ → List ℕ → ℕ
+effectsClass identifiers functions c = lower (lowestBelow (internedCount c) (internedClass identifiers functions c)) (strayAfter Layout.interned c (internedCount c))
 
 -- ---- the whole context
 
@@ -83,17 +78,17 @@ countsWrong identifiers functions c =
 
 -- the options and all tables
 -- two options, so below 4
-unfoldable pub tablesClass : ℕ → ℕ → List ℕ → ℕ → ℕ → ℕ
-tablesClass identifiers functions c next room =
+unfoldable pub tablesClass : ℕ → ℕ → List ℕ → ℕ → ℕ
+tablesClass identifiers functions c next =
     lower (wordClass (some 4) (getD c Layout.options 0))
     (lower (identifiersClass identifiers c)
     (lower (functionsClass identifiers functions c)
     (lower (linksClass functions c next)
     (lower (keysClass identifiers functions c next)
     (lower (diagnosticsClass identifiers c)
-    (effectsClass identifiers functions c room))))))
+    (effectsClass identifiers functions c))))))
 
--- a context, for the next number and the number of records lent for interned effects
+-- a context, for the next number
 -- "Order 1 to 5 over the whole input": a count is tested before the records are gone through
-unfoldable pub contextClass : ℕ → ℕ → List ℕ → ℕ → ℕ → ℕ
-contextClass identifiers functions c next room = ite (countsWrong identifiers functions c) 2 (tablesClass identifiers functions c next room)
+unfoldable pub contextClass : ℕ → ℕ → List ℕ → ℕ → ℕ
+contextClass identifiers functions c next = ite (countsWrong identifiers functions c) 2 (tablesClass identifiers functions c next)

@@ -23,7 +23,7 @@ use Rattle.effect_classes.specs.EffectClasses.{effectClass}
 use Rattle.effect_classes.specs.InstructionLaws.{effect-class}
 use Rattle.table_classes.specs.TableClasses.{identifierClass, functionClass, linkClass, keyLimit, keyLacks, keyClass, noKeyClass, diagnosticLimit, labelClass, messageClass}
 use Rattle.repeats.specs.Repeats.{internedTwice, keyTwice, diagnosticTwice}
-use Rattle.context_accepts.specs.Accepting.{cachedClass, diagnosticClass, internedClass, identifiersClass, functionsClass, linksClass, keysClass, diagnosticsClass, roomClass, effectsClass, countsWrong, tablesClass, contextClass}
+use Rattle.context_accepts.specs.Accepting.{cachedClass, diagnosticClass, internedClass, identifiersClass, functionsClass, linksClass, keysClass, diagnosticsClass, effectsClass, countsWrong, tablesClass, contextClass}
 
 -- ---- a class, and 4 where a record repeats another
 
@@ -179,29 +179,12 @@ unfolding diagnosticsClass
 diagnostics-are identifiers c n m a b r e f h g q =
     q ∙ ap₂ lower (h ∙ ap (λ (k : ℕ). lowestBelow k (diagnosticClass identifiers c)) e) (g ∙ ap (strayAfter Layout.diagnostics c) (f ∙ e))
 
--- no more records are lent than are in use
--- the first way through the code
-pub room-none : (c : List ℕ) (n room : ℕ) → room ≤ n → 0 ≡ roomClass c n room
-unfolding roomClass strayFrom
-room-none c n room l =
-    let z : room - n ≡ 0 = omega arith in
-    lowest-none (λ k. wordClass none (getD c (index Layout.interned n 0 + k) 0))
-    ∙ ap (λ (x : ℕ). lowestBelow x (λ k. wordClass none (getD c (index Layout.interned n 0 + k) 0))) (sym (ap (λ (x : ℕ). x * 98) z ∙ zero-mul 98))
-
--- the words of the others
--- the second way
-pub room-some : (c : List ℕ) (n room m l r : ℕ) → m ≡ n → l ≡ room - n → r ≡ strayFrom c (35269 + m * 98) (l * 98) → r ≡ roomClass c n room
-unfolding roomClass index
-room-some c n room m l r e f h =
-    let z : 35269 + n * 98 ≡ 35269 + n * 98 + 0 = omega arith in
-    h ∙ ap₂ (λ (x y : ℕ). strayFrom c (35269 + x * 98) (y * 98)) e f ∙ ap (λ (x : ℕ). strayFrom c x ((room - n) * 98)) z
-
 -- interned effects
 -- their number is read and widened
-pub effects-are : (identifiers functions : ℕ) (c : List ℕ) (room n m a b r : ℕ) → n ≡ internedCount c → m ≡ n → a ≡ lowestBelow m (internedClass identifiers functions c) → b ≡ roomClass c n room → r ≡ lower a b → r ≡ effectsClass identifiers functions c room
+pub effects-are : (identifiers functions : ℕ) (c : List ℕ) (n m a b r : ℕ) → n ≡ internedCount c → m ≡ n → a ≡ lowestBelow m (internedClass identifiers functions c) → b ≡ strayAfter Layout.interned c m → r ≡ lower a b → r ≡ effectsClass identifiers functions c
 unfolding effectsClass
-effects-are identifiers functions c room n m a b r e f h g q =
-    q ∙ ap₂ lower (h ∙ ap (λ (k : ℕ). lowestBelow k (internedClass identifiers functions c)) (f ∙ e)) (g ∙ ap (λ (k : ℕ). roomClass c k room) e)
+effects-are identifiers functions c n m a b r e f h g q =
+    q ∙ ap₂ lower (h ∙ ap (λ (k : ℕ). lowestBelow k (internedClass identifiers functions c)) (f ∙ e)) (g ∙ ap (strayAfter Layout.interned c) (f ∙ e))
 
 -- ---- the whole
 
@@ -268,22 +251,22 @@ module _ (identifiers functions : ℕ) (c : List ℕ) (i : ℕ) (hi : i ≡ getD
 
 -- the options and all tables
 -- the lowest class of seven
-pub tables-are : (identifiers functions : ℕ) (c : List ℕ) (next room x o a b d e f g l1 l2 l3 l4 l5 r : ℕ) → x ≡ getD c 0 0 → o ≡ wordClass (some 4) x → a ≡ identifiersClass identifiers c → b ≡ functionsClass identifiers functions c
-    → d ≡ linksClass functions c next → e ≡ keysClass identifiers functions c next → f ≡ diagnosticsClass identifiers c → g ≡ effectsClass identifiers functions c room
-    → l1 ≡ lower f g → l2 ≡ lower e l1 → l3 ≡ lower d l2 → l4 ≡ lower b l3 → l5 ≡ lower a l4 → r ≡ lower o l5 → r ≡ tablesClass identifiers functions c next room
+pub tables-are : (identifiers functions : ℕ) (c : List ℕ) (next x o a b d e f g l1 l2 l3 l4 l5 r : ℕ) → x ≡ getD c 0 0 → o ≡ wordClass (some 4) x → a ≡ identifiersClass identifiers c → b ≡ functionsClass identifiers functions c
+    → d ≡ linksClass functions c next → e ≡ keysClass identifiers functions c next → f ≡ diagnosticsClass identifiers c → g ≡ effectsClass identifiers functions c
+    → l1 ≡ lower f g → l2 ≡ lower e l1 → l3 ≡ lower d l2 → l4 ≡ lower b l3 → l5 ≡ lower a l4 → r ≡ lower o l5 → r ≡ tablesClass identifiers functions c next
 unfolding tablesClass
-tables-are identifiers functions c next room x o a b d e f g l1 l2 l3 l4 l5 r hx ho ha hb hd he hf hg h1 h2 h3 h4 h5 h =
+tables-are identifiers functions c next x o a b d e f g l1 l2 l3 l4 l5 r hx ho ha hb hd he hf hg h1 h2 h3 h4 h5 h =
     h ∙ ap₂ lower (ho ∙ ap (wordClass (some 4)) hx) (h5 ∙ ap₂ lower ha (h4 ∙ ap₂ lower hb (h3 ∙ ap₂ lower hd (h2 ∙ ap₂ lower he (h1 ∙ ap₂ lower hf hg)))))
 
-module _ (identifiers functions : ℕ) (c : List ℕ) (next room : ℕ) (b : Bool) (h : b ≡ countsWrong identifiers functions c) where
+module _ (identifiers functions : ℕ) (c : List ℕ) (next : ℕ) (b : Bool) (h : b ≡ countsWrong identifiers functions c) where
   -- a count is wrong
   -- the first way through the code
-  pub context-counts : b ≡ true → 2 ≡ contextClass identifiers functions c next room
+  pub context-counts : b ≡ true → 2 ≡ contextClass identifiers functions c next
   unfolding contextClass
-  context-counts e = sym (ite-yes (countsWrong identifiers functions c) 2 (tablesClass identifiers functions c next room) (sym h ∙ e))
+  context-counts e = sym (ite-yes (countsWrong identifiers functions c) 2 (tablesClass identifiers functions c next) (sym h ∙ e))
 
   -- all counts are right
   -- the tables decide
-  pub context-tables : (r : ℕ) → b ≡ false → r ≡ tablesClass identifiers functions c next room → r ≡ contextClass identifiers functions c next room
+  pub context-tables : (r : ℕ) → b ≡ false → r ≡ tablesClass identifiers functions c next → r ≡ contextClass identifiers functions c next
   unfolding contextClass
-  context-tables r e g = g ∙ sym (ite-no (countsWrong identifiers functions c) 2 (tablesClass identifiers functions c next room) (sym h ∙ e))
+  context-tables r e g = g ∙ sym (ite-no (countsWrong identifiers functions c) 2 (tablesClass identifiers functions c next) (sym h ∙ e))

@@ -3,7 +3,7 @@
 ghost use mathlib.Core.Path.{_≡_};
 ghost use Rattle.word_classes.specs.Classes.{lowestBelow};
 ghost use Rattle.table_classes.specs.TableClasses.{identifierClass, functionClass, linkClass};
-ghost use Rattle.context_accepts.specs.Accepting.{cachedClass, diagnosticClass, internedClass, identifiersClass, functionsClass, linksClass, keysClass, diagnosticsClass, effectsClass, roomClass, countsWrong, tablesClass, contextClass};
+ghost use Rattle.context_accepts.specs.Accepting.{cachedClass, diagnosticClass, internedClass, identifiersClass, functionsClass, linksClass, keysClass, diagnosticsClass, effectsClass, countsWrong, tablesClass, contextClass};
 use contexts::interned_count;
 use diagnostics::instance_count;
 use effect_classes::effect_class;
@@ -21,7 +21,6 @@ use table_classes::message_class;
 use table_classes::no_key_class;
 use word_classes::earns;
 use word_classes::stray_after;
-use word_classes::stray_from;
 use word_classes::word_class;
 use words::Table;
 use words::field;
@@ -75,7 +74,7 @@ const DIAGNOSTICS: Table = Table {
 };
 
 // Interned effects: the first effect under a key.
-// The last table, so that the host may lend a shorter one.
+// The last table.
 const INTERNED: Table = Table {
     base: 35269,
     count: 2048,
@@ -268,27 +267,14 @@ fn diagnostics_class(context: &[u32], identifiers: u32) -> u32
     lower(records, stray_after(DIAGNOSTICS, context, wide32(n)))
 }
 
-// The class of the words of the records that are lent after n interned effects.
-// The host lends as many records as it likes.
-fn room_class(context: &[u32], n: u32, room: u32) -> u32
-    ensures { λ r. ⌜ r ≡ roomClass (now (context .entry)) n room ⌝ }
-{
-    if room <= n {
-        return 0;
-    }
-    let from = 35269 + wide32(n) * 98;
-    let left = wide32(room - n) * 98;
-    stray_from(context, from, left)
-}
-
 // The class of the interned effects.
 // As many as the context counts.
-fn effects_class(context: &[u32], identifiers: u32, functions: u32, room: u32) -> u32
-    ensures { λ r. ⌜ r ≡ effectsClass identifiers functions (now (context .entry)) room ⌝ }
+fn effects_class(context: &[u32], identifiers: u32, functions: u32) -> u32
+    ensures { λ r. ⌜ r ≡ effectsClass identifiers functions (now (context .entry)) ⌝ }
 {
-    let n = interned_count(context);
-    let records = effect_records(context, wide32(n), identifiers, functions);
-    lower(records, room_class(context, n, room))
+    let n = wide32(interned_count(context));
+    let records = effect_records(context, n, identifiers, functions);
+    lower(records, stray_after(INTERNED, context, n))
 }
 
 // ---- the whole context
@@ -315,8 +301,8 @@ fn counts_wrong(context: &[u32], identifiers: u32, functions: u32) -> bool
 
 // The lowest class of the options and of all tables.
 // Two options, so below 4.
-fn tables_class(context: &[u32], identifiers: u32, functions: u32, next: u32, room: u32) -> u32
-    ensures { λ r. ⌜ r ≡ tablesClass identifiers functions (now (context .entry)) next room ⌝ }
+fn tables_class(context: &[u32], identifiers: u32, functions: u32, next: u32) -> u32
+    ensures { λ r. ⌜ r ≡ tablesClass identifiers functions (now (context .entry)) next ⌝ }
 {
     let options = word_class(5, get32(context, 0));
     let names = identifiers_class(context, identifiers);
@@ -324,7 +310,7 @@ fn tables_class(context: &[u32], identifiers: u32, functions: u32, next: u32, ro
     let links = links_class(context, functions, next);
     let keys = keys_class(context, identifiers, functions, next);
     let messages = diagnostics_class(context, identifiers);
-    let effects = effects_class(context, identifiers, functions, room);
+    let effects = effects_class(context, identifiers, functions);
     lower(
         options,
         lower(
@@ -334,13 +320,13 @@ fn tables_class(context: &[u32], identifiers: u32, functions: u32, next: u32, ro
     )
 }
 
-// The class of a context, for the next number and the number of records lent for interned effects; 0 where it is accepted.
+// The class of a context, for the next number; 0 where it is accepted.
 // A count is tested before the records are gone through.
-pub fn context_class(context: &[u32], identifiers: u32, functions: u32, next: u32, room: u32) -> u32
-    ensures { λ r. ⌜ r ≡ contextClass identifiers functions (now (context .entry)) next room ⌝ }
+pub fn context_class(context: &[u32], identifiers: u32, functions: u32, next: u32) -> u32
+    ensures { λ r. ⌜ r ≡ contextClass identifiers functions (now (context .entry)) next ⌝ }
 {
     if counts_wrong(context, identifiers, functions) {
         return 2;
     }
-    tables_class(context, identifiers, functions, next, room)
+    tables_class(context, identifiers, functions, next)
 }

@@ -13,7 +13,7 @@ counts-wrong-requires c κs = search needs
 
 -- src/lib.rt:337:9
 returns : tie.Need-returns
-returns c = context-counts _ _ _ _ _ _ (c .before .counts-wrong .ensures) (c .if1 .taken)
+returns c = context-counts _ _ _ _ _ (c .before .counts-wrong .ensures) (c .if1 .taken)
 
 -- src/lib.rt:339:5
 tables-class-requires : tie.Need-tables-class-requires
@@ -21,7 +21,7 @@ tables-class-requires c κs = search needs
 
 -- src/lib.rt:333:1
 returns-2 : tie.Need-returns-2
-returns-2 c = context-tables _ _ _ _ _ _ (c .before .before .counts-wrong .ensures) _ (c .before .if1 .left) (c .tables-class .ensures)
+returns-2 c = context-tables _ _ _ _ _ (c .before .before .counts-wrong .ensures) _ (c .before .if1 .left) (c .tables-class .ensures)
 
 pub context-class-spec : {M : Type 1} → statement M
 context-class-spec =

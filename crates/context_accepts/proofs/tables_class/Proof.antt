@@ -72,7 +72,7 @@ lower-requires-6 c κs = search needs
 
 -- src/lib.rt:318:1
 returns : tie.Need-returns
-returns c = tables-are _ _ _ _ _ _ _ _ _ _ _ _ _ _ _ _ _ _ _ (c .before .before .before .before .before .before .before .before .before .before .before .before .before .get32 .ensures) (c .before .before .before .before .before .before .before .before .before .before .before .before .word-class .ensures) (c .before .before .before .before .before .before .before .before .before .before .before .identifiers-class .ensures) (c .before .before .before .before .before .before .before .before .before .before .functions-class .ensures) (c .before .before .before .before .before .before .before .before .before .links-class .ensures) (c .before .before .before .before .before .before .before .before .keys-class .ensures) (c .before .before .before .before .before .before .before .diagnostics-class .ensures) (c .before .before .before .before .before .before .effects-class .ensures) (c .before .before .before .before .before .lower .ensures) (c .before .before .before .before .lower2 .ensures) (c .before .before .before .lower3 .ensures) (c .before .before .lower4 .ensures) (c .before .lower5 .ensures) (c .lower6 .ensures)
+returns c = tables-are _ _ _ _ _ _ _ _ _ _ _ _ _ _ _ _ _ _ (c .before .before .before .before .before .before .before .before .before .before .before .before .before .get32 .ensures) (c .before .before .before .before .before .before .before .before .before .before .before .before .word-class .ensures) (c .before .before .before .before .before .before .before .before .before .before .before .identifiers-class .ensures) (c .before .before .before .before .before .before .before .before .before .before .functions-class .ensures) (c .before .before .before .before .before .before .before .before .before .links-class .ensures) (c .before .before .before .before .before .before .before .before .keys-class .ensures) (c .before .before .before .before .before .before .before .diagnostics-class .ensures) (c .before .before .before .before .before .before .effects-class .ensures) (c .before .before .before .before .before .lower .ensures) (c .before .before .before .before .lower2 .ensures) (c .before .before .before .lower3 .ensures) (c .before .before .lower4 .ensures) (c .before .lower5 .ensures) (c .lower6 .ensures)
 
 pub tables-class-spec : {M : Type 1} → statement M
 tables-class-spec =
