@@ -1,5 +1,5 @@
 // The parts of an instruction over lent tables: the early errors of its own function, its candidates in order, the lvalue. After apply_signature
-// of the Rust. The call that puts them together comes with isolation in its promise.
+// of the Rust; `run_instruction` puts them together. The call, with isolation in its promise, is `signatures::apply_signature`.
 ghost use mathlib.Core.Path.{_≡_};
 ghost use mathlib.Core.List.{List};
 ghost use Prim.Native.Nat.{ℕ};
@@ -12,7 +12,7 @@ ghost use Rattle.contexts.specs.Lent as Lent;
 ghost use Rattle.runs.specs.declared.Run.{Run as ARun};
 ghost use Rattle.records.specs.Records.{effectIn};
 ghost use Rattle.lent.specs.World.{world};
-ghost use Rattle.instructions.specs.Instructions.{insidePlaces, copiedInside, candidateTable, ownOf, keptEntries};
+ghost use Rattle.instructions.specs.Instructions.{insidePlaces, copiedInside, candidateTable, ownOf, instructionOf, keptEntries};
 use cells::put_value;
 use contexts::context_count;
 use contexts::context_identifier;
@@ -296,4 +296,36 @@ pub fn keep_entries(run: Run) -> Run
         entries: run.entries,
     };
     with_session(run, after)
+}
+
+// ---- the whole run
+
+// The run of an instruction: the early errors of its own function, its candidates in order, the lvalue, the entries kept.
+// Where it is refused the tables are as the refused step left them: the call, `signatures::apply_signature`, puts them back.
+pub fn run_instruction(
+    values: &mut [u64],
+    sets: &mut [u64],
+    context: &mut [u32],
+    output: &mut [u32],
+    run: Run,
+    candidates: &[u32],
+    count: u32,
+    lvalue: Place,
+    own: u32,
+) -> Ran
+    ensures { λ r. ⌜ Instruction.run (instructionOf (now (candidates .entry)) count lvalue own) (world (now (values .entry)) (now (sets .entry)) (now (context .entry)) (now (output .entry)) run) ≡ answer (r .refusal) tt (world (now (values .exit)) (now (sets .exit)) (now (context .exit)) (now (output .exit)) (r .run)) ⌝ }
+{
+    let early = early_errors(values, sets, context, output, run, own);
+    if early.refusal != 0 {
+        return early;
+    }
+    let ran = candidates_in_order(values, sets, context, output, early.run, candidates, count);
+    if ran.refusal != 0 {
+        return ran;
+    }
+    define_lvalue(values, sets, lvalue.identifier);
+    Ran {
+        refusal: 0,
+        run: keep_entries(ran.run),
+    }
 }

@@ -1,0 +1,30 @@
+-- `saves::save_state` meets its contract: two copies, one after the other. Assumes nothing.
+use mathlib.Core.Path.{ap, _∙_}
+use Rattle.copies.specs.Copies.{copied}
+use Rattle.saves.specs.Saves.{savedState}
+use borrow.Author.Needs.{needs}
+use Rattle.saves.proofs.save_state.Statement.{statement}
+use Rattle.saves.proofs.save_state.Tie as tie
+use Rattle.saves.proofs.save_state.Reads as reads
+use Rattle.saves.proofs.save_state.Lts as lts
+use Rattle.copies.proofs.copy64.Reads as copy64-reads
+
+-- src/lib.rt:18:5
+copy64-requires : tie.Need-copy64-requires
+copy64-requires c κs = search needs
+
+-- src/lib.rt:19:5
+copy64-requires-2 : tie.Need-copy64-requires-2
+copy64-requires-2 c κs = search needs
+
+-- src/lib.rt:15:1
+same-length : tie.Need-same-length
+same-length c = search needs
+
+-- src/lib.rt:15:1
+returns : tie.Need-returns
+unfolding savedState
+returns c = c .before .before .copy642 .ensures ∙ ap (copied _ 0 1024 _) (c .before .before .before .before .before .before .copy64 .ensures)
+
+pub save-state-spec : {M : Type 1} → statement M
+save-state-spec = tie.close (tie.spec copy64-requires copy64-requires-2 same-length returns)

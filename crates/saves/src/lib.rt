@@ -1,0 +1,103 @@
+// What the call for an instruction saves before it runs, and how it puts that back after a refusal.
+// The tables of a state are saved whole; of a context, the words that an instruction may change, but for the effects that it appends.
+ghost use mathlib.Core.Path.{_≡_};
+ghost use lib.ListN.{length};
+ghost use Rattle.copies.specs.Copies.{copied, zeros};
+ghost use Rattle.saves.specs.Saves.{savedState, savedContext, forgotten, restoredContext};
+use contexts::interned_count;
+use copies::clear32;
+use copies::copy32;
+use copies::copy64;
+use slices::get32;
+use slices::set32;
+use slices::wide32;
+
+// Values and n words of sets are copied to scratch, one after the other.
+// 1,024 words, then as many as the sets have.
+pub fn save_state(values: &[u64], sets: &[u64], n: u32, scratch: &mut [u64])
+    ensures { λ _. ⌜ now (scratch .exit) ≡ savedState (now (values .entry)) (now (sets .entry)) n (now (scratch .entry)) ⌝ }
+{
+    copy64(values, 0, scratch, 0, 1024);
+    copy64(sets, 0, scratch, 1024, n);
+}
+
+// Values and n words of sets are copied back.
+// "After a refusal state .. are as before."
+pub fn restore_state(values: &mut [u64], sets: &mut [u64], n: u32, scratch: &[u64])
+    ensures { λ _. ⌜ (now (values .exit) ≡ copied (now (scratch .entry)) 0 0 1024 (now (values .entry))) × (now (sets .exit) ≡ copied (now (scratch .entry)) 1024 0 n (now (sets .entry))) ⌝ }
+{
+    copy64(scratch, 0, values, 0, 1024);
+    copy64(scratch, 1024, sets, 0, n);
+}
+
+// The words of a context between its functions and its interned effects are copied to scratch.
+// The count of interned effects is the first of them.
+pub fn save_context(context: &[u32], scratch: &mut [u32])
+    ensures { λ _. ⌜ now (scratch .exit) ≡ savedContext (now (context .entry)) (now (scratch .entry)) ⌝ }
+{
+    copy32(context, 12483, scratch, 0, 22786);
+}
+
+// Interned effects from record `from` to before record `to` become zero.
+// So those that a refused instruction appended go.
+pub fn forget_effects(context: &mut [u32], from: u32, to: u32)
+    ensures { λ _. ⌜ now (context .exit) ≡ forgotten from to (now (context .entry)) ⌝ }
+{
+    if to <= from {
+        return;
+    }
+    let at = 35269 + wide32(from) * 98;
+    let n = wide32(to - from) * 98;
+    let mut k: usize = 0;
+    while k < n {
+        set32(context, at + k, 0);
+        k += 1;
+    }
+}
+
+// A context is put back: the effects appended since go, and the words that were saved return.
+// "After a refusal .. context .. are as before."
+pub fn restore_context(context: &mut [u32], scratch: &[u32])
+    ensures { λ _. ⌜ now (context .exit) ≡ restoredContext (now (scratch .entry)) (now (context .entry)) ⌝ }
+{
+    let before = get32(scratch, 0);
+    let after = interned_count(context);
+    forget_effects(context, before, after);
+    copy32(scratch, 0, context, 12483, 22786);
+}
+
+// ---- both
+
+// State and context are saved.
+// Before an instruction runs.
+pub fn save(
+    values: &[u64],
+    sets: &[u64],
+    n: u32,
+    context: &[u32],
+    scratch64: &mut [u64],
+    scratch32: &mut [u32],
+)
+    ensures { λ _. ⌜ (now (scratch64 .exit) ≡ savedState (now (values .entry)) (now (sets .entry)) n (now (scratch64 .entry))) × (now (scratch32 .exit) ≡ savedContext (now (context .entry)) (now (scratch32 .entry))) ⌝ }
+{
+    save_state(values, sets, n, scratch64);
+    save_context(context, scratch32);
+}
+
+// State and context are put back, and the output list becomes zero.
+// After an instruction was refused.
+pub fn undo(
+    values: &mut [u64],
+    sets: &mut [u64],
+    n: u32,
+    context: &mut [u32],
+    output: &mut [u32],
+    scratch64: &[u64],
+    scratch32: &[u32],
+)
+    ensures { λ _. ⌜ (now (values .exit) ≡ copied (now (scratch64 .entry)) 0 0 1024 (now (values .entry))) × (now (sets .exit) ≡ copied (now (scratch64 .entry)) 1024 0 n (now (sets .entry))) × (now (context .exit) ≡ restoredContext (now (scratch32 .entry)) (now (context .entry))) × (now (output .exit) ≡ zeros (length (now (output .entry)))) ⌝ }
+{
+    restore_state(values, sets, n, scratch64);
+    restore_context(context, scratch32);
+    clear32(output);
+}
