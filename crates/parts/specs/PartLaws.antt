@@ -37,19 +37,19 @@ use Rattle.parts.specs.Parts.{withSession, writes}
 -- ---- an effect is listed
 
 module _ (vs ss cs os : List ℕ) (e : AliasingEffect) where
-  -- a full list stays
-  -- no instruction fills it
-  pub emit-full : (r : Run) → 1120 ≤ r .listed → Context.emit e (world vs ss cs os r) ≡ ok tt (world vs ss cs os r)
+  -- a count that fills its word stays
+  -- no instruction comes near
+  pub emit-full : (r : Run) → 4294967295 ≤ r .listed → Context.emit e (world vs ss cs os r) ≡ ok tt (world vs ss cs os r)
   unfolding Context.emit change putListed
-  emit-full r h = ap (λ (l : _). ok tt (record { state = world vs ss cs os r .state; rest = record { session = r .session; context = cs; work = record { initialized = r .marks; listed = l; freezeEntries = r .freeze; entries = r .entries } } })) (ite-ge (r .listed) 1120 _ _ h)
+  emit-full r h = ap (λ (l : _). ok tt (record { state = world vs ss cs os r .state; rest = record { session = r .session; context = cs; work = record { initialized = r .marks; listed = l; freezeEntries = r .freeze; entries = r .entries } } })) (ite-ge (r .listed) 4294967295 _ _ h)
 
   -- the record after the last
   -- one more is listed
-  pub emit-one : (r : Run) (n : ℕ) (us : List ℕ) → r .listed < 1120 → n ≡ r .listed → us ≡ putEffect output os n e
+  pub emit-one : (r : Run) (n : ℕ) (us : List ℕ) → r .listed < 4294967295 → n ≡ r .listed → us ≡ putEffect output os n e
       → Context.emit e (world vs ss cs os r) ≡ ok tt (world vs ss cs us (record { session = r .session; flag = r .flag; marks = r .marks; listed = r .listed + 1; freeze = r .freeze; entries = r .entries }))
   unfolding Context.emit change putListed
   emit-one r n us h m g =
-      ap (λ (l : _). ok tt (record { state = world vs ss cs os r .state; rest = record { session = r .session; context = cs; work = record { initialized = r .marks; listed = l; freezeEntries = r .freeze; entries = r .entries } } })) (ite-lt (r .listed) 1120 _ _ h)
+      ap (λ (l : _). ok tt (record { state = world vs ss cs os r .state; rest = record { session = r .session; context = cs; work = record { initialized = r .marks; listed = l; freezeEntries = r .freeze; entries = r .entries } } })) (ite-lt (r .listed) 4294967295 _ _ h)
       ∙ ap₂ (λ (l : List ℕ) (k : ℕ). ok tt (world vs ss cs l (record { session = r .session; flag = r .flag; marks = r .marks; listed = k; freeze = r .freeze; entries = r .entries }))) (ap (λ (k : ℕ). putEffect output os k e) (sym m) ∙ sym g) (sym (add-one (r .listed)))
 
 -- ---- a place begins

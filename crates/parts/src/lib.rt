@@ -55,12 +55,12 @@ pub struct Looked {
     pub run: Run,
 }
 
-// An effect is listed.
-// It goes to the record after the last.
+// An effect is listed: it goes to the record after the last.
+// An instruction lists 1,120 at most, so that the list holds all of them, and a word counts them.
 pub fn emit(output: &mut [u32], run: Run, e: AliasingEffect, captures: &[u32]) -> Run
     ensures { λ r. ⌜ ((vs ss cs : List ℕ) → Context.emit (effectWith e (capturesOf (now (captures .entry)))) (world vs ss cs (now (output .entry)) run) ≡ ok tt (world vs ss cs (now (output .exit)) r)) ⌝ }
 {
-    if run.listed >= 1120 {
+    if run.listed >= 4294967295 {
         return run;
     }
     put_effect(OUTPUT, output, wide32(run.listed), e, captures);
