@@ -51,6 +51,11 @@ pub(crate) fn job_text(bytes: &[u8]) -> Result<String, Fail> {
     Ok(answer::job_text(&limits::run(&job)?))
 }
 
+/// Nanoseconds of `apply_signature` for the first instruction of a library job.
+pub(crate) fn job_time(bytes: &[u8], times: u32) -> Result<f64, Fail> {
+    limits::time(&job::from_words(&words_of(bytes)?)?, times)
+}
+
 /// The answer words of a state operation.
 pub(crate) fn operation_words(bytes: &[u8]) -> Result<Vec<u32>, Fail> {
     operation::run(&words_of(bytes)?)

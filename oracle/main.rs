@@ -2,6 +2,7 @@
 //!
 //! oracle (--image | --job | --op) [--words] [FILE]     one input
 //! oracle --batch (image | job | op)                    many, on standard input
+//! oracle --job --time N [FILE]                         nanoseconds a call, of N calls
 
 mod cover;
 mod diagnostics;
@@ -18,7 +19,8 @@ const PANICKED: u32 = 0xFFFF_FFFF;
 const BAD: u32 = 0xFFFF_FFFD;
 const STACK: usize = 512 << 20;
 const USAGE: &str = "usage: oracle (--image | --job | --op) [--words] [FILE]
-       oracle --batch (image | job | op)";
+       oracle --batch (image | job | op)
+       oracle --job --time N [FILE]";
 
 /// The three kinds of input.
 #[derive(Clone, Copy, PartialEq)]
@@ -43,13 +45,14 @@ struct Task {
     kind: Kind,
     batch: bool,
     words: bool,
+    times: u32,
     file: Option<String>,
 }
 
 /// Reads the command line; None means that it is wrong.
 fn task() -> Option<Task> {
     let mut args = std::env::args().skip(1);
-    let (mut chosen, mut batch, mut words, mut file) = (None, false, false, None);
+    let (mut chosen, mut batch, mut words, mut times, mut file) = (None, false, false, 0, None);
     while let Some(arg) = args.next() {
         match arg.as_str() {
             "--batch" => {
@@ -57,11 +60,12 @@ fn task() -> Option<Task> {
                 batch = true;
             }
             "--words" => words = true,
+            "--time" => times = args.next()?.parse().ok()?,
             flag if flag.starts_with("--") => chosen = Some(kind(&flag[2..])?),
             _ => file = Some(arg),
         }
     }
-    Some(Task { kind: chosen?, batch, words, file })
+    Some(Task { kind: chosen?, batch, words, times, file })
 }
 
 /// Words as little-endian bytes.
@@ -132,6 +136,11 @@ fn single(task: &Task) -> std::io::Result<()> {
         None => {
             std::io::stdin().lock().read_to_end(&mut input)?;
         }
+    }
+    if task.times > 0 {
+        let time = ask(|| driver::job_time(&input, task.times)).map(|time| format!("{time:.1}\n"));
+        let text = time.unwrap_or_else(|fail| fail_text(&fail));
+        return std::io::stdout().lock().write_all(text.as_bytes());
     }
     let bytes = match task.words {
         true => answer(task.kind, &input),

@@ -61,6 +61,25 @@ pub fn run(job: &Job) -> Result<Run, Fail> {
     Ok(Run { outcomes, world: real })
 }
 
+/// Nanoseconds that `apply_signature` takes for the job's first instruction, run
+/// again and again in one world: the mean of `times` calls after a first one.
+pub fn time(job: &Job, times: u32) -> Result<f64, Fail> {
+    super::diagnostic::forms();
+    let mut world = world::build(job)?;
+    let Some(instr) = job.instructions.first() else {
+        return bad("no instruction");
+    };
+    let prepared = prepare(&world, instr)?;
+    apply(&mut world, &prepared)?;
+    let World { context, state, env, .. } = &mut world;
+    let start = std::time::Instant::now();
+    for _ in 0..times {
+        let effects = apply_signature(context, state, 0, &prepared.instruction, env);
+        std::hint::black_box(&effects);
+    }
+    Ok(start.elapsed().as_nanos() as f64 / f64::from(times))
+}
+
 /// Builds the Rust's instruction and effects from a job's record.
 fn prepare(world: &World, instr: &Instr) -> Result<Prepared, Fail> {
     let Some(lvalue) = world.places.get(instr.lvalue as usize).copied() else {
