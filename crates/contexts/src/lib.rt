@@ -71,7 +71,7 @@ const CACHED: Table = Table {
 };
 
 // Interned effects: the first effect under a key.
-// The last table, so that the host may lend a shorter one.
+// The last table.
 const INTERNED: Table = Table {
     base: 35269,
     count: 2048,

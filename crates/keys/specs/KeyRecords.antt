@@ -1,6 +1,6 @@
 -- Keys of effects as the code holds them, and as records of words. Assumes nothing: these are definitions.
 use Prim.Native.Nat.{ℕ, zero, suc, _+_, _*_}
-use mathlib.Core.Bool.{Bool, true, false, _&&_}
+use mathlib.Core.Bool.{Bool, true, false, not, _&&_}
 use mathlib.Core.List.{List, [], _∷_}
 use mathlib.Core.Option.{Option, none, some}
 use lib.Dec.{eqb}
@@ -32,6 +32,12 @@ keyWith k is = record {
   identity = k .identity;
   captures = ite (k .captured) is [];
 }
+
+-- whether a number that may be absent is there, and is another than x
+-- a key that names another place is another key
+unfoldable pub isOther : Option ℕ → ℕ → Bool
+isOther none x = false
+isOther (some y) x = not (eqb y x)
 
 -- whether two keys of the code are equal but for their captures
 -- `eqKey` without its last test

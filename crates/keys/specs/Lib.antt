@@ -4,4 +4,5 @@ pub mod EffectKeyLaws
 pub mod SameKeyLaws
 pub mod NumberLaws
 pub mod KeyRecordLaws
+pub mod OtherPlaces
 pub mod KeyFrames

@@ -9,7 +9,7 @@ ghost use Rattle.slices.specs.Test.{ite};
 ghost use Rattle.words.specs.Words as Words;
 ghost use Rattle.transfer.specs.Pure.{isKey};
 ghost use Rattle.records.specs.Records.{effectWith, effectIn, capturesOf, oneRun};
-ghost use Rattle.keys.specs.KeyRecords.{optionOf, keyWith, sameHead, numbersIn, putNumbers, optionIn, putOption, keyHeadIn, keyIn, putHead, putKey};
+ghost use Rattle.keys.specs.KeyRecords.{isOther, optionOf, keyWith, sameHead, numbersIn, putNumbers, optionIn, putOption, keyHeadIn, keyIn, putHead, putKey};
 use effects::Place;
 use records::AliasingEffect;
 use records::effect_in;
@@ -224,11 +224,30 @@ fn taken(has: bool, n: u32) -> u32
     0
 }
 
+// Whether a number that may be absent is there, and is another than x.
+// A key that names another place than a record is not its key.
+pub fn is_other(o: Found, x: u32) -> bool
+    ensures { λ r. ⌜ r ≡ isOther (optionOf o) x ⌝ }
+{
+    match o {
+        Found::Nowhere => false,
+        Found::At(y) => y != x,
+    }
+}
+
 // Whether the effect of record i has a key; the key's captures stand beside it, the record's in the record.
-// This is the comparison of `intern_effect`.
+// This is the comparison of `intern_effect`. Most keys differ in a place, so two words are looked at before the whole record is read.
 pub fn effect_has_key(t: Table, xs: &[u32], i: usize, key: Key, captures: &[u32]) -> bool
     ensures { λ r. ⌜ r ≡ eqKey (keyWith key (identifiers (capturesOf (now (captures .entry))))) (effectKey (effectIn t (now (xs .entry)) i)) ⌝ }
 {
+    let into = key.into;
+    if is_other(into, field(t, xs, i, 6)) {
+        return false;
+    }
+    let from = key.from;
+    if is_other(from, field(t, xs, i, 1)) {
+        return false;
+    }
     let other = key_of(effect_in(t, xs, i));
     if !same_head(key, other) {
         return false;

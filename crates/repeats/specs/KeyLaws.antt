@@ -24,17 +24,10 @@ use Rattle.keys.specs.KeyRecords.{keyWith, sameHead, numbersIn, keyHeadIn, keyI
 use Rattle.keys.specs.SameKeyLaws.{keys-differ, keys-captures}
 use Rattle.contexts.specs.Layout as Layout
 use Rattle.contexts.specs.Lent.{effectsIn, keyAt}
+use Rattle.contexts.specs.SearchLaws.{effects-more}
 use Rattle.repeats.specs.Repeats.{internedTwice, keyHere, keyTwice}
 
 -- ---- the search of interned effects
-
--- the effects that are left, with one to look at
--- as a loop counts
-effects-more : (c : List ℕ) (k n : ℕ) → k < n → effectsIn Layout.interned c k (n - k) ≡ effectIn Layout.interned c k ∷ effectsIn Layout.interned c (k + 1) (n - (k + 1))
-unfolding effectsIn
-effects-more c k n h =
-    let m : n - k ≡ suc (n - (k + 1)) = omega arith in
-    ap (effectsIn Layout.interned c k) m ∙ ap (λ (z : ℕ). effectIn Layout.interned c k ∷ effectsIn Layout.interned c z (n - (k + 1))) (sym (add-one k))
 
 module _ (c : List ℕ) (key : EffectKey) (n k : ℕ) (inv : findEffect (effectsIn Layout.interned c 0 (n - 0)) key ≡ findEffect (effectsIn Layout.interned c k (n - k)) key) where
   -- the definition's search is what the loop has left to do
@@ -49,7 +42,7 @@ module _ (c : List ℕ) (key : EffectKey) (n k : ℕ) (inv : findEffect (effects
   pub before-found : (b : Bool) → k < n → b ≡ eqKey key (effectKey (effectIn Layout.interned c k)) → b ≡ true → true ≡ isSome (findEffect (effectsIn Layout.interned c 0 n) key)
   unfolding findEffect
   before-found b l h z =
-      sym (ap isSome (left ∙ ap (λ (es : List AliasingEffect). findEffect es key) (effects-more c k n l)
+      sym (ap isSome (left ∙ ap (λ (es : List AliasingEffect). findEffect es key) (effects-more Layout.interned c k n l)
       ∙ ap (λ (t : Bool). elim t as (λ x. Option AliasingEffect) [ true ↦ some (effectIn Layout.interned c k) | false ↦ findEffect (effectsIn Layout.interned c (k + 1) (n - (k + 1))) key ]) (sym h ∙ z)))
 
   -- the search ends without an effect

@@ -46,7 +46,7 @@ const DIAGNOSTICS: Table = Table {
 };
 
 // Interned effects: the first effect under a key.
-// The last table, so that the host may lend a shorter one.
+// The last table.
 const INTERNED: Table = Table {
     base: 35269,
     count: 2048,
