@@ -19,6 +19,7 @@ use keys::Found;
 use keys::Key;
 use keys::effect_has_key;
 use keys::head_in;
+use keys::is_other;
 use keys::key_of;
 use keys::same_head;
 use keys::same_numbers;
@@ -56,11 +57,19 @@ const INTERNED: Table = Table {
 // ---- interned effects
 
 // Whether interned effect k has a key; the key's captures stand beside it.
-// An effect of another code is passed over by its first word.
+// An effect of another code or with another place is passed over by three words: most are.
 fn is_under(context: &[u32], k: usize, key: Key, captures: &[u32]) -> bool
     ensures { λ r. ⌜ r ≡ eqKey (keyWith key (identifiers (capturesOf (now (captures .entry))))) (effectKey (effectIn Layout.interned (now (context .entry)) k)) ⌝ }
 {
     if key.code != code_in(INTERNED, context, k) {
+        return false;
+    }
+    let from = key.from;
+    if is_other(from, field(INTERNED, context, k, 1)) {
+        return false;
+    }
+    let into = key.into;
+    if is_other(into, field(INTERNED, context, k, 6)) {
         return false;
     }
     effect_has_key(INTERNED, context, k, key, captures)
