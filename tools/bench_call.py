@@ -98,10 +98,16 @@ def least(kind, power):
     return high
 
 
-# Kilobytes of stack of one call, without the tables that are lent.
-# What a call adds to a run without one.
+# Kilobytes of stack that one call adds to a run without one.
+# Functions without a loop of calls are partly in the caller's frame already, so that this is a little too low.
 def stack(kind):
     return least(kind, 0) - least(kind, 9)
+
+
+# Kilobytes of the tables that the deep walk is lent, which stand on the stack.
+# What is left of the whole is too high by what the program itself needs.
+def tables():
+    return (8 * (1024 + 32 + 1056) + 4 * (235973 + 98 + 109760 + 22786)) // 1024
 
 
 def main():
@@ -111,7 +117,7 @@ def main():
         theirs, ours = rust(words, times), port(kind, power)
         print("| %s | %.2f µs | %.1f µs | %.0f |" % (name, theirs, ours, ours / theirs))
     print("a call refused with 11 after a walk 4,096 entries deep: %.0f µs" % port(3, 2))
-    print("stack of a call: nearly empty tables %d KB, full tables %d KB, a walk 4,096 entries deep %d KB" % (stack(1), stack(2), stack(3)))
+    print("stack: a walk 4,096 entries deep adds %d KB to a run without a call; the whole program with it needs %d KB, of which %d KB are lent tables" % (stack(3), least(3, 0), tables()))
 
 
 main()
