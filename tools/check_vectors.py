@@ -19,7 +19,7 @@ import parse  # noqa: E402
 from names import *  # noqa: E402
 from words import read_list, unpack, words_as_bytes  # noqa: E402
 
-LISTS = ["images.bin", "jobs.bin", "ops.bin", "damaged.bin"]
+LISTS = ["images.bin", "jobs.bin", "ops.bin", "damaged.bin", "large_jobs.bin"]
 
 
 # What must occur somewhere, by name of the check.
@@ -166,7 +166,7 @@ def main():
         stated = {}
         check.fail("COUNTS.txt: %s" % problem)
     total = ["%d %s" % (check_list(check, name, one, stated), name)
-             for name, one in zip(LISTS, [check_image, check_job, check_op, check_damaged])]
+             for name, one in zip(LISTS, [check_image, check_job, check_op, check_damaged, check_job])]
     for name, items in wanted().items():
         for item in items:
             if item not in check.seen[name]:

@@ -662,6 +662,46 @@ def first_access(rng):
     return job
 
 
+# 64 candidates in each of three instructions: mutations, flows, and a few that make something.
+# Case 16 over one context.
+def most_candidates(rng):
+    job = Job(options=rng.randrange(4))
+    ids = [any_ident(job, rng, refs=0.1) for _ in range(rng.randrange(4, 9))]
+    for i in ids:
+        shape(job, rng, i, rng.choice(SHAPES))
+    codes = list(MUTATIONS) + [CAPTURE, MAYBE_ALIAS, IMMUTABLE_CAPTURE, RENDER, FREEZE]
+    for _ in range(3):
+        job.instruction(any_place(job, rng, ids[0]), any_list(job, rng, ids, 64, codes))
+    return job
+
+
+# 32 early MutateFrozen of the own function, then 64 functions of 16 captures each: 32 + 64 * 17 effects.
+# "The output list has 1,120 records (32 + 64 x 17, so it suffices)."
+def most_effects(rng):
+    job = Job(next=1)
+    into, mutable, frozen = job.plain(64), job.plain(16), job.plain(16)
+    for i in mutable:
+        job.holds(i, MUTABLE)
+    for i in frozen:
+        job.holds(i, FROZEN, 1 << R_STATE)
+    inside = [(frozen[k % 16], 0, 0, (k, k + 1)) for k in range(32)]
+    own = job.function(job.run([(i, E_CAPTURE) for i in frozen]), job.run(inside), 1)
+    plain = job.function(job.run([(mutable[0], E_CAPTURE)]))
+    captures = job.run([(i, E_CAPTURE, 0, (i, i + 9)) for i in mutable])
+    candidates = [create_function(job.place(i), plain, captures) for i in into]
+    job.instruction(job.place(into[0]), candidates, own)
+    job.instruction(job.place(into[1]), candidates, own)
+    return job
+
+
+# The greatest instructions, as a list of its own (`large_jobs.bin`).
+# They came after the other lists were recorded.
+GREATEST = [
+    ("64 candidates", most_candidates), ("64 candidates, another", most_candidates),
+    ("64 candidates, a third", most_candidates), ("1,120 effects", most_effects),
+]
+
+
 # Weight, tag, profile: the random ones that `generate.py` mixes by seed.
 # Large ones are rare, for size.
 RANDOM = [

@@ -30,6 +30,7 @@ PLAN = {
     "op": dict(file="ops.bin", count=760, seed=303, cases=700, pool=2000, most=1500),
 }
 DAMAGED = dict(file="damaged.bin", count=1000, seed=404)
+LARGE = dict(file="large_jobs.bin", seed=505)
 
 
 # Answers of the oracle to all inputs of a kind, in their order.
@@ -216,12 +217,32 @@ def record_damaged():
     return write(DAMAGED["file"], made)
 
 
-# Records all four lists and their counts.
+# Records the greatest instructions, each by name; none may be dropped.
+# A list of its own, so that the other ones stay as they are.
+def record_large(oracle):
+    rng = random.Random(LARGE["seed"])
+    made = [build(random.Random(rng.getrandbits(64))).bytes() for _, build in generate.PROFILES["job"].GREATEST]
+    answers = ask(oracle, "job", made)
+    for data, answer in zip(made, answers):
+        if why_dropped("job", data, answer):
+            raise SystemExit("a large job was not answered: " + why_dropped("job", data, answer))
+    print("large jobs: %d recorded" % len(made))
+    return write(LARGE["file"], [(unpack(data), unpack(answer)) for data, answer in zip(made, answers)])
+
+
+# Records all five lists and their counts; `--large` the last one alone, and its line is put in.
 # The order of COUNTS.txt is that of the lists in docs/VECTORS.md.
 def main():
-    oracle = sys.argv[1] if len(sys.argv) > 1 else ORACLE
-    lines = [record(oracle, kind) for kind in ("image", "job", "op")] + [record_damaged()]
-    with open(os.path.join(VECTORS, "COUNTS.txt"), "w") as out:
+    given = [word for word in sys.argv[1:] if word != "--large"]
+    oracle = given[0] if given else ORACLE
+    counts = os.path.join(VECTORS, "COUNTS.txt")
+    if "--large" in sys.argv:
+        with open(counts) as old:
+            lines = [line for line in old if not line.startswith(LARGE["file"] + " ")]
+    else:
+        lines = [record(oracle, kind) for kind in ("image", "job", "op")] + [record_damaged()]
+    lines.append(record_large(oracle))
+    with open(counts, "w") as out:
         out.writelines(lines)
 
 
