@@ -1,0 +1,346 @@
+"""A library job as lent words: the tables of `contexts/specs/Layout.antt`, `cells` and `rows`, and effects as records of 98 words.
+
+Tables are dictionaries from an index to the word there; what is missing is zero. A job made of them is written as runs of words.
+"""
+
+from names import *
+
+LONG, OUTPUT, SCRATCH = 235973, 1120 * 98, 22786
+VALUES, ROW, EFFECT, KEY = 1024, 16, 98, 28
+# Words of their own, and tables as (first word, count of records, words of a record).
+OPTIONS, IDENTIFIER_COUNT, FUNCTION_COUNT, INTERNED_COUNT, DIAGNOSTIC_COUNT = 0, 1, 2, 12483, 12484
+IDENTIFIERS, FUNCTIONS, CONTEXTS = (3, 512, 4), (2051, 64, 163), (12485, 64, 80)
+LINKS, CACHED, DIAGNOSTICS, INTERNED = (17605, 512, 2), (18629, 512, 28), (32965, 256, 9), (35269, 2048, 98)
+# Words of an effect's record.
+FIRST, SECOND, KIND, REASON, MUTATION, FUNCTION, IDENTITY, INSTANCE, CAPTURES = 1, 6, 11, 12, 13, 14, 15, 16, 17
+# Codes of keys that hold a source.
+WITH_SOURCE = (CREATE_FROM, KEY_ASSIGN_FROZEN, KEY_ASSIGN_COPY)
+
+
+class NotLent(ValueError):
+    """A recorded job that cannot be lent; it is reported, nothing is guessed."""
+
+
+class Lent:
+    """One job: what is lent at first, its instructions with what they must answer, and what stands at the end."""
+
+    # An empty job.
+    # Filled by `of_job`, and by damages.
+    def __init__(self):
+        self.lengths, self.flag, self.session = [], 0, []
+        self.values, self.sets, self.context = {}, {}, {}
+        self.instructions, self.end = [], None
+
+    # How many identifiers the sets have rows for.
+    # Their length counts them (DECISIONS 13).
+    def identifiers(self):
+        return self.lengths[1] // ROW
+
+
+class Instruction:
+    """An instruction as it is lent, and what the call must answer."""
+
+    # Place and own function by value, candidates as words.
+    # The length is a number of its own, so that it can be wrong.
+    def __init__(self, lvalue, own, length, candidates):
+        self.lvalue, self.own, self.length, self.candidates = lvalue, own, length, candidates
+        self.refusal, self.count, self.entries, self.output = 0, 0, 0, {}
+
+
+class End:
+    """What stands after the last instruction; the context is compared below `limit`, what follows is looked up record by record."""
+
+    # All parts at once.
+    # They are those of a job's beginning, with the context cut.
+    def __init__(self, flag, session, values, sets, limit, context, records):
+        self.flag, self.session, self.values, self.sets = flag, session, values, sets
+        self.limit, self.context, self.records = limit, context, records
+
+
+# Puts words into a table from an index on.
+# Zeros are left out, so that equal tables are equal dictionaries.
+def put(table, at, words):
+    for k, x in enumerate(words):
+        table.pop(at + k, None)
+        if x:
+            table[at + k] = x
+
+
+# The first word of a record.
+# Tables are (first word, count, width).
+def at(table, record):
+    return table[0] + record * table[2]
+
+
+# Words of a record of a table.
+# For tests and damages.
+def record_of(context, table, record):
+    start = at(table, record)
+    return [context.get(start + k, 0) for k in range(table[2])]
+
+
+# ------------------------------------------------------------ parts of a job
+
+# The values of a state: 1 + kind in the low bits, the reasons above.
+# `wordOf` of Cells.antt.
+def values_of(values):
+    return {n: reasons * 8 + kind + 1 for n, kind, reasons in values}
+
+
+# The sets of a state as words: bit 0 says defined, bit v that v is in it.
+# Rows.antt; value 0 of a recorded pair is no value.
+def sets_of(sets):
+    out = {}
+    for i, numbers in sets:
+        row = 1
+        for n in numbers:
+            row |= 1 << n
+        put(out, i * ROW, [row >> (64 * w) & 0xFFFFFFFFFFFFFFFF for w in range(ROW)])
+    return out
+
+
+# Recorded pairs as sets.
+# An identifier with the pair 0 is defined and empty.
+def sets_of_pairs(pairs):
+    sets = {}
+    for i, n in pairs:
+        sets.setdefault(i, []).extend([n] if n else [])
+    return sorted(sets.items())
+
+
+# The record of an effect of an answer.
+# Its words stand in the same order.
+def effect_words(e):
+    out = [e["code"], *e["first"], *e["second"], e["kind"], e["reason"], e["mutation"], e["function"], e["identity"], e["instance"]]
+    out.append(len(e["captures"]))
+    for place in e["captures"]:
+        out += place
+    return out + [0] * (EFFECT - len(out))
+
+
+# The record of a candidate of an image, with its places by value.
+# `identity` gives that of a diagnostic's instance.
+def candidate_words(c, places, identity):
+    code, first, second, kind, reason, function, run, count = c
+    out = [0] * EFFECT
+    out[0] = code
+    if code not in (CREATE, CREATE_FUNCTION):
+        out[FIRST:FIRST + 5] = places[first]
+    if code in FLOWS or code in (CREATE, CREATE_FUNCTION):
+        out[SECOND:SECOND + 5] = places[second]
+    out[REASON], out[FUNCTION] = reason, function
+    if code == CREATE:
+        out[KIND] = kind
+    if code == MUTATE:
+        out[MUTATION] = kind
+    if code in DIAGNOSED:
+        out[IDENTITY], out[INSTANCE] = identity(kind), kind
+    if code == CREATE_FUNCTION:
+        out[CAPTURES] = count
+        for k, place in enumerate(places[run:run + count]):
+            out[CAPTURES + 1 + 5 * k:CAPTURES + 6 + 5 * k] = place
+    return out
+
+
+# A cached key: there, code, source, destination, kind, reason, function, no identity, captures.
+# KeyRecords.antt; a number that may be absent has two words.
+def key_words(code, source, into, kind, reason, function, captures):
+    from_ = [1, source] if code in WITH_SOURCE else [0, 0]
+    made = [1, function] if code == CREATE_FUNCTION else [0, 0]
+    out = [1, code, *from_, 1, into, kind, reason, *made, 0, len(captures), *captures]
+    return out + [0] * (KEY - len(out))
+
+
+# Identities of the diagnostics of a job, as they first appear.
+# Case 0 is told apart by its sentence, case 1 by its name (DECISIONS 6).
+def identities(diagnostics):
+    seen, out = {}, []
+    for d in diagnostics:
+        out.append(seen.setdefault((d[0], d[1], d[2] if d[1] == 0 else d[3]), len(seen)))
+    return out
+
+
+# Puts the tables that no instruction changes.
+# Options, identifiers, functions but for their context places.
+def put_fixed(context, job):
+    places = job["places"]
+    put(context, OPTIONS, [job["head"][1], len(job["identifiers"]), len(job["functions"])])
+    for i, words in enumerate(job["identifiers"]):
+        put(context, at(IDENTIFIERS, i), words)
+    for f, (flags, _, count, inside, mutated) in enumerate(job["functions"]):
+        put(context, at(FUNCTIONS, f), [flags, count, mutated])
+        for k, place in enumerate(places[inside:inside + mutated]):
+            put(context, at(FUNCTIONS, f) + 3 + 5 * k, place)
+
+
+# Puts the context places of the functions, with other Effects where some are given.
+# An answer says only those.
+def put_places(context, job, effects=None):
+    for f, (_, first, count, _, _) in enumerate(job["functions"]):
+        for k, place in enumerate(job["places"][first:first + count]):
+            words = list(place)
+            if effects is not None:
+                words[1] = effects[f][k]
+            put(context, at(CONTEXTS, f) + 5 * k, words)
+
+
+# Puts links and cached keys, of fresh numbers below next.
+# Others cannot be lent.
+def put_numbers(context, links, keys, next_number):
+    for n, function in links:
+        if not 0 < n < min(next_number, OWN):
+            raise NotLent("link of number %d, next is %d" % (n, next_number))
+        put(context, at(LINKS, n), [1, function])
+    for n, words in keys:
+        if not 0 < n < min(next_number, OWN):
+            raise NotLent("key of number %d, next is %d" % (n, next_number))
+        put(context, at(CACHED, n), words)
+
+
+# Puts the diagnostics with their identities.
+# Nine words each, and their count.
+def put_diagnostics(context, records):
+    put(context, DIAGNOSTIC_COUNT, [len(records)])
+    for k, words in enumerate(records):
+        put(context, at(DIAGNOSTICS, k), words)
+
+
+# The recorded keys of a job, as (number, words).
+# The captures' identifiers come from its places.
+def job_keys(job):
+    out = []
+    for code, source, into, kind, reason, function, run, count, n in job["cached"]:
+        captures = [p[0] for p in job["places"][run:run + count]]
+        out.append((n, key_words(code, source, into, kind, reason, function, captures)))
+    return out
+
+
+# The context that a job begins with.
+# All tables of Layout.antt.
+def first_context(job):
+    context, ids = {}, identities(job["diagnostics"])
+    put_fixed(context, job)
+    put_places(context, job)
+    put_numbers(context, job["links"], job_keys(job), job["head"][3])
+    put_diagnostics(context, [[ids[k], *d] for k, d in enumerate(job["diagnostics"])])
+    put(context, INTERNED_COUNT, [len(job["interned"])])
+    for k, c in enumerate(job["interned"]):
+        put(context, at(INTERNED, k), candidate_words(c, job["places"], ids.__getitem__))
+    return context
+
+
+# The context at a job's end, but for its interned effects, of which the count stands.
+# They are recorded in another order.
+def last_context(job, answer):
+    context = {}
+    put_fixed(context, job)
+    put_places(context, job, answer["functions"])
+    keys = [(n, key_words(*fixed, captures)) for (n, *fixed), captures in answer["cached"]]
+    put_numbers(context, answer["links"], keys, answer["next"])
+    put_diagnostics(context, answer["diagnostics"])
+    put(context, INTERNED_COUNT, [len(answer["interned"])])
+    return context
+
+
+# Records of 98 words one after the other, as a table.
+# Candidates and output lists.
+def records(effects):
+    out = {}
+    for k, words in enumerate(effects):
+        put(out, k * EFFECT, words)
+    return out
+
+
+# The instructions of a job with their answers.
+# A diagnostic is an instance of the table as it stands, which is a part of the last one.
+def instructions_of(job, answer):
+    identity = lambda k: answer["diagnostics"][k][0]
+    out = []
+    for (lvalue, own, candidates), (result, entries, effects) in zip(job["instructions"], answer["results"]):
+        words = records(candidate_words(c, job["places"], identity) for c in candidates)
+        i = Instruction(job["places"][lvalue], own, len(candidates) * EFFECT, words)
+        i.refusal, i.count, i.entries = result, len(effects), entries
+        i.output = records(effect_words(e) for e in effects)
+        out.append(i)
+    return out
+
+
+# The right lengths of values, sets, context, output list and both scratches, for n identifiers.
+# DECISIONS 13, Layout.antt and `saves`.
+def right_lengths(n):
+    return [VALUES, n * ROW, LONG, OUTPUT, VALUES + n * ROW, SCRATCH]
+
+
+# A recorded job with its answer as a lent one.
+# The whole conversion.
+def of_job(job, answer):
+    out, head = Lent(), job["head"]
+    if [d[0] for d in answer["diagnostics"]][:len(job["diagnostics"])] != identities(job["diagnostics"]):
+        raise NotLent("identities of diagnostics")
+    out.lengths = right_lengths(len(job["identifiers"]))
+    out.flag, out.session = head[2], head[3:8]
+    out.values, out.sets = values_of(job["values"]), sets_of(sets_of_pairs(job["pairs"]))
+    out.context = first_context(job)
+    out.instructions = instructions_of(job, answer)
+    session = [answer["next"], *answer["access"], answer["walked"]]
+    interned = [records([effect_words(e)]) for e in answer["interned"]]
+    if len({tuple(sorted(r.items())) for r in interned}) != len(interned):
+        raise NotLent("an interned effect stands twice")
+    out.end = End(answer["flag"], session, values_of(answer["values"]), sets_of(answer["sets"]), INTERNED[0], last_context(job, answer), interned)
+    return out
+
+
+# ------------------------------------------------------------ words of a file
+
+# A table as runs: count, then each run's first index, length and words.
+# A short gap costs less than another run.
+def runs(table, wide=False):
+    found, gap = [], 1 if wide else 2
+    for k in sorted(table):
+        if found and k - found[-1][1] <= gap + 1:
+            found[-1][1] = k
+        else:
+            found.append([k, k])
+    out = [len(found)]
+    for first, last in found:
+        out += [first, last - first + 1]
+        for k in range(first, last + 1):
+            x = table.get(k, 0)
+            out += [x & 0xFFFFFFFF, x >> 32] if wide else [x]
+    return out
+
+
+# The words of an instruction.
+# Lent first, then what it must answer.
+def instruction_words(i):
+    out = [*i.lvalue, i.own, i.length, *runs(i.candidates)]
+    return out + [i.refusal, i.count, i.entries, *runs(i.output)]
+
+
+# The words of an end.
+# As in the head, then the tables.
+def end_words(e):
+    out = [e.flag, *e.session, *runs(e.values, True), *runs(e.sets, True), e.limit, *runs(e.context), len(e.records)]
+    for record in e.records:
+        out += runs(record)
+    return out
+
+
+# The words of a job.
+# Lengths, flag, session, count of instructions, tables, instructions, end.
+def job_words(lent):
+    out = [*lent.lengths, lent.flag, *lent.session, len(lent.instructions)]
+    out += runs(lent.values, True) + runs(lent.sets, True) + runs(lent.context)
+    for i in lent.instructions:
+        out += instruction_words(i)
+    return out + end_words(lent.end)
+
+
+# A list of jobs as words.
+# Each with the count of its words in front, so that it is read piece by piece.
+def list_words(jobs):
+    out = [len(jobs)]
+    for lent in jobs:
+        words = job_words(lent)
+        out += [len(words)] + words
+    return out

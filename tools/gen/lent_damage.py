@@ -1,0 +1,531 @@
+"""Damages of lent jobs: one word or one length changed, and the class that the call must then earn.
+
+Each damage has its class by hand, from document 01 and docs/DECISIONS.md; the plain test of `lent_class.py` must agree.
+A damage gets a copy of a job with its first instruction alone, and says whether it applies.
+"""
+
+import random
+
+from lent import *
+from lent_class import call_class
+from names import *
+
+FULL = 0xFFFFFFFF
+CANDIDATES = (0, 64, 98)
+VALUES_LENGTH, SETS_LENGTH, CONTEXT_LENGTH, OUTPUT_LENGTH, SCRATCH64_LENGTH, SCRATCH32_LENGTH = range(6)
+
+
+# ------------------------------------------------------------ what a job has
+
+# How many functions a job has.
+# The bound of their numbers.
+def functions(lent):
+    return lent.context.get(FUNCTION_COUNT, 0)
+
+
+# How many interned effects a job has.
+# Those after them are unused.
+def interned(lent):
+    return lent.context.get(INTERNED_COUNT, 0)
+
+
+# How many diagnostics a job has.
+# The bound of their instances.
+def diagnostics(lent):
+    return lent.context.get(DIAGNOSTIC_COUNT, 0)
+
+
+# The session's next number.
+# Fresh numbers from there on are not handed out.
+def next_number(lent):
+    return lent.session[0]
+
+
+# How many candidates the instruction has.
+# By its length.
+def candidates(lent):
+    return lent.instructions[0].length // EFFECT
+
+
+# Instances of diagnostics that effects name.
+# A damage of another one is seen in the table alone.
+def named(lent):
+    records = [record_of(lent.context, INTERNED, k) for k in range(interned(lent))]
+    records += [record_of(lent.instructions[0].candidates, CANDIDATES, k) for k in range(candidates(lent))]
+    return {r[INSTANCE] for r in records if r[0] in DIAGNOSED}
+
+
+# Of each table the first record in use and the one after the last.
+IN_USE = {
+    IDENTIFIERS: lambda t: (0, t.identifiers()), FUNCTIONS: lambda t: (0, functions(t)), CONTEXTS: lambda t: (0, functions(t)),
+    LINKS: lambda t: (1, next_number(t)), CACHED: lambda t: (1, next_number(t)), DIAGNOSTICS: lambda t: (0, diagnostics(t)),
+    INTERNED: lambda t: (0, interned(t)), CANDIDATES: lambda t: (0, candidates(t)),
+}
+
+
+# The words that a table stands in.
+# Candidates have a list of their own.
+def words_of(lent, table):
+    return lent.instructions[0].candidates if table is CANDIDATES else lent.context
+
+
+# A record in use that passes a test, by chance, or none.
+# A test gets its words.
+def some_record(lent, rng, table, test):
+    first, end = IN_USE[table](lent)
+    fit = [k for k in range(first, end) if test(record_of(words_of(lent, table), table, k))]
+    return rng.choice(fit) if fit else None
+
+
+# ------------------------------------------------------------ damages
+
+# A length becomes what is given from the old one.
+# The arrays of the program have room for a few more words.
+def length(which, change):
+    def act(lent, rng):
+        lent.lengths[which] = change(lent.lengths[which])
+        return True
+    return act
+
+
+# The candidates' length becomes what is given from the old one.
+# A length below zero does not apply.
+def candidates_length(change):
+    def act(lent, rng):
+        lent.instructions[0].length = change(lent.instructions[0].length)
+        return lent.instructions[0].length >= 0
+    return act
+
+
+# The sets with their scratch get some rows more or less.
+# The lengths then fit each other.
+def rows(change):
+    def act(lent, rng):
+        n = lent.identifiers() + change(lent.identifiers())
+        lent.lengths[SETS_LENGTH], lent.lengths[SCRATCH64_LENGTH] = n * ROW, VALUES + n * ROW
+        return 0 <= n <= 513
+    return act
+
+
+# A word of the session becomes a number.
+# 0 next, 1 access.
+def session(k, number):
+    def act(lent, rng):
+        lent.session[k] = number(lent)
+        return True
+    return act
+
+
+# A word of the lvalue becomes a number.
+# Identifier, effect, reactive.
+def lvalue(k, number):
+    def act(lent, rng):
+        lent.instructions[0].lvalue[k] = number(lent)
+        return True
+    return act
+
+
+# The own function becomes a number.
+# 1 + a function, or 0.
+def own(number):
+    def act(lent, rng):
+        lent.instructions[0].own = number(lent)
+        return True
+    return act
+
+
+# A word of a record in use becomes a number, where the record passes a test.
+# The number may follow from the job; none does not apply.
+def field(table, w, number, test=lambda r: True):
+    def act(lent, rng):
+        k = some_record(lent, rng, table, test)
+        if k is None:
+            return False
+        words = words_of(lent, table)
+        before = words.get(at(table, k) + w, 0)
+        new = number(lent) if callable(number) else number
+        put(words, at(table, k) + w, [new])
+        return new != before
+    return act
+
+
+# A word of the context becomes a number.
+# Options and counts.
+def word(k, number):
+    def act(lent, rng):
+        put(lent.context, k, [number(lent) if callable(number) else number])
+        return True
+    return act
+
+
+# A word after the last record of a table becomes 1.
+# Any of its unused words.
+def after(table):
+    def act(lent, rng):
+        start, end = at(table, IN_USE[table](lent)[1]), at(table, table[1])
+        if start >= end:
+            return False
+        put(lent.context, rng.randrange(start, end), [1])
+        return True
+    return act
+
+
+# A value number gets a word.
+# Number and word follow from the job.
+def value(number, new):
+    def act(lent, rng):
+        v = number(lent)
+        if not 0 <= v < VALUES or v in lent.values:
+            return False
+        put(lent.values, v, [new])
+        return True
+    return act
+
+
+# An entry of a value gets another word.
+# By its old one.
+def entry(change):
+    def act(lent, rng):
+        if not lent.values:
+            return False
+        v = rng.choice(sorted(lent.values))
+        put(lent.values, v, [change(lent.values[v])])
+        return True
+    return act
+
+
+# A row that is defined, or one that is not, gets a bit.
+# The bit follows from the job.
+def member(defined, number):
+    def act(lent, rng):
+        fit = [i for i in range(lent.identifiers()) if (lent.sets.get(i * ROW, 0) & 1) == defined]
+        v = number(lent)
+        if not fit or not 0 < v < VALUES:
+            return False
+        i = rng.choice(fit) * ROW + v // 64
+        put(lent.sets, i, [lent.sets.get(i, 0) | 1 << v % 64])
+        return True
+    return act
+
+
+# A record of a table is repeated after its last one, and counted.
+# Interned effects and diagnostics.
+def repeated(table, count):
+    def act(lent, rng):
+        n = IN_USE[table](lent)[1]
+        if not 0 < n < table[1]:
+            return False
+        put(lent.context, at(table, n), record_of(lent.context, table, rng.randrange(n)))
+        put(lent.context, count, [n + 1])
+        return True
+    return act
+
+
+# The count of a table falls by one.
+# The words of its last record then have no use.
+def uncounted(table, count):
+    def act(lent, rng):
+        n = IN_USE[table](lent)[1]
+        if n == 0 or not any(record_of(lent.context, table, n - 1)):
+            return False
+        put(lent.context, count, [n - 1])
+        return True
+    return act
+
+
+# A number without a key gets the key of another.
+# Both are handed out.
+def repeated_key(lent, rng):
+    number, other = (some_record(lent, rng, CACHED, test) for test in (lambda r: r[0], lambda r: not r[0]))
+    if number is None or other is None:
+        return False
+    put(lent.context, at(CACHED, other), record_of(lent.context, CACHED, number))
+    return True
+
+
+# A diagnostic that no effect names gets another identity.
+# One that is in range.
+def misnumbered(lent, rng):
+    fit = sorted(set(range(diagnostics(lent))) - named(lent))
+    if not fit:
+        return False
+    k = at(DIAGNOSTICS, rng.choice(fit))
+    put(lent.context, k, [lent.context.get(k, 0) + 1])
+    return True
+
+
+# A candidate becomes an Apply, and its other words anything.
+# "Of an Apply no word but the code is tested."
+def applied(which, garbage):
+    def act(lent, rng):
+        n = candidates(lent)
+        if n == 0:
+            return False
+        k = at(CANDIDATES, which(n, rng))
+        put(lent.instructions[0].candidates, k, [APPLY] + [FULL] * (EFFECT - 1) if garbage else [APPLY])
+        return True
+    return act
+
+
+# Every candidate becomes an Apply.
+# Nothing else of the list is then tested.
+def all_applied(lent, rng):
+    for k in range(candidates(lent)):
+        put(lent.instructions[0].candidates, at(CANDIDATES, k), [APPLY])
+    return candidates(lent) > 1
+
+
+# ------------------------------------------------------------ the table
+
+# A test of effects by their code.
+# Which words are used follows from it.
+def code(*codes):
+    return lambda r: r[0] in codes
+
+
+# A test of keys by their code.
+# Of numbers that have one.
+def key(*codes):
+    return lambda r: r[0] == 1 and r[1] in codes
+
+
+N = lambda t: t.identifiers()
+HAS_FIRST = code(*[c for c in range(18) if c not in (CREATE, APPLY, CREATE_FUNCTION)])
+HAS_SECOND = code(*FLOWS, CREATE, CREATE_FUNCTION)
+CAPTURED = lambda r: r[0] == CREATE_FUNCTION and r[CAPTURES] > 0
+NO_MORE = lambda r: r[0] == CREATE_FUNCTION and r[CAPTURES] < MAX_CAPTURES
+
+
+# Damages of the words of an effect, in the table of interned ones or among candidates.
+# The same words stand in both.
+def of_effects(name, table):
+    return [(name + ": " + label, expected, field(table, w, number, test)) for label, expected, w, number, test in [
+        ("17 captures", 2, CAPTURES, 17, code(CREATE_FUNCTION)),
+        ("code 18", 3, 0, 18, lambda r: True),
+        ("code FFFFFFFF", 3, 0, FULL, lambda r: True),
+        ("source not in the list", 3, FIRST, N, HAS_FIRST),
+        ("source's effect 8", 3, FIRST + 1, 8, HAS_FIRST),
+        ("source reactive 2", 3, FIRST + 2, 2, HAS_FIRST),
+        ("destination not in the list", 3, SECOND, N, HAS_SECOND),
+        ("destination's effect 8", 3, SECOND + 1, 8, HAS_SECOND),
+        ("kind 6", 3, KIND, 6, code(CREATE)),
+        ("reason 12 of a Create", 3, REASON, 12, code(CREATE)),
+        ("reason 12 of a Freeze", 3, REASON, 12, code(FREEZE)),
+        ("mutation reason 2", 3, MUTATION, 2, code(MUTATE)),
+        ("function not in the list", 3, FUNCTION, functions, code(CREATE_FUNCTION)),
+        ("instance not in the table", 3, INSTANCE, diagnostics, code(*DIAGNOSED)),
+        ("instance FFFFFFFF", 3, INSTANCE, FULL, code(*DIAGNOSED)),
+        ("identity of no diagnostic", 3, IDENTITY, 255, code(*DIAGNOSED)),
+        ("capture not in the list", 3, CAPTURES + 1, N, CAPTURED),
+        ("source of a Create", 4, FIRST + 3, 7, code(CREATE, CREATE_FUNCTION)),
+        ("destination of a one-place effect", 4, SECOND, 1, code(FREEZE, *MUTATIONS, RENDER, *DIAGNOSED)),
+        ("kind where none is", 4, KIND, FULL, lambda r: r[0] not in (CREATE, APPLY)),
+        ("reason where none is", 4, REASON, 1, lambda r: r[0] not in (FREEZE, CREATE)),
+        ("function where none is", 4, FUNCTION, FULL, lambda r: r[0] != CREATE_FUNCTION),
+        ("instance where none is", 4, INSTANCE, 1, lambda r: r[0] not in DIAGNOSED),
+        ("17 captures where none are", 4, CAPTURES, 17, lambda r: r[0] != CREATE_FUNCTION),
+        ("a word after the last capture", 4, EFFECT - 1, 1, NO_MORE),
+    ]]
+
+
+DAMAGES = [
+    ("values one short", 1, length(VALUES_LENGTH, lambda n: n - 1)),
+    ("values one long", 1, length(VALUES_LENGTH, lambda n: n + 1)),
+    ("no values", 1, length(VALUES_LENGTH, lambda n: 0)),
+    ("sets one short", 1, lambda t, r: N(t) > 0 and length(SETS_LENGTH, lambda n: n - 1)(t, r)),
+    ("sets one long", 1, length(SETS_LENGTH, lambda n: n + 1)),
+    ("sets one row long", 1, length(SETS_LENGTH, lambda n: n + ROW)),
+    ("513 rows", 1, rows(lambda n: 513 - n)),
+    ("context one short", 1, length(CONTEXT_LENGTH, lambda n: n - 1)),
+    ("context one long", 1, length(CONTEXT_LENGTH, lambda n: n + 1)),
+    ("context without its last effect", 1, length(CONTEXT_LENGTH, lambda n: n - EFFECT)),
+    ("no context", 1, length(CONTEXT_LENGTH, lambda n: 0)),
+    ("output one short", 1, length(OUTPUT_LENGTH, lambda n: n - 1)),
+    ("output one long", 1, length(OUTPUT_LENGTH, lambda n: n + 1)),
+    ("output one effect short", 1, length(OUTPUT_LENGTH, lambda n: n - EFFECT)),
+    ("no output", 1, length(OUTPUT_LENGTH, lambda n: 0)),
+    ("scratch of the state one short", 1, length(SCRATCH64_LENGTH, lambda n: n - 1)),
+    ("scratch of the state one long", 1, length(SCRATCH64_LENGTH, lambda n: n + 1)),
+    ("no scratch of the state", 1, length(SCRATCH64_LENGTH, lambda n: 0)),
+    ("scratch of the context one short", 1, length(SCRATCH32_LENGTH, lambda n: n - 1)),
+    ("scratch of the context one long", 1, length(SCRATCH32_LENGTH, lambda n: n + 1)),
+    ("no scratch of the context", 1, length(SCRATCH32_LENGTH, lambda n: 0)),
+    ("candidates one short", 1, candidates_length(lambda n: n - 1)),
+    ("candidates one long", 1, candidates_length(lambda n: n + 1)),
+    ("a row more than identifiers", 2, lambda t, r: N(t) < 512 and rows(lambda n: 1)(t, r)),
+    ("a row less than identifiers", 2, rows(lambda n: -1)),
+    ("no rows", 2, lambda t, r: N(t) > 0 and rows(lambda n: -n)(t, r)),
+    ("an identifier more than rows", 2, word(IDENTIFIER_COUNT, lambda t: N(t) + 1)),
+    ("identifiers FFFFFFFF", 2, word(IDENTIFIER_COUNT, FULL)),
+    ("65 functions", 2, word(FUNCTION_COUNT, 65)),
+    ("functions FFFFFFFF", 2, word(FUNCTION_COUNT, FULL)),
+    ("2,049 interned effects", 2, word(INTERNED_COUNT, 2049)),
+    ("interned effects FFFFFFFF", 2, word(INTERNED_COUNT, FULL)),
+    ("257 diagnostics", 2, word(DIAGNOSTIC_COUNT, 257)),
+    ("65 candidates", 2, candidates_length(lambda n: 65 * EFFECT)),
+    ("17 context places", 2, field(FUNCTIONS, 1, 17)),
+    ("33 places mutated inside", 2, field(FUNCTIONS, 2, 33)),
+    ("33 places mutated inside, effects not known", 2, field(FUNCTIONS, 2, 33, lambda r: not r[0] & KNOWN)),
+    ("17 captures of a key", 2, field(CACHED, 11, 17, key(CREATE_FUNCTION))),
+    ("next 0", 3, session(0, lambda t: 0)),
+    ("next 513", 3, session(0, lambda t: 513)),
+    ("next 65,536", 3, session(0, lambda t: 65536)),
+    ("access not in the list", 3, session(1, lambda t: N(t) + 1)),
+    ("an entry at 0", 3, value(lambda t: 0, 1)),
+    ("an entry past the last identifier's", 3, value(lambda t: OWN + N(t), 1)),
+    ("kind 6 of an entry", 3, entry(lambda x: x | 7)),
+    ("reason bit 12 of an entry", 3, entry(lambda x: x | 1 << 15)),
+    ("the highest bit of an entry", 3, entry(lambda x: x | 1 << 63)),
+    ("a member past the last identifier's", 3, member(1, lambda t: OWN + N(t))),
+    ("options 4", 3, word(OPTIONS, 4)),
+    ("flags 4 of an identifier", 3, field(IDENTIFIERS, 0, 4)),
+    ("name 513 of an identifier", 3, field(IDENTIFIERS, 1, 513)),
+    ("flags 4 of a function", 3, field(FUNCTIONS, 0, 4)),
+    ("tracked, effects not known", 3, field(FUNCTIONS, 0, 2)),
+    ("mutated inside, effects not known", 3, field(FUNCTIONS, 0, 0, lambda r: r[2] > 0)),
+    ("mutated inside not in the list", 3, field(FUNCTIONS, 3, N, lambda r: r[2] > 0)),
+    ("a context place not in the list", 3, field(CONTEXTS, 0, N, lambda r: any(r))),
+    ("a context place's effect 8", 3, field(CONTEXTS, 1, 8, lambda r: any(r))),
+    ("a link's flag 2", 3, field(LINKS, 0, 2)),
+    ("a link's function not in the list", 3, field(LINKS, 1, functions, lambda r: r[0] == 1)),
+    ("a key's flag 2", 3, field(CACHED, 0, 2, lambda r: r[0] == 1)),
+    ("a key of a Freeze", 3, field(CACHED, 1, FREEZE, lambda r: r[0] == 1)),
+    ("a key's code 20", 3, field(CACHED, 1, 20, lambda r: r[0] == 1)),
+    ("a key without its source", 3, field(CACHED, 2, 0, lambda r: r[2] == 1)),
+    ("a key's source flag 2", 3, field(CACHED, 2, 2, lambda r: r[2] == 1)),
+    ("a key's source not in the list", 3, field(CACHED, 3, N, lambda r: r[2] == 1)),
+    ("a key without its destination", 3, field(CACHED, 4, 0, lambda r: r[4] == 1)),
+    ("a key's destination not in the list", 3, field(CACHED, 5, N, lambda r: r[4] == 1)),
+    ("kind 6 of a key", 3, field(CACHED, 6, 6, key(CREATE))),
+    ("reason 12 of a key", 3, field(CACHED, 7, 12, key(CREATE))),
+    ("a key without its function", 3, field(CACHED, 8, 0, key(CREATE_FUNCTION))),
+    ("a key's function not in the list", 3, field(CACHED, 9, functions, key(CREATE_FUNCTION))),
+    ("a key's capture not in the list", 3, field(CACHED, 12, N, lambda r: r[11] > 0)),
+    ("a diagnostic's identity 256", 3, field(DIAGNOSTICS, 0, 256)),
+    ("a diagnostic's identifier not in the list", 3, field(DIAGNOSTICS, 1, N)),
+    ("message case 2", 3, field(DIAGNOSTICS, 2, 2)),
+    ("sentence 11", 3, field(DIAGNOSTICS, 3, 11, lambda r: r[2] == 0)),
+    ("name 513 of a diagnostic", 3, field(DIAGNOSTICS, 4, 513)),
+    ("an interned Apply", 3, field(INTERNED, 0, APPLY)),
+    ("lvalue not in the list", 3, lvalue(0, N)),
+    ("lvalue's effect 8", 3, lvalue(1, lambda t: 8)),
+    ("lvalue reactive 2", 3, lvalue(2, lambda t: 2)),
+    ("own function not in the list", 3, own(lambda t: functions(t) + 1)),
+    ("own function FFFFFFFF", 3, own(lambda t: FULL)),
+    ("reasons without an entry", 4, value(lambda t: 1, 8)),
+    ("reasons at number 0", 4, value(lambda t: 0, 16)),
+    ("an entry at next", 4, value(lambda t: next_number(t) if next_number(t) < OWN else -1, 1)),
+    ("a member at next", 4, member(1, lambda t: next_number(t) if next_number(t) < OWN else 0)),
+    ("a member of a row that is not defined", 4, member(0, lambda t: 5)),
+    ("the last word of a row that is not defined", 4, member(0, lambda t: 1023)),
+    ("access of one not hoisted", 4, field(IDENTIFIERS, 2, 1, lambda r: not r[0] & HOISTED)),
+    ("access end of one not hoisted", 4, field(IDENTIFIERS, 3, FULL, lambda r: not r[0] & HOISTED)),
+    ("after the last identifier", 4, after(IDENTIFIERS)),
+    ("after the last function", 4, after(FUNCTIONS)),
+    ("after the last function's context", 4, after(CONTEXTS)),
+    ("after the last link", 4, after(LINKS)),
+    ("after the last key", 4, after(CACHED)),
+    ("after the last diagnostic", 4, after(DIAGNOSTICS)),
+    ("after the last interned effect", 4, after(INTERNED)),
+    ("an interned effect not counted", 4, uncounted(INTERNED, INTERNED_COUNT)),
+    ("a diagnostic not counted", 4, lambda t, r: diagnostics(t) - 1 not in named(t) and uncounted(DIAGNOSTICS, DIAGNOSTIC_COUNT)(t, r)),
+    ("a diagnostic counted that is none", 4, lambda t, r: N(t) > 0 and word(DIAGNOSTIC_COUNT, diagnostics(t) + 1)(t, r)),
+    ("the last word of the context", 4, word(LONG - 1, 1)),
+    ("a word after the places mutated inside", 4, field(FUNCTIONS, 162, 1, lambda r: r[2] < MAX_MUTATED)),
+    ("a word after the context places", 4, field(CONTEXTS, 79, 1, lambda r: not any(r[75:]))),
+    ("a function of no link", 4, field(LINKS, 1, 1, lambda r: r[0] == 0)),
+    ("a link of number 0", 4, word(LINKS[0], 1)),
+    ("a key of number 0", 4, word(CACHED[0], 1)),
+    ("a code of no key", 4, field(CACHED, 1, CREATE, lambda r: r[0] == 0)),
+    ("kind of a key that has none", 4, field(CACHED, 6, 1, key(CREATE_FROM, CREATE_FUNCTION, KEY_ASSIGN_FROZEN, KEY_ASSIGN_COPY))),
+    ("identity of a key", 4, field(CACHED, 10, 1, lambda r: r[0] == 1)),
+    ("a key's last capture, not counted", 4, field(CACHED, 27, 1, lambda r: r[0] == 1 and r[11] < 16)),
+    ("a key twice", 4, repeated_key),
+    ("a diagnostic twice", 4, repeated(DIAGNOSTICS, DIAGNOSTIC_COUNT)),
+    ("an identity out of turn", 4, misnumbered),
+    ("sentence of case 1", 4, field(DIAGNOSTICS, 3, 1, lambda r: r[2] == 1)),
+    ("access label of case 0", 4, field(DIAGNOSTICS, 5, 1, lambda r: r[2] == 0)),
+    ("an interned effect twice", 4, repeated(INTERNED, INTERNED_COUNT)),
+    ("the first candidate an Apply", 5, applied(lambda n, rng: 0, False)),
+    ("the last candidate an Apply", 5, applied(lambda n, rng: n - 1, False)),
+    ("a candidate an Apply with anything in it", 5, applied(lambda n, rng: rng.randrange(n), True)),
+    ("the last candidate an Apply with anything in it", 5, applied(lambda n, rng: n - 1, True)),
+    ("every candidate an Apply", 5, all_applied),
+] + of_effects("interned", INTERNED) + of_effects("candidate", CANDIDATES)
+
+# Two damages in places that do not meet: the lower class wins.
+# Named by their names above.
+PAIRS = [
+    ("values one short", "65 functions"), ("candidates one long", "next 0"), ("output one short", "the last word of the context"),
+    ("scratch of the state one long", "the first candidate an Apply"), ("65 functions", "next 0"),
+    ("2,049 interned effects", "the last word of the context"), ("257 diagnostics", "the first candidate an Apply"),
+    ("options 4", "the last word of the context"), ("next 513", "the last word of the context"), ("options 4", "the first candidate an Apply"),
+    ("own function not in the list", "a candidate an Apply with anything in it"), ("lvalue's effect 8", "reasons without an entry"),
+    ("the last word of the context", "the first candidate an Apply"), ("after the last diagnostic", "the last candidate an Apply"),
+    ("reasons at number 0", "a candidate an Apply with anything in it"),
+]
+
+
+# ------------------------------------------------------------ making the list
+
+# A copy of a job with its first instruction alone.
+# What it must answer is put in afterwards.
+def base(lent):
+    out = Lent()
+    first = lent.instructions[0]
+    out.lengths, out.flag, out.session = list(lent.lengths), lent.flag, list(lent.session)
+    out.values, out.sets, out.context = dict(lent.values), dict(lent.sets), dict(lent.context)
+    out.instructions = [Instruction(list(first.lvalue), first.own, first.length, dict(first.candidates))]
+    return out
+
+
+# The words of a table that stand before a length.
+# A shorter list is lent without the rest.
+def cut(table, n):
+    return {k: x for k, x in table.items() if k < n}
+
+
+# A damaged job whole: nothing stands past the lengths, and at the end all is as before.
+# "After a refusal state, context and session are as before; output list and scratch are zero."
+def refused(lent, number):
+    lent.values, lent.sets, lent.context = (cut(t, lent.lengths[k]) for k, t in enumerate((lent.values, lent.sets, lent.context)))
+    instruction = lent.instructions[0]
+    instruction.candidates = cut(instruction.candidates, instruction.length)
+    instruction.refusal = number
+    lent.end = End(lent.flag, list(lent.session), dict(lent.values), dict(lent.sets), LONG, dict(lent.context), [])
+    return lent
+
+
+# One damaged job, or none where a damage does not apply to it.
+# The stated class must be the one that the plain test finds.
+def damaged(lent, acts, expected, name, rng):
+    out = base(lent)
+    if not all(act(out, rng) for act in acts):
+        return None
+    found = call_class(out)
+    if found != expected:
+        raise ValueError("%s: stated %d, found %d" % (name, expected, found))
+    return refused(out, expected)
+
+
+# Every damage on some jobs by chance, in the order of the table.
+# A damage that applies to no job is an error.
+def damaged_jobs(jobs, seed=505, times=3, most=900):
+    rng, out = random.Random(seed), []
+    small = [j for j in jobs if j.instructions and len(job_words(j)) <= most]
+    stated = {name: (expected, act) for name, expected, act in DAMAGES}
+    wanted = [(name, expected, [act]) for name, expected, act in DAMAGES]
+    for a, b in PAIRS:
+        wanted.append((a + " + " + b, min(stated[a][0], stated[b][0]), [stated[a][1], stated[b][1]]))
+    for name, expected, acts in wanted:
+        made = []
+        for j in rng.sample(small, len(small)):
+            job = damaged(j, acts, expected, name, rng)
+            if job is not None:
+                made.append((name, job))
+            if len(made) == times:
+                break
+        if not made:
+            raise ValueError("%s: applies to no job" % name)
+        out += made
+    return out
