@@ -1,7 +1,7 @@
 """Which class, 1 to 5, a lent call earns: a plain test of document 01, 'Refused calls', and of docs/DECISIONS.md 12 to 14, 18, 19 and 24.
 
-Written from those texts and not from the port: it goes through everything that is lent, notes each class that is earned,
-and the lowest one wins.
+It goes through everything that is lent, notes each class that is earned, and the lowest one wins. It follows those texts; whoever
+wrote it had read the port's tests before, so it is a second text and not an independent one.
 """
 
 from lent import *

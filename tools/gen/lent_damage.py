@@ -328,6 +328,8 @@ def of_effects(name, table):
     ]]
 
 
+# Name, class and damage of every way to spoil a call.
+# A class is what document 01 and DECISIONS 14 and 24 give it.
 DAMAGES = [
     ("values one short", 1, length(VALUES_LENGTH, lambda n: n - 1)),
     ("values one long", 1, length(VALUES_LENGTH, lambda n: n + 1)),
@@ -367,9 +369,11 @@ DAMAGES = [
     ("33 places mutated inside", 2, field(FUNCTIONS, 2, 33)),
     ("33 places mutated inside, effects not known", 2, field(FUNCTIONS, 2, 33, lambda r: not r[0] & KNOWN)),
     ("17 captures of a key", 2, field(CACHED, 11, 17, key(CREATE_FUNCTION))),
+    ("17 captures of a key that has none", 4, field(CACHED, 11, 17, lambda r: r[0] == 1 and r[1] != CREATE_FUNCTION)),
     ("next 0", 3, session(0, lambda t: 0)),
     ("next 513", 3, session(0, lambda t: 513)),
     ("next 65,536", 3, session(0, lambda t: 65536)),
+    ("next FFFFFFFF", 3, session(0, lambda t: FULL)),
     ("access not in the list", 3, session(1, lambda t: N(t) + 1)),
     ("an entry at 0", 3, value(lambda t: 0, 1)),
     ("an entry past the last identifier's", 3, value(lambda t: OWN + N(t), 1)),

@@ -1,7 +1,7 @@
 -- Which class of refusal a lent context earns (document 01, 'Refused calls': "Order 1 to 5 over the whole input").
 -- Every test gives the class that it earns, or 0; the whole earns the lowest class of any. Assumes nothing: these are definitions.
 use Prim.Native.Nat.{ℕ, _-_, _*_}
-use mathlib.Core.Bool.{Bool, not, _||_}
+use mathlib.Core.Bool.{Bool, not, _&&_, _||_}
 use mathlib.Core.List.{List}
 use mathlib.Core.Option.{some}
 use lib.Dec.{eqb, ltb}
@@ -18,12 +18,17 @@ use Rattle.repeats.specs.Repeats.{internedTwice, keyTwice, diagnosticTwice}
 
 -- ---- records that may repeat one before them
 
+-- whether a key has too many captures; only that of a CreateFunction has any
+-- in another key the count is a word without use, and so earns 4 ("an unused word not zero")
+unfoldable pub tooManyCaptures : List ℕ → ℕ → Bool
+tooManyCaptures c v = eqb (field Layout.cached c v 1) 13 && ltb 16 (field Layout.cached c v 11)
+
 -- a cached number: no key at all, or one that is right and of no lower number
 -- value number 0 has none
 unfoldable pub cachedClass : ℕ → ℕ → List ℕ → ℕ → ℕ
 cachedClass identifiers functions c v =
     ite (eqb v 0 || eqb (field Layout.cached c v 0) 0) (noKeyClass c v)
-    (lower (earns 2 (ltb 16 (field Layout.cached c v 11))) (lower (keyClass identifiers functions c v) (earns 4 (keyTwice c v))))
+    (lower (earns 2 (tooManyCaptures c v)) (lower (keyClass identifiers functions c v) (earns 4 (keyTwice c v))))
 
 -- a diagnostic: right, with the identity that it has to have, and no equal record before it
 -- wrong order, or two entries of one key
@@ -48,15 +53,20 @@ unfoldable pub functionsClass : ℕ → ℕ → List ℕ → ℕ
 functionsClass identifiers functions c =
     lower (lowestBelow functions (functionClass identifiers c)) (lower (strayAfter Layout.functions c functions) (strayAfter Layout.contexts c functions))
 
+-- how many fresh numbers there are below next
+-- "1..511 are fresh", so no more than the tables have
+abbrev pub handedOut : ℕ → ℕ
+handedOut next = ite (ltb 512 next) 512 next
+
 -- the links of numbers below next
 -- "a fresh number not below next": a link of another is a word without use
 unfoldable pub linksClass : ℕ → List ℕ → ℕ → ℕ
-linksClass functions c next = lower (lowestBelow next (linkClass functions c)) (strayAfter Layout.links c next)
+linksClass functions c next = lower (lowestBelow (handedOut next) (linkClass functions c)) (strayAfter Layout.links c (handedOut next))
 
 -- the keys of numbers below next
 -- a key of another is a word without use
 unfoldable pub keysClass : ℕ → ℕ → List ℕ → ℕ → ℕ
-keysClass identifiers functions c next = lower (lowestBelow next (cachedClass identifiers functions c)) (strayAfter Layout.cached c next)
+keysClass identifiers functions c next = lower (lowestBelow (handedOut next) (cachedClass identifiers functions c)) (strayAfter Layout.cached c (handedOut next))
 
 -- the diagnostics
 -- as many as the context counts

@@ -13,6 +13,7 @@ use Rattle.effects.specs.Places.{noSpan, eqSpan}
 use Rattle.words.specs.Words.{field, index}
 use Rattle.contexts.specs.Layout as Layout
 use Rattle.contexts.specs.Lent.{internedCount, instanceCount}
+use Rattle.slices.specs.Test.{ite-lt, ite-ge}
 use Rattle.accepts.specs.TestLaws.{or-first, or-second, or-neither, ite-yes, ite-no}
 use Rattle.merge_calls.specs.MergeCalls.{lower}
 use Rattle.merge_calls.specs.MergeCallLaws.{lower-none}
@@ -23,7 +24,7 @@ use Rattle.effect_classes.specs.EffectClasses.{effectClass}
 use Rattle.effect_classes.specs.InstructionLaws.{effect-class}
 use Rattle.table_classes.specs.TableClasses.{identifierClass, functionClass, linkClass, keyLimit, keyLacks, keyClass, noKeyClass, diagnosticLimit, labelClass, messageClass}
 use Rattle.repeats.specs.Repeats.{internedTwice, keyTwice, diagnosticTwice}
-use Rattle.context_accepts.specs.Accepting.{cachedClass, diagnosticClass, internedClass, identifiersClass, functionsClass, linksClass, keysClass, diagnosticsClass, effectsClass, countsWrong, tablesClass, contextClass}
+use Rattle.context_accepts.specs.Accepting.{tooManyCaptures, cachedClass, handedOut, diagnosticClass, internedClass, identifiersClass, functionsClass, linksClass, keysClass, diagnosticsClass, effectsClass, countsWrong, tablesClass, contextClass}
 
 -- ---- a class, and 4 where a record repeats another
 
@@ -90,6 +91,18 @@ module _ (identifiers functions : ℕ) (c : List ℕ) (v : ℕ) where
       (record-class Layout.cached c (keyLimit identifiers functions (field Layout.cached c v 1) (field Layout.cached c v 11)) v)
       (earns-class 3 (keyLacks (field Layout.cached c v 1) (field Layout.cached c v 2) (field Layout.cached c v 4) (field Layout.cached c v 8)) (omega arith) (omega arith))
 
+  -- the key of another effect than CreateFunction has no captures to count
+  -- the first way through the code
+  pub many-other : (x : ℕ) → x ≡ field Layout.cached c v 1 → (x ≡ 13 → ⊥) → false ≡ tooManyCaptures c v
+  unfolding tooManyCaptures
+  many-other x h n = sym (ap (λ (b : Bool). b && ltb 16 (field Layout.cached c v 11)) (ne-eqb (field Layout.cached c v 1) 13 (λ e. n (h ∙ e))))
+
+  -- that of a CreateFunction is counted
+  -- the second way
+  pub many-counted : (x y : ℕ) → x ≡ field Layout.cached c v 1 → x ≡ 13 → y ≡ field Layout.cached c v 11 → ltb 16 y ≡ tooManyCaptures c v
+  unfolding tooManyCaptures
+  many-counted x y h e g = ap (ltb 16) g ∙ sym (ap (λ (b : Bool). b && ltb 16 (field Layout.cached c v 11)) (eq-eqb (field Layout.cached c v 1) 13 (sym h ∙ e)))
+
   -- a key, beside its count
   -- its words, and whether a lower number has it
   abbrev keyed : ℕ
@@ -99,7 +112,7 @@ module _ (identifiers functions : ℕ) (c : List ℕ) (v : ℕ) where
   -- what the first two ways have in common
   keyless : (r : ℕ) → (eqb v 0 || eqb (field Layout.cached c v 0) 0) ≡ true → r ≡ noKeyClass c v → r ≡ cachedClass identifiers functions c v
   unfolding cachedClass
-  keyless r t h = h ∙ sym (ite-yes (eqb v 0 || eqb (field Layout.cached c v 0) 0) (noKeyClass c v) (lower (earns 2 (ltb 16 (field Layout.cached c v 11))) keyed) t)
+  keyless r t h = h ∙ sym (ite-yes (eqb v 0 || eqb (field Layout.cached c v 0) 0) (noKeyClass c v) (lower (earns 2 (tooManyCaptures c v)) keyed) t)
 
   -- value number 0
   -- the first way through the code
@@ -111,28 +124,28 @@ module _ (identifiers functions : ℕ) (c : List ℕ) (v : ℕ) where
   pub cached-none : (r x : ℕ) → (v ≡ 0 → ⊥) → x ≡ field Layout.cached c v 0 → x ≡ 0 → r ≡ noKeyClass c v → r ≡ cachedClass identifiers functions c v
   cached-none r x n f z h = keyless r (or-second (eqb v 0) (eqb (field Layout.cached c v 0) 0) (ne-eqb v 0 n) ∙ eq-eqb (field Layout.cached c v 0) 0 (sym f ∙ z)) h
 
-  module _ (x m : ℕ) (n : v ≡ 0 → ⊥) (f : x ≡ field Layout.cached c v 0) (z : x ≡ 0 → ⊥) (g : m ≡ field Layout.cached c v 11) where
+  module _ (x : ℕ) (many : Bool) (n : v ≡ 0 → ⊥) (f : x ≡ field Layout.cached c v 0) (z : x ≡ 0 → ⊥) (g : many ≡ tooManyCaptures c v) where
     -- a key is there
     -- what the other ways have in common
-    present : (b : Bool) → ltb 16 m ≡ b → lower (earns 2 b) keyed ≡ cachedClass identifiers functions c v
+    present : (b : Bool) → many ≡ b → lower (earns 2 b) keyed ≡ cachedClass identifiers functions c v
     unfolding cachedClass
     present b h =
-        ap (λ (t : Bool). lower (earns 2 t) keyed) (sym h ∙ ap (ltb 16) g)
-        ∙ sym (ite-no (eqb v 0 || eqb (field Layout.cached c v 0) 0) (noKeyClass c v) (lower (earns 2 (ltb 16 (field Layout.cached c v 11))) keyed)
+        ap (λ (t : Bool). lower (earns 2 t) keyed) (sym h ∙ g)
+        ∙ sym (ite-no (eqb v 0 || eqb (field Layout.cached c v 0) 0) (noKeyClass c v) (lower (earns 2 (tooManyCaptures c v)) keyed)
         (or-neither (eqb v 0) (eqb (field Layout.cached c v 0) 0) (ne-eqb v 0 n) (ne-eqb (field Layout.cached c v 0) 0 (λ e. z (f ∙ e)))))
 
     -- too many captures
     -- the third way: nothing else earns 1
-    pub cached-many : 16 < m → 2 ≡ cachedClass identifiers functions c v
+    pub cached-many : many ≡ true → 2 ≡ cachedClass identifiers functions c v
     cached-many l =
         two-first keyed (class-later keyed (lower-keeps Class (keyClass identifiers functions c v) (earns 4 (keyTwice c v)) key-class (earns-class 4 (keyTwice c v) (omega arith) (omega arith))))
-        ∙ present true (lt-ltb 16 m l)
+        ∙ present true l
 
-    module _ (l : m ≤ 16) (y : ℕ) (h : y ≡ keyClass identifiers functions c v) where
+    module _ (l : many ≡ false) (y : ℕ) (h : y ≡ keyClass identifiers functions c v) where
       -- not too many: the rest decides
       -- the last two ways
       counted : keyed ≡ cachedClass identifiers functions c v
-      counted = lower-none 0 keyed refl ∙ present false (le-ltb 16 m l)
+      counted = lower-none 0 keyed refl ∙ present false l
 
       -- a key that is refused by its words
       -- the fourth way
@@ -161,14 +174,14 @@ functions-are identifiers functions c n a b d l r e h g k p q =
     q ∙ ap₂ lower h (p ∙ ap₂ lower g k) ∙ ap (λ (m : ℕ). lower (lowestBelow m (functionClass identifiers c)) (lower (strayAfter Layout.functions c m) (strayAfter Layout.contexts c m))) e
 
 -- links
--- the next number is widened
-pub links-are : (functions : ℕ) (c : List ℕ) (next n a b r : ℕ) → n ≡ next → a ≡ lowestBelow n (linkClass functions c) → b ≡ strayAfter Layout.links c n → r ≡ lower a b → r ≡ linksClass functions c next
+-- of the numbers that were handed out
+pub links-are : (functions : ℕ) (c : List ℕ) (next n a b r : ℕ) → n ≡ handedOut next → a ≡ lowestBelow n (linkClass functions c) → b ≡ strayAfter Layout.links c n → r ≡ lower a b → r ≡ linksClass functions c next
 unfolding linksClass
 links-are functions c next n a b r e h g q = q ∙ ap₂ lower h g ∙ ap (λ (m : ℕ). lower (lowestBelow m (linkClass functions c)) (strayAfter Layout.links c m)) e
 
 -- keys
--- the next number is widened
-pub keys-are : (identifiers functions : ℕ) (c : List ℕ) (next n a b r : ℕ) → n ≡ next → a ≡ lowestBelow n (cachedClass identifiers functions c) → b ≡ strayAfter Layout.cached c n → r ≡ lower a b → r ≡ keysClass identifiers functions c next
+-- of the numbers that were handed out
+pub keys-are : (identifiers functions : ℕ) (c : List ℕ) (next n a b r : ℕ) → n ≡ handedOut next → a ≡ lowestBelow n (cachedClass identifiers functions c) → b ≡ strayAfter Layout.cached c n → r ≡ lower a b → r ≡ keysClass identifiers functions c next
 unfolding keysClass
 keys-are identifiers functions c next n a b r e h g q = q ∙ ap₂ lower h g ∙ ap (λ (m : ℕ). lower (lowestBelow m (cachedClass identifiers functions c)) (strayAfter Layout.cached c m)) e
 
@@ -248,6 +261,14 @@ module _ (identifiers functions : ℕ) (c : List ℕ) (i : ℕ) (hi : i ≡ getD
             ap (ltb 256) hm
             ∙ sym (or-second (ltb 64 functions) after3 (le-ltb 64 functions l) ∙ or-second (ltb 2048 (internedCount c)) (ltb 256 (instanceCount c)) (ap (ltb 2048) (sym hn) ∙ le-ltb 2048 n k))
             ∙ past-functions
+
+-- next lies past the last fresh number, or not
+-- the two ways
+pub handed-all : (next : ℕ) → 512 < next → 512 ≡ handedOut next
+handed-all next l = sym (ite-lt 512 next 512 next l)
+
+pub handed-some : (next n : ℕ) → next ≤ 512 → n ≡ next → n ≡ handedOut next
+handed-some next n l e = e ∙ sym (ite-ge 512 next 512 next l)
 
 -- the options and all tables
 -- the lowest class of seven

@@ -3,7 +3,7 @@
 ghost use mathlib.Core.Path.{_≡_};
 ghost use Rattle.word_classes.specs.Classes.{lowestBelow};
 ghost use Rattle.table_classes.specs.TableClasses.{identifierClass, functionClass, linkClass};
-ghost use Rattle.context_accepts.specs.Accepting.{cachedClass, diagnosticClass, internedClass, identifiersClass, functionsClass, linksClass, keysClass, diagnosticsClass, effectsClass, countsWrong, tablesClass, contextClass};
+ghost use Rattle.context_accepts.specs.Accepting.{tooManyCaptures, cachedClass, handedOut, diagnosticClass, internedClass, identifiersClass, functionsClass, linksClass, keysClass, diagnosticsClass, effectsClass, countsWrong, tablesClass, contextClass};
 use contexts::interned_count;
 use diagnostics::instance_count;
 use effect_classes::effect_class;
@@ -83,6 +83,17 @@ const INTERNED: Table = Table {
 
 // ---- records that may repeat one before them
 
+// Whether a cached key has too many captures; only that of a CreateFunction has any.
+// In another key the count is a word without use.
+fn too_many_captures(context: &[u32], v: usize) -> bool
+    ensures { λ r. ⌜ r ≡ tooManyCaptures (now (context .entry)) v ⌝ }
+{
+    if field(CACHED, context, v, 1) != 13 {
+        return false;
+    }
+    field(CACHED, context, v, 11) > 16
+}
+
 // The class of a cached number: no key at all, or one that is right and of no lower number.
 // A key that is refused already is not looked for among the lower numbers.
 fn cached_class(context: &[u32], v: usize, identifiers: u32, functions: u32) -> u32
@@ -94,7 +105,7 @@ fn cached_class(context: &[u32], v: usize, identifiers: u32, functions: u32) -> 
     if field(CACHED, context, v, 0) == 0 {
         return no_key_class(context, v);
     }
-    if field(CACHED, context, v, 11) > 16 {
+    if too_many_captures(context, v) {
         return 2;
     }
     let class = key_class(context, v, identifiers, functions);
@@ -237,12 +248,23 @@ fn functions_class(context: &[u32], identifiers: u32, functions: u32) -> u32
     lower(records, lower(after, stray_after(CONTEXTS, context, n)))
 }
 
+// How many fresh numbers there are below next.
+// No more than the tables have, whatever next is.
+fn handed_out(next: u32) -> usize
+    ensures { λ r. ⌜ r ≡ handedOut next ⌝ }
+{
+    if next > 512 {
+        return 512;
+    }
+    wide32(next)
+}
+
 // The class of the links of numbers below next.
 // A link of another number is a word without use.
 fn links_class(context: &[u32], functions: u32, next: u32) -> u32
     ensures { λ r. ⌜ r ≡ linksClass functions (now (context .entry)) next ⌝ }
 {
-    let n = wide32(next);
+    let n = handed_out(next);
     let records = link_records(context, n, functions);
     lower(records, stray_after(LINKS, context, n))
 }
@@ -252,7 +274,7 @@ fn links_class(context: &[u32], functions: u32, next: u32) -> u32
 fn keys_class(context: &[u32], identifiers: u32, functions: u32, next: u32) -> u32
     ensures { λ r. ⌜ r ≡ keysClass identifiers functions (now (context .entry)) next ⌝ }
 {
-    let n = wide32(next);
+    let n = handed_out(next);
     let records = key_records(context, n, identifiers, functions);
     lower(records, stray_after(CACHED, context, n))
 }
