@@ -129,13 +129,19 @@ undefinedIdentifier (suc i) = some i
 unfoldable pub refusalLine : ℕ → List ℕ
 refusalLine n = line (ascii "REFUSED") (some n ∷ [])
 
--- "OK: effects, walk entries."
+-- "OK: effects, walk entries.", then the lines of the effects, of the values 1 to 1,023, of the sets of 512 identifiers, and the access
+-- over plain parts: the effects listed, the entries, the value of a number, the set of an identifier, the session's access
+unfoldable pub shownLines : List AliasingEffect → ℕ → (ℕ → Option AbstractValue) → (ℕ → Option ℕ) → ℕ → List ℕ
+shownLines es entries valueOf setOf access =
+    line (ascii "OK") (some (length es) ∷ some entries ∷ [])
+    ++ (effectLines es
+    ++ (linesFrom 1023 1 (λ v. valueLine v (valueOf v))
+    ++ (linesFrom 512 0 (λ i. setLine i (setOf i)) ++ line (ascii "U") (undefinedIdentifier access ∷ []))))
+
+-- the lines of a world after its job
+-- what it listed, its entries, its state and its session's access
 unfoldable pub okLines : World pure → List ℕ
-okLines w =
-    line (ascii "OK") (some (length (w .rest .work .listed)) ∷ some (w .rest .session .entries) ∷ [])
-    ++ (effectLines (w .rest .work .listed)
-    ++ (linesFrom 1023 1 (λ v. valueLine v (w .state .values v))
-    ++ (linesFrom 512 0 (λ i. setLine i (w .state .sets i)) ++ line (ascii "U") (undefinedIdentifier (w .rest .session .access) ∷ []))))
+okLines w = shownLines (w .rest .work .listed) (w .rest .session .entries) (w .state .values) (w .state .sets) (w .rest .session .access)
 
 unfoldable pub listing : Res (World pure) Done → List ℕ
 listing (ok a w) = okLines w

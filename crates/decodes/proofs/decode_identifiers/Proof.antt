@@ -1,0 +1,69 @@
+-- `decodes::decode_identifiers` meets its contract: each turn does one record more. Assumes nothing.
+use native.Mathlib.Omega.{arith}
+use mathlib.Core.Path.{_≡_, refl, _∙_}
+use Prim.Native.Nat.{_-_, _≤_}
+use lib.ListN.{length}
+use Rattle.decodes.specs.Decoded.{after, decodedIdentifier, decodedIdentifiers}
+use Rattle.decodes.specs.ReadLaws.{after-more, after-end}
+use borrow.Author.Needs.{needs}
+use Rattle.decodes.proofs.decode_identifiers.Statement.{statement}
+use Rattle.decodes.proofs.decode_identifiers.Tie as tie
+use Rattle.decodes.proofs.decode_identifiers.Reads as reads
+use Rattle.decodes.proofs.decode_identifiers.Lts as lts
+use Rattle.decodes.proofs.count_of.Reads as count-of-reads
+use Rattle.decodes.proofs.decode_identifier.Reads as decode-identifier-reads
+
+abbrev Inv-loop : tie.InvT-loop
+Inv-loop im context₀ n k₀ context k = (k ≤ n) × (context ≡ after (decodedIdentifier im) k context₀) × (length context ≡ length context₀)
+
+abbrev μ-loop : tie.MeasureT-loop
+μ-loop im context₀ n k₀ context k = n - k
+
+-- src/lib.rt:229:9
+count-of-requires : tie.Need-count-of-requires Inv-loop μ-loop
+count-of-requires c κs = search needs
+
+-- src/lib.rt:231:5
+loop-holds : tie.Need-loop-holds Inv-loop μ-loop
+unfolding after
+loop-holds c = (omega arith, refl, refl)
+
+-- src/lib.rt:232:9
+decode-identifier-requires : tie.Need-decode-identifier-requires Inv-loop μ-loop
+decode-identifier-requires c κs = search needs
+
+-- src/lib.rt:233:9
+add-k : tie.Need-add-k Inv-loop μ-loop
+add-k c = omega arith
+
+-- src/lib.rt:231:5
+loop-less : tie.Need-loop-less Inv-loop μ-loop
+loop-less c = omega arith
+
+-- src/lib.rt:231:5
+loop-again : tie.Need-loop-again Inv-loop μ-loop
+loop-again c = (omega arith, after-more _ _ _ _ _ (c .before .before .before .before .before .loop .inv .1) (c .before .before .decode-identifier .ensures), c .before .before .decode-identifier .kept .1 .1 .0 ∙ c .before .before .before .before .before .loop .inv .2)
+
+-- src/lib.rt:226:1
+same-length : tie.Need-same-length Inv-loop μ-loop
+same-length c = c .before .loop .inv .2
+
+-- src/lib.rt:226:1
+returns : tie.Need-returns Inv-loop μ-loop
+unfolding decodedIdentifiers
+returns c = after-end _ _ _ _ _ _ (c .before .loop .inv .0) (c .loop-test .left) (c .before .before .count-of .ensures) (c .before .loop .inv .1)
+
+pub decode-identifiers-spec : {M : Type 1} → statement M
+decode-identifiers-spec =
+    tie.close
+    (tie.spec
+    Inv-loop
+    μ-loop
+    count-of-requires
+    loop-holds
+    decode-identifier-requires
+    add-k
+    loop-less
+    loop-again
+    same-length
+    returns)

@@ -1,0 +1,11 @@
+pub mod Decoded
+pub mod ReadLaws
+pub mod StateLaws
+pub mod ContextLaws
+pub mod CandidateLaws
+pub mod StateBack
+pub mod PlacesBack
+pub mod EffectBack
+pub mod CandidatesBack
+pub mod ContextBack
+pub mod WordsBack

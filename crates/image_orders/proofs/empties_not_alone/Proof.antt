@@ -1,0 +1,70 @@
+-- `image_orders::empties_not_alone` meets its contract. The loop's invariant: none of those passed passes the test. The measure is those that are left. Assumes nothing.
+use borrow.Author.Needs.{needs}
+use native.Mathlib.Omega.{arith}
+use borrow.Author.Count.{below-more, below-none}
+use Prim.Native.Nat.{_-_, _<_, ℕ}
+use mathlib.Core.Path.{_∙_, _≡_, sym}
+use Rattle.image.specs.Refusals.{anyNeighbours, emptyNotAlone}
+use mathlib.Core.Bool.{false}
+use Rattle.image_classes.specs.ChainLaws.{any-found, any-none}
+use Rattle.image_orders.proofs.empties_not_alone.Statement.{statement}
+use Rattle.image_orders.proofs.empties_not_alone.Tie as tie
+use Rattle.image_orders.proofs.empties_not_alone.Reads as reads
+use Rattle.image_orders.proofs.empties_not_alone.Lts as lts
+use Rattle.image_classes.proofs.neighbours_of.Reads as neighbours-of-reads
+use Rattle.image_orders.proofs.empty_not_alone.Reads as empty-not-alone-reads
+
+abbrev Inv-loop : tie.InvT-loop
+Inv-loop im n k₀ k = (i : ℕ) → i < k → emptyNotAlone im i ≡ false
+
+abbrev μ-loop : tie.MeasureT-loop
+μ-loop im n k₀ k = n - k
+
+-- src/lib.rt:298:9
+neighbours-of-requires : tie.Need-neighbours-of-requires Inv-loop μ-loop
+neighbours-of-requires c κs = search needs
+
+-- src/lib.rt:300:5
+loop-holds : tie.Need-loop-holds Inv-loop μ-loop
+loop-holds c = below-none _
+
+-- src/lib.rt:301:12
+empty-not-alone-requires : tie.Need-empty-not-alone-requires Inv-loop μ-loop
+empty-not-alone-requires c κs = search needs
+
+-- src/lib.rt:302:13
+returns : tie.Need-returns Inv-loop μ-loop
+unfolding anyNeighbours
+returns c = any-found _ _ (λ (i : ℕ). emptyNotAlone (c .before .before .before .before .before .before .args .im .now) i) (c .before .before .before .loop .k) _ (c .before .before .before .before .neighbours-of .ensures) (c .before .before .loop-test .taken) (c .before .empty-not-alone .ensures) (c .if1 .taken)
+
+-- src/lib.rt:304:9
+add-k : tie.Need-add-k Inv-loop μ-loop
+add-k c = search needs
+
+-- src/lib.rt:300:5
+loop-less : tie.Need-loop-less Inv-loop μ-loop
+loop-less c = search needs
+
+-- src/lib.rt:300:5
+loop-again : tie.Need-loop-again Inv-loop μ-loop
+loop-again c = below-more _ _ (c .before .before .before .loop .inv) (sym (c .before .empty-not-alone .ensures) ∙ c .if1 .left)
+
+-- src/lib.rt:295:1
+returns-2 : tie.Need-returns-2 Inv-loop μ-loop
+unfolding anyNeighbours
+returns-2 c = any-none _ _ (λ (i : ℕ). emptyNotAlone (c .before .before .before .before .args .im .now) i) (c .before .loop .k) (c .before .before .neighbours-of .ensures) (c .loop-test .left) (c .before .loop .inv)
+
+pub empties-not-alone-spec : {M : Type 1} → statement M
+empties-not-alone-spec =
+    tie.close
+    (tie.spec
+    Inv-loop
+    μ-loop
+    neighbours-of-requires
+    loop-holds
+    empty-not-alone-requires
+    returns
+    add-k
+    loop-less
+    loop-again
+    returns-2)

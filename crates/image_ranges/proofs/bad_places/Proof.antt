@@ -1,0 +1,70 @@
+-- `image_ranges::bad_places` meets its contract. The loop's invariant: none of those passed passes the test. The measure is those that are left. Assumes nothing.
+use borrow.Author.Needs.{needs}
+use native.Mathlib.Omega.{arith}
+use borrow.Author.Count.{below-more, below-none}
+use Prim.Native.Nat.{_-_, _<_, ℕ}
+use mathlib.Core.Path.{_∙_, _≡_, sym}
+use Rattle.image.specs.Refusals.{anyRecord, badPlace}
+use mathlib.Core.Bool.{false}
+use Rattle.image_classes.specs.ChainLaws.{any-found, any-none}
+use Rattle.image_ranges.proofs.bad_places.Statement.{statement}
+use Rattle.image_ranges.proofs.bad_places.Tie as tie
+use Rattle.image_ranges.proofs.bad_places.Reads as reads
+use Rattle.image_ranges.proofs.bad_places.Lts as lts
+use Rattle.image_classes.proofs.count_of.Reads as count-of-reads
+use Rattle.image_ranges.proofs.bad_place.Reads as bad-place-reads
+
+abbrev Inv-loop : tie.InvT-loop
+Inv-loop im n k₀ k = (i : ℕ) → i < k → badPlace im i ≡ false
+
+abbrev μ-loop : tie.MeasureT-loop
+μ-loop im n k₀ k = n - k
+
+-- src/lib.rt:424:9
+count-of-requires : tie.Need-count-of-requires Inv-loop μ-loop
+count-of-requires c κs = search needs
+
+-- src/lib.rt:426:5
+loop-holds : tie.Need-loop-holds Inv-loop μ-loop
+loop-holds c = below-none _
+
+-- src/lib.rt:427:12
+bad-place-requires : tie.Need-bad-place-requires Inv-loop μ-loop
+bad-place-requires c κs = search needs
+
+-- src/lib.rt:428:13
+returns : tie.Need-returns Inv-loop μ-loop
+unfolding anyRecord
+returns c = any-found _ _ (λ (i : ℕ). badPlace (c .before .before .before .before .before .before .args .im .now) i) (c .before .before .before .loop .k) _ (c .before .before .before .before .count-of .ensures) (c .before .before .loop-test .taken) (c .before .bad-place .ensures) (c .if1 .taken)
+
+-- src/lib.rt:430:9
+add-k : tie.Need-add-k Inv-loop μ-loop
+add-k c = search needs
+
+-- src/lib.rt:426:5
+loop-less : tie.Need-loop-less Inv-loop μ-loop
+loop-less c = search needs
+
+-- src/lib.rt:426:5
+loop-again : tie.Need-loop-again Inv-loop μ-loop
+loop-again c = below-more _ _ (c .before .before .before .loop .inv) (sym (c .before .bad-place .ensures) ∙ c .if1 .left)
+
+-- src/lib.rt:421:1
+returns-2 : tie.Need-returns-2 Inv-loop μ-loop
+unfolding anyRecord
+returns-2 c = any-none _ _ (λ (i : ℕ). badPlace (c .before .before .before .before .args .im .now) i) (c .before .loop .k) (c .before .before .count-of .ensures) (c .loop-test .left) (c .before .loop .inv)
+
+pub bad-places-spec : {M : Type 1} → statement M
+bad-places-spec =
+    tie.close
+    (tie.spec
+    Inv-loop
+    μ-loop
+    count-of-requires
+    loop-holds
+    bad-place-requires
+    returns
+    add-k
+    loop-less
+    loop-again
+    returns-2)

@@ -1,0 +1,28 @@
+-- `image_ranges::is_in` meets its contract: the ways through it, one after the other. Assumes nothing.
+use mathlib.Core.Path.{_∙_, ap}
+use Rattle.image.specs.Refusals.{isIn}
+use lib.Dec.{ltb}
+use Prim.Native.Nat.{ℕ}
+use borrow.Author.Needs.{needs}
+use Rattle.image_ranges.proofs.is_in.Statement.{statement}
+use Rattle.image_ranges.proofs.is_in.Tie as tie
+use Rattle.image_ranges.proofs.is_in.Reads as reads
+use Rattle.image_ranges.proofs.is_in.Lts as lts
+use Rattle.image_classes.proofs.below.Reads as below-reads
+use Rattle.image_classes.proofs.count_of.Reads as count-of-reads
+
+-- src/lib.rt:67:14
+count-of-requires : tie.Need-count-of-requires
+count-of-requires c κs = search needs
+
+-- src/lib.rt:67:5
+below-requires : tie.Need-below-requires
+below-requires c κs = search needs
+
+-- src/lib.rt:64:1
+returns : tie.Need-returns
+unfolding isIn
+returns c = c .below .ensures ∙ ap (λ (x′ : ℕ). ltb (c .before .before .before .args .i) x′) (c .before .count-of .ensures)
+
+pub is-in-spec : {M : Type 1} → statement M
+is-in-spec = tie.close (tie.spec count-of-requires below-requires returns)
