@@ -1,60 +1,13 @@
--- The words of an image read by section, and a loop over its records. Assumes nothing.
+-- A place of an image, and a loop over its records. Assumes nothing.
 use Prim.Native.Nat.{ℕ, zero, suc, _+_, _*_, _≤_, _<_}
 use mathlib.Core.Path.{_≡_, refl, sym, ap, ap₂, _∙_}
-use mathlib.Core.List.{List, [], _∷_}
-use native.Mathlib.Nat.{mul-le-mul-left}
+use mathlib.Core.List.{List}
 use native.Mathlib.Omega.{arith}
-use lib.ListN.{getD, List·getD-eq-default}
+use lib.ListN.{getD}
 use Rattle.effects.specs.declared.Place.{Place}
-use Rattle.image.specs.Layout.{word, sizeOf, countOf, offsetOf, cell}
+use Rattle.image.specs.Layout.{word, sizeOf, offsetOf, cell}
 use Rattle.image.specs.Decode.{placeAt}
 use Rattle.decodes.specs.Decoded.{after}
-
--- ---- sections
-
--- a section that there is not
--- six sections have sizes
-pub size-out : (s : ℕ) → 6 ≤ s → 0 ≡ sizeOf s
-unfolding sizeOf
-size-out s h = sym (List·getD-eq-default (4 ∷ 3 ∷ 2 ∷ 5 ∷ 5 ∷ 8 ∷ []) 0 {n = s} h)
-
--- no record has more than eight words
--- so places of words fit in 64 bits
-pub size-most : (s : ℕ) → sizeOf s ≤ 8
-unfolding sizeOf
-size-most zero = let e : 4 ≤ 8 = omega arith in e
-size-most (suc zero) = let e : 3 ≤ 8 = omega arith in e
-size-most (suc (suc zero)) = let e : 2 ≤ 8 = omega arith in e
-size-most (suc (suc (suc zero))) = let e : 5 ≤ 8 = omega arith in e
-size-most (suc (suc (suc (suc zero)))) = let e : 5 ≤ 8 = omega arith in e
-size-most (suc (suc (suc (suc (suc zero))))) = let e : 8 ≤ 8 = omega arith in e
-size-most (suc (suc (suc (suc (suc (suc s)))))) = let e : 0 ≤ 8 = omega arith in e
-
--- some records of a section, in words
--- the code multiplies and adds without a test
-pub span-fits : (s k a w : ℕ) → k ≤ 4294967296 → a ≡ k → w ≡ sizeOf s → a * w ≤ 34359738368
-span-fits s k a w h e f =
-    let m : w ≤ 8 = (let l = size-most s in omega arith) in
-    let p : a * w ≤ a * 8 = mul-le-mul-left a m in
-    omega arith
-
--- the count of a section, read
--- "then count and word offset of six sections"
-pub count-is : (im : List ℕ) (s a r : ℕ) → a ≡ s → r ≡ getD im (5 + 2 * a) 0 → r ≡ countOf im s
-unfolding countOf word
-count-is im s a r e f = f ∙ ap (λ (x : ℕ). getD im (5 + 2 * x) 0) e
-
--- the offset of a section, read
--- "then count and word offset of six sections"
-pub offset-is : (im : List ℕ) (s a r : ℕ) → a ≡ s → r ≡ getD im (6 + 2 * a) 0 → r ≡ offsetOf im s
-unfolding offsetOf word
-offset-is im s a r e f = f ∙ ap (λ (x : ℕ). getD im (6 + 2 * x) 0) e
-
--- a word of a record, read
--- its place is added and multiplied read by read
-pub cell-is : (im : List ℕ) (s k j o a b z d l r : ℕ) → o ≡ offsetOf im s → a ≡ o → b ≡ k → z ≡ sizeOf s → d ≡ z → l ≡ j → r ≡ getD im (a + b * d + l) 0 → r ≡ cell im s k j
-unfolding cell word
-cell-is im s k j o a b z d l r e f g h i m n = cc
 
 -- ---- places
 

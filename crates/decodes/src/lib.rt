@@ -8,7 +8,7 @@ ghost use Rattle.words.specs.Words.{putPlaces};
 ghost use Rattle.records.specs.Records.{putEffect};
 ghost use Rattle.instructions.specs.Instructions.{candidateTable};
 ghost use Rattle.image.specs.Layout as Image;
-ghost use Rattle.image.specs.Layout.{cell, countOf, offsetOf, sizeOf};
+ghost use Rattle.image.specs.Layout.{countOf};
 ghost use Rattle.image.specs.Decode.{memberOf, placeAt, placesFrom};
 ghost use Rattle.rows.specs.Rows.{addSet};
 ghost use Rattle.decodes.specs.Decoded as Decoded;
@@ -17,6 +17,9 @@ use cells::put_value;
 use effects::AliasingDiagnostic;
 use effects::Place;
 use effects::Span;
+use image_classes::cell;
+use image_classes::count_of;
+use image_classes::offset_of;
 use kinds::AbstractValue;
 use kinds::ValueKind;
 use records::AliasingEffect;
@@ -30,10 +33,6 @@ use slices::wide32;
 use words::Table;
 use words::put_field;
 use words::put_place;
-
-// The words of a record of each section.
-// Identifiers, values, pairs, places, functions, candidates.
-const SIZES: [u32; 6] = [4, 3, 2, 5, 5, 8];
 
 // The identifiers of a context.
 // Four words each, as in an image.
@@ -69,43 +68,6 @@ const CANDIDATES: Table = Table {
 
 // ---- the words of an image
 
-// The words of a record of section s.
-// As the six lists of the paper have them; a section past the sixth has none.
-fn size_of(s: u32) -> u32
-    ensures { λ r. ⌜ r ≡ sizeOf s ⌝ }
-{
-    if s < 6 {
-        return SIZES[s as usize];
-    }
-    0
-}
-
-// How many records section s has, as the header says.
-// "then count and word offset of six sections"
-fn count_of(im: &[u32], s: u32) -> u32
-    ensures { λ r. ⌜ r ≡ countOf (now (im .entry)) s ⌝ }
-{
-    get32(im, 5 + 2 * wide32(s))
-}
-
-// Where section s begins, as the header says.
-// "then count and word offset of six sections"
-fn offset_of(im: &[u32], s: u32) -> u32
-    ensures { λ r. ⌜ r ≡ offsetOf (now (im .entry)) s ⌝ }
-{
-    get32(im, 6 + 2 * wide32(s))
-}
-
-// Word j of record k of section s.
-// Wide: a number of a record times a size passes 32 bits.
-fn cell(im: &[u32], s: u32, k: u32, j: u32) -> u32
-    ensures { λ r. ⌜ r ≡ cell (now (im .entry)) s k j ⌝ }
-{
-    let offset = wide32(offset_of(im, s));
-    let size = wide32(size_of(s));
-    get32(im, offset + wide32(k) * size + wide32(j))
-}
-
 // Place i of a run that begins at place `first`.
 // "places: identifier, `Effect` in declared order from 0, reactive 0 or 1, start, end"
 fn place_of(im: &[u32], first: u32, i: u32) -> Place
@@ -128,7 +90,7 @@ fn place_of(im: &[u32], first: u32, i: u32) -> Place
 
 // Place k of the image.
 // It is the first of a run of its own.
-fn place_at(im: &[u32], k: u32) -> Place
+pub fn place_at(im: &[u32], k: u32) -> Place
     ensures { λ r. ⌜ r ≡ placeAt (now (im .entry)) k ⌝ }
 {
     place_of(im, k, 0)

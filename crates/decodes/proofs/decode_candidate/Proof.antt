@@ -5,7 +5,7 @@ use Rattle.decodes.proofs.decode_candidate.Statement.{statement}
 use Rattle.decodes.proofs.decode_candidate.Tie as tie
 use Rattle.decodes.proofs.decode_candidate.Reads as reads
 use Rattle.decodes.proofs.decode_candidate.Lts as lts
-use Rattle.decodes.proofs.cell.Reads as cell-reads
+use Rattle.image_classes.proofs.cell.Reads as cell-reads
 use Rattle.decodes.proofs.decode_creation.Reads as decode-creation-reads
 use Rattle.decodes.proofs.head_at.Reads as head-at-reads
 use Rattle.records.proofs.put_effect.Reads as put-effect-reads

@@ -10,7 +10,7 @@ use Rattle.decodes.proofs.decode_candidates.Statement.{statement}
 use Rattle.decodes.proofs.decode_candidates.Tie as tie
 use Rattle.decodes.proofs.decode_candidates.Reads as reads
 use Rattle.decodes.proofs.decode_candidates.Lts as lts
-use Rattle.decodes.proofs.count_of.Reads as count-of-reads
+use Rattle.image_classes.proofs.count_of.Reads as count-of-reads
 use Rattle.decodes.proofs.decode_candidate.Reads as decode-candidate-reads
 
 abbrev Inv-loop : tie.InvT-loop

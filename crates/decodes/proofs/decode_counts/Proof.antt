@@ -5,7 +5,7 @@ use Rattle.decodes.proofs.decode_counts.Statement.{statement}
 use Rattle.decodes.proofs.decode_counts.Tie as tie
 use Rattle.decodes.proofs.decode_counts.Reads as reads
 use Rattle.decodes.proofs.decode_counts.Lts as lts
-use Rattle.decodes.proofs.cell.Reads as cell-reads
+use Rattle.image_classes.proofs.cell.Reads as cell-reads
 use Rattle.slices.proofs.wide32.Reads as wide32-reads
 use Rattle.words.proofs.put_field.Reads as put-field-reads
 

@@ -5,7 +5,7 @@ use Rattle.decodes.proofs.decode_creation.Statement.{statement}
 use Rattle.decodes.proofs.decode_creation.Tie as tie
 use Rattle.decodes.proofs.decode_creation.Reads as reads
 use Rattle.decodes.proofs.decode_creation.Lts as lts
-use Rattle.decodes.proofs.cell.Reads as cell-reads
+use Rattle.image_classes.proofs.cell.Reads as cell-reads
 use Rattle.decodes.proofs.put_run.Reads as put-run-reads
 use Rattle.decodes.proofs.second_at.Reads as second-at-reads
 use Rattle.slices.proofs.wide32.Reads as wide32-reads

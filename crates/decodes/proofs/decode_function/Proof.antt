@@ -5,7 +5,7 @@ use Rattle.decodes.proofs.decode_function.Statement.{statement}
 use Rattle.decodes.proofs.decode_function.Tie as tie
 use Rattle.decodes.proofs.decode_function.Reads as reads
 use Rattle.decodes.proofs.decode_function.Lts as lts
-use Rattle.decodes.proofs.cell.Reads as cell-reads
+use Rattle.image_classes.proofs.cell.Reads as cell-reads
 use Rattle.decodes.proofs.decode_counts.Reads as decode-counts-reads
 use Rattle.decodes.proofs.put_run.Reads as put-run-reads
 use Rattle.slices.proofs.wide32.Reads as wide32-reads

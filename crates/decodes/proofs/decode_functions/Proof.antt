@@ -10,7 +10,7 @@ use Rattle.decodes.proofs.decode_functions.Statement.{statement}
 use Rattle.decodes.proofs.decode_functions.Tie as tie
 use Rattle.decodes.proofs.decode_functions.Reads as reads
 use Rattle.decodes.proofs.decode_functions.Lts as lts
-use Rattle.decodes.proofs.count_of.Reads as count-of-reads
+use Rattle.image_classes.proofs.count_of.Reads as count-of-reads
 use Rattle.decodes.proofs.decode_function.Reads as decode-function-reads
 
 abbrev Inv-loop : tie.InvT-loop

@@ -5,7 +5,7 @@ use Rattle.decodes.proofs.decode_header.Statement.{statement}
 use Rattle.decodes.proofs.decode_header.Tie as tie
 use Rattle.decodes.proofs.decode_header.Reads as reads
 use Rattle.decodes.proofs.decode_header.Lts as lts
-use Rattle.decodes.proofs.count_of.Reads as count-of-reads
+use Rattle.image_classes.proofs.count_of.Reads as count-of-reads
 use Rattle.slices.proofs.get32.Reads as get32-reads
 use Rattle.slices.proofs.set32.Reads as set32-reads
 

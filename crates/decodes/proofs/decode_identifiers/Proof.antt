@@ -10,7 +10,7 @@ use Rattle.decodes.proofs.decode_identifiers.Statement.{statement}
 use Rattle.decodes.proofs.decode_identifiers.Tie as tie
 use Rattle.decodes.proofs.decode_identifiers.Reads as reads
 use Rattle.decodes.proofs.decode_identifiers.Lts as lts
-use Rattle.decodes.proofs.count_of.Reads as count-of-reads
+use Rattle.image_classes.proofs.count_of.Reads as count-of-reads
 use Rattle.decodes.proofs.decode_identifier.Reads as decode-identifier-reads
 
 abbrev Inv-loop : tie.InvT-loop

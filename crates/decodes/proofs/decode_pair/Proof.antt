@@ -9,7 +9,7 @@ use Rattle.decodes.proofs.decode_pair.Tie as tie
 use Rattle.decodes.proofs.decode_pair.Reads as reads
 use Rattle.decodes.proofs.decode_pair.Lts as lts
 use Rattle.decodes.proofs.add_member.Reads as add-member-reads
-use Rattle.decodes.proofs.cell.Reads as cell-reads
+use Rattle.image_classes.proofs.cell.Reads as cell-reads
 use Rattle.rows.proofs.add_set.Reads as add-set-reads
 use Rattle.rows.proofs.put_set.Reads as put-set-reads
 

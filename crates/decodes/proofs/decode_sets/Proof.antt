@@ -10,7 +10,7 @@ use Rattle.decodes.proofs.decode_sets.Statement.{statement}
 use Rattle.decodes.proofs.decode_sets.Tie as tie
 use Rattle.decodes.proofs.decode_sets.Reads as reads
 use Rattle.decodes.proofs.decode_sets.Lts as lts
-use Rattle.decodes.proofs.count_of.Reads as count-of-reads
+use Rattle.image_classes.proofs.count_of.Reads as count-of-reads
 use Rattle.decodes.proofs.decode_pair.Reads as decode-pair-reads
 
 abbrev Inv-loop : tie.InvT-loop

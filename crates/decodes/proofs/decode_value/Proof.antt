@@ -6,7 +6,7 @@ use Rattle.decodes.proofs.decode_value.Tie as tie
 use Rattle.decodes.proofs.decode_value.Reads as reads
 use Rattle.decodes.proofs.decode_value.Lts as lts
 use Rattle.cells.proofs.put_value.Reads as put-value-reads
-use Rattle.decodes.proofs.cell.Reads as cell-reads
+use Rattle.image_classes.proofs.cell.Reads as cell-reads
 use Rattle.decodes.proofs.kind_at.Reads as kind-at-reads
 use Rattle.slices.proofs.wide32.Reads as wide32-reads
 

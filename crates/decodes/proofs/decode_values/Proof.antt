@@ -10,7 +10,7 @@ use Rattle.decodes.proofs.decode_values.Statement.{statement}
 use Rattle.decodes.proofs.decode_values.Tie as tie
 use Rattle.decodes.proofs.decode_values.Reads as reads
 use Rattle.decodes.proofs.decode_values.Lts as lts
-use Rattle.decodes.proofs.count_of.Reads as count-of-reads
+use Rattle.image_classes.proofs.count_of.Reads as count-of-reads
 use Rattle.decodes.proofs.decode_value.Reads as decode-value-reads
 
 abbrev Inv-loop : tie.InvT-loop

@@ -5,7 +5,7 @@ use Rattle.decodes.proofs.diagnostic_at.Statement.{statement}
 use Rattle.decodes.proofs.diagnostic_at.Tie as tie
 use Rattle.decodes.proofs.diagnostic_at.Reads as reads
 use Rattle.decodes.proofs.diagnostic_at.Lts as lts
-use Rattle.decodes.proofs.cell.Reads as cell-reads
+use Rattle.image_classes.proofs.cell.Reads as cell-reads
 
 -- src/lib.rt:315:9
 cell-requires : tie.Need-cell-requires

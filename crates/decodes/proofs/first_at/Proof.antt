@@ -6,7 +6,7 @@ use Rattle.decodes.proofs.first_at.Statement.{statement}
 use Rattle.decodes.proofs.first_at.Tie as tie
 use Rattle.decodes.proofs.first_at.Reads as reads
 use Rattle.decodes.proofs.first_at.Lts as lts
-use Rattle.decodes.proofs.cell.Reads as cell-reads
+use Rattle.image_classes.proofs.cell.Reads as cell-reads
 use Rattle.decodes.proofs.place_at.Reads as place-at-reads
 
 -- src/lib.rt:327:18

@@ -7,7 +7,7 @@ use Rattle.decodes.proofs.head_at.Statement.{statement}
 use Rattle.decodes.proofs.head_at.Tie as tie
 use Rattle.decodes.proofs.head_at.Reads as reads
 use Rattle.decodes.proofs.head_at.Lts as lts
-use Rattle.decodes.proofs.cell.Reads as cell-reads
+use Rattle.image_classes.proofs.cell.Reads as cell-reads
 use Rattle.decodes.proofs.diagnostic_at.Reads as diagnostic-at-reads
 use Rattle.decodes.proofs.first_at.Reads as first-at-reads
 use Rattle.decodes.proofs.kind_at.Reads as kind-at-reads

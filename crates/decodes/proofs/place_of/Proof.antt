@@ -5,7 +5,7 @@ use Rattle.decodes.proofs.place_of.Statement.{statement}
 use Rattle.decodes.proofs.place_of.Tie as tie
 use Rattle.decodes.proofs.place_of.Reads as reads
 use Rattle.decodes.proofs.place_of.Lts as lts
-use Rattle.decodes.proofs.offset_of.Reads as offset-of-reads
+use Rattle.image_classes.proofs.offset_of.Reads as offset-of-reads
 use Rattle.slices.proofs.get32.Reads as get32-reads
 use Rattle.slices.proofs.wide32.Reads as wide32-reads
 

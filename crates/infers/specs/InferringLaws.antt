@@ -1,0 +1,344 @@
+-- Laws by which the functions from bytes to a listing meet their definitions: one for each way through. Assumes nothing.
+use Prim.Native.Nat.{ℕ, _+_, _*_, _≤_}
+use native.Mathlib.Omega.{arith}
+use mathlib.Core.Path.{_≡_, refl, sym, ap, ap₂, _∙_}
+use mathlib.Core.Bool.{Bool, true, false, not, _||_}
+use mathlib.Core.List.{List, []}
+use lib.Dec.{eqb, ltb}
+use lib.ListN.{length, take, getD}
+use lib.Seq.{length-take-le}
+use borrow.Author.Tests.{eq-eqb, ne-eqb, eqb-true, ltb-false, not-false}
+use mathlib.Core.Logic.{⊎-elim}
+use Rattle.rows.specs.BitLaws.{same-or-not}
+use Rattle.accepts.specs.TestLaws.{or-no-first, or-no-second}
+use Rattle.contexts.specs.Layout as Layout
+use Rattle.copies.specs.CopyLaws.{zeros-length}
+use Rattle.slices.specs.Test.{ite, ite-eq, ite-ne}
+use Rattle.copies.specs.Copies.{zeros}
+use Rattle.image.specs.Layout.{Image, wrongLength, wordsOf, countOf, identifiers, candidates, functions}
+use Rattle.image.specs.Refusals.{earnsTwo, earnsThree, earnsFour, earnsFive, wrongHeader, wrongEdition, tooManyRecords, refusalOfWords, refusalOf}
+use Rattle.image.specs.Listing.{refusalLine}
+use Rattle.images.specs.declared.Job.{Job}
+use Rattle.signatures.specs.declared.Applied.{Applied}
+use Rattle.effects.specs.declared.Place.{Place}
+use Rattle.effects.specs.declared.Session.{Session}
+use Rattle.transfer.specs.Monad.{andThen, _>>=_, _>>_, atomically}
+use Rattle.transfer.specs.State.{change}
+use Rattle.transfer.specs.Instruction.{startInstruction, applySignature}
+use Rattle.transfer.specs.Monad.{Res, ok, refused, Done}
+use Rattle.transfer.specs.Tables.{World}
+use Rattle.lent.specs.World.{lent}
+use Rattle.accepts.specs.Words as States
+use Rattle.accepts.specs.Words.{stateRefusal}
+use Rattle.merge_calls.specs.MergeCalls.{lower}
+use Rattle.word_classes.specs.Classes.{earns}
+use Rattle.effect_classes.specs.EffectClasses.{instructionClass}
+use Rattle.context_accepts.specs.Accepting.{contextClass}
+use Rattle.signatures.specs.Calls.{Call, Outcome, call, given, lengthsWrong, candidateCount, callClass, lentInstruction, lentWorld, concluded, outcome}
+use Rattle.listings.specs.Texts.{Cursor, cursor, putAll, lentListing, lentRefusal}
+use Rattle.images.specs.Reading.{Tables, tables, Read, jobOf, filled, noJob, refusedWith, lentWrong, readClass, readImage}
+use Rattle.images.specs.Reading as Reading
+use Rattle.infers.specs.Inferring.{empty, setWords, candidateWords, jobCall, imageCall, shown, inferred, memoryWrong, written, Fits}
+
+-- ---- what is shown of a call
+
+-- a refused call: its number
+-- one way through `run_job`
+pub shows-refused : (a : Applied) (vs ss cs os s64 s32 : List ℕ) (c : Call) (d e : Cursor) → given a vs ss cs os s64 s32 ≡ outcome c → (a .refusal ≡ 0 → ⊥) → e ≡ putAll (lentRefusal (a .refusal)) d → e ≡ putAll (shown (outcome c)) d
+unfolding shown lentRefusal
+shows-refused a vs ss cs os s64 s32 c d e h n p =
+    p
+    ∙ ap (λ (l : List ℕ). putAll l d) (sym (ite-ne (a .refusal) 0 (lentListing os (a .count) (a .entries) vs ss (a .session .access)) (refusalLine (a .refusal)) n))
+    ∙ ap (λ (o : Outcome). putAll (shown o) d) h
+
+-- a call that ends: its listing
+-- the other way
+pub shows-listing : (a : Applied) (vs ss cs os s64 s32 : List ℕ) (c : Call) (d e : Cursor) → given a vs ss cs os s64 s32 ≡ outcome c → a .refusal ≡ 0 → e ≡ putAll (lentListing os (a .count) (a .entries) vs ss (a .session .access)) d → e ≡ putAll (shown (outcome c)) d
+unfolding shown
+shows-listing a vs ss cs os s64 s32 c d e h n p =
+    p
+    ∙ ap (λ (l : List ℕ). putAll l d) (sym (ite-eq (a .refusal) 0 (lentListing os (a .count) (a .entries) vs ss (a .session .access)) (refusalLine (a .refusal)) n))
+    ∙ ap (λ (o : Outcome). putAll (shown o) d) h
+
+-- ---- the memory of a call
+
+-- what comes of a call does not depend on what its output list and its scratch hold, only on how long they are
+-- the one is cleared before the instruction runs, the others are only written before they are read
+module _ (vs ss : List ℕ) (flag : Bool) (cs : List ℕ) (s : Session) (xs : List ℕ) (p : Place) (own : ℕ) where
+  -- the same call with memory that is empty
+  -- by which the instruction and the beginning are named
+  abbrev bare : Call
+  bare = call vs ss flag cs s xs p own [] [] []
+
+  -- its class, with memory of given lengths
+  -- lengths are all that is tested of memory
+  class : ℕ → ℕ → ℕ → ℕ
+  class a b d =
+      lower (earns 1 (lengthsWrong (length ss) (length cs) (length xs) a b d))
+      (lower (stateRefusal vs ss (s .next) (s .access))
+      (lower (contextClass (States.identifiers ss) (getD cs Layout.functionCount 0) cs (s .next))
+      (instructionClass (States.identifiers ss) (getD cs Layout.functionCount 0) cs xs (candidateCount xs) p own)))
+
+  -- refused, with memory of given lengths
+  -- all of it zero
+  refuses : ℕ → ℕ → ℕ → ℕ → Outcome
+  refuses n a b d = given (record { refusal = n; count = 0; entries = 0; session = s; flag = flag }) vs ss cs (zeros a) (zeros b) (zeros d)
+
+  -- by how the transfer ends, with memory of given lengths
+  -- as `concluded` has it
+  ends : ℕ → ℕ → ℕ → Res (World lent) Done → Outcome
+  ends a b d (ok x w) =
+      given (record { refusal = 0; count = w .rest .work .listed .count; entries = w .rest .work .entries; session = w .rest .session; flag = w .state .isFunctionExpression })
+      (w .state .values) (w .state .sets) (w .rest .context) (w .rest .work .listed .words) (zeros b) (zeros d)
+  ends a b d (refused n w) = refuses n a b d
+
+  ends-is : (os s64 s32 : List ℕ) (r : Res (World lent) Done) → concluded (call vs ss flag cs s xs p own os s64 s32) r ≡ ends (length os) (length s64) (length s32) r
+  unfolding ends refuses
+  ends-is os s64 s32 (ok x w) = refl
+  ends-is os s64 s32 (refused n w) = refl
+
+  -- the beginning does not matter for the output list
+  -- it is cleared first
+  begins : (os s64 s32 : List ℕ) → applySignature (lentInstruction bare) (lentWorld (call vs ss flag cs s xs p own os s64 s32)) ≡ applySignature (lentInstruction bare) (lentWorld bare)
+  unfolding applySignature startInstruction change _>>_ _>>=_ andThen atomically
+  begins os s64 s32 = refl
+
+  -- so the outcome goes by the three lengths
+  -- and nothing else of the memory
+  by-lengths : (os s64 s32 : List ℕ) → outcome (call vs ss flag cs s xs p own os s64 s32) ≡ ite (eqb (class (length os) (length s64) (length s32)) 0) (ends (length os) (length s64) (length s32) (applySignature (lentInstruction bare) (lentWorld bare))) (refuses (class (length os) (length s64) (length s32)) (length os) (length s64) (length s32))
+  unfolding outcome callClass class refuses
+  by-lengths os s64 s32 =
+      ap (λ (x : Outcome). ite (eqb (class (length os) (length s64) (length s32)) 0) x (refuses (class (length os) (length s64) (length s32)) (length os) (length s64) (length s32)))
+      (ends-is os s64 s32 (applySignature (lentInstruction bare) (lentWorld (call vs ss flag cs s xs p own os s64 s32)))
+      ∙ ap (ends (length os) (length s64) (length s32)) (begins os s64 s32))
+
+  pub memory-same : (os ps s64 t64 s32 t32 : List ℕ) → length os ≡ length ps → length s64 ≡ length t64 → length s32 ≡ length t32
+      → outcome (call vs ss flag cs s xs p own os s64 s32) ≡ outcome (call vs ss flag cs s xs p own ps t64 t32)
+  memory-same os ps s64 t64 s32 t32 h g f =
+      by-lengths os s64 s32
+      ∙ ap (λ (a : ℕ). form a (length s64) (length s32)) h
+      ∙ ap₂ (λ (b d : ℕ). form (length ps) b d) g f
+      ∙ sym (by-lengths ps t64 t32)
+    where
+      form : ℕ → ℕ → ℕ → Outcome
+      form a b d = ite (eqb (class a b d) 0) (ends a b d (applySignature (lentInstruction bare) (lentWorld bare))) (refuses (class a b d) a b d)
+
+-- ---- a job over the tables that were read
+
+-- the rows, the records and the scratch that the call is lent are those of the job
+-- the way through `run_tables`
+pub runs-job : (vs ss cs xs : List ℕ) (j : Job) (os s64 s32 : List ℕ) (m n e : ℕ) (d c : Cursor) → m ≡ setWords j → n ≡ candidateWords j → e ≡ 1024 + m → e ≤ length s64 → length os ≡ 109760 → length s32 ≡ 22786
+    → d ≡ putAll (shown (outcome (call vs (take m ss) false cs (j .session) (take n xs) (j .lvalue) (j .own) os (take e s64) s32))) c
+    → d ≡ putAll (shown (outcome (jobCall j (tables vs ss cs xs)))) c
+unfolding jobCall
+runs-job vs ss cs xs j os s64 s32 m n e d c hm hn he l ho hs h =
+    h
+    ∙ ap₂ (λ (a b : ℕ). putAll (shown (outcome (call vs (take a ss) false cs (j .session) (take b xs) (j .lvalue) (j .own) os (take e s64) s32))) c) hm hn
+    ∙ ap (λ (o : Outcome). putAll (shown o) c)
+    (memory-same vs (take (setWords j) ss) false cs (j .session) (take (candidateWords j) xs) (j .lvalue) (j .own) os (zeros 109760) (take e s64) (zeros (1024 + setWords j)) s32 (zeros 22786)
+    (ho ∙ sym (zeros-length 109760))
+    (length-take-le e s64 l ∙ he ∙ ap (λ (a : ℕ). 1024 + a) hm ∙ sym (zeros-length (1024 + setWords j)))
+    (hs ∙ sym (zeros-length 22786)))
+
+-- ---- lengths
+
+-- the four lengths, tested one after the other
+-- one law for each way through `memory_wrong`
+module _ (o p q b : ℕ) where
+  pub wrong-output : (o ≡ 109760 → ⊥) → true ≡ memoryWrong o p q b
+  unfolding memoryWrong
+  wrong-output h = sym (ap (λ (x : Bool). not x || (not (eqb p 9216) || (not (eqb q 22786) || not (eqb b 2900000)))) (ne-eqb o 109760 h))
+
+  pub wrong-64 : o ≡ 109760 → (p ≡ 9216 → ⊥) → true ≡ memoryWrong o p q b
+  unfolding memoryWrong
+  wrong-64 g h =
+      sym (ap (λ (x : Bool). not x || (not (eqb p 9216) || (not (eqb q 22786) || not (eqb b 2900000)))) (eq-eqb o 109760 g)
+      ∙ ap (λ (x : Bool). not x || (not (eqb q 22786) || not (eqb b 2900000))) (ne-eqb p 9216 h))
+
+  pub wrong-32 : o ≡ 109760 → p ≡ 9216 → (q ≡ 22786 → ⊥) → true ≡ memoryWrong o p q b
+  unfolding memoryWrong
+  wrong-32 f g h =
+      sym (ap (λ (x : Bool). not x || (not (eqb p 9216) || (not (eqb q 22786) || not (eqb b 2900000)))) (eq-eqb o 109760 f)
+      ∙ ap (λ (x : Bool). not x || (not (eqb q 22786) || not (eqb b 2900000))) (eq-eqb p 9216 g)
+      ∙ ap (λ (x : Bool). not x || not (eqb b 2900000)) (ne-eqb q 22786 h))
+
+  pub wrong-buffer : o ≡ 109760 → p ≡ 9216 → q ≡ 22786 → not (eqb b 2900000) ≡ memoryWrong o p q b
+  unfolding memoryWrong
+  wrong-buffer e f g =
+      sym (ap (λ (x : Bool). not x || (not (eqb p 9216) || (not (eqb q 22786) || not (eqb b 2900000)))) (eq-eqb o 109760 e)
+      ∙ ap (λ (x : Bool). not x || (not (eqb q 22786) || not (eqb b 2900000))) (eq-eqb p 9216 f)
+      ∙ ap (λ (x : Bool). not x || not (eqb b 2900000)) (eq-eqb q 22786 g))
+
+  -- memory of the right lengths
+  -- what is not wrong
+  pub memory-right : memoryWrong o p q b ≡ false → (o ≡ 109760) × (p ≡ 9216) × (q ≡ 22786)
+  unfolding memoryWrong
+  memory-right h =
+      let g = or-no-second (not (eqb o 109760)) _ h in
+      let f = or-no-second (not (eqb p 9216)) _ g in (
+        eqb-true o 109760 (not-false _ (or-no-first (not (eqb o 109760)) _ h)),
+        eqb-true p 9216 (not-false _ (or-no-first (not (eqb p 9216)) _ g)),
+        eqb-true q 22786 (not-false _ (or-no-first (not (eqb q 22786)) _ f)),
+      )
+
+-- tables of the right lengths
+-- what is not wrong
+pub lent-right : (w v s c x : ℕ) → lentWrong w v s c x ≡ false → (v ≡ 1024) × (s ≡ 8192) × (c ≡ Layout.long) × (x ≡ 6272)
+unfolding lentWrong
+lent-right w v s c x h =
+    let g = or-no-second (not (eqb w 16384)) _ h in
+    let f = or-no-second (not (eqb v 1024)) _ g in
+    let e = or-no-second (not (eqb s 8192)) _ f in (
+      eqb-true v 1024 (not-false _ (or-no-first (not (eqb v 1024)) _ g)),
+      eqb-true s 8192 (not-false _ (or-no-first (not (eqb s 8192)) _ f)),
+      eqb-true c Layout.long (not-false _ (or-no-first (not (eqb c Layout.long)) _ e)),
+      eqb-true x 6272 (not-false _ (or-no-second (not (eqb c Layout.long)) _ e)),
+    )
+
+-- ---- an accepted image is not too large
+
+-- a class that is not earned
+-- the lowest class is 0 just if none is
+first-not : (b : Bool) (k n : ℕ) → (k ≡ 0 → ⊥) → _≡_ {A = ℕ} (elim b [ true ↦ k | false ↦ n ]) 0 → b ≡ false
+first-not true k n h e = absurd (h e)
+first-not false k n h e = refl
+
+rest-not : (b : Bool) (k n : ℕ) → (k ≡ 0 → ⊥) → _≡_ {A = ℕ} (elim b [ true ↦ k | false ↦ n ]) 0 → n ≡ 0
+rest-not true k n h e = absurd (h e)
+rest-not false k n h e = e
+
+-- an accepted image has no more than 512 identifiers, nor more than 64 candidates
+-- "identifiers (at most 512)", "candidates (64)"
+pub few : (bs : List ℕ) → refusalOf bs ≡ 0 → (countOf (wordsOf bs) identifiers ≤ 512) × (countOf (wordsOf bs) candidates ≤ 64)
+unfolding refusalOf refusalOfWords earnsTwo wrongHeader tooManyRecords
+few bs h =
+    let im = wordsOf bs in
+    let w = rest-not (wrongLength bs) 1 (refusalOfWords im) (λ z. omega arith) h in
+    let two = first-not (earnsTwo im) 2 _ (λ z. omega arith) w in
+    let head = or-no-first (wrongHeader im) _ two in
+    let many = or-no-first (tooManyRecords im) _ (or-no-second (wrongEdition im) _ head) in
+    let most = or-no-second (ltb 512 (countOf im identifiers)) _ many in (
+      ltb-false 512 (countOf im identifiers) (or-no-first (ltb 512 (countOf im identifiers)) _ many),
+      ltb-false 64 (countOf im candidates) (or-no-second (ltb 64 (countOf im functions)) _ most),
+    )
+
+-- ---- from bytes to a listing
+
+-- what was lent, what was read of it, and what was written
+-- one law for each way through `list_image`
+module _ (bs : List ℕ) (w : ℕ) (vs ss cs xs : List ℕ) (o p q b : ℕ) where
+  abbrev t : Tables
+  t = tables vs ss cs xs
+
+  -- what is to be written
+  -- by the lengths of all that is lent
+  abbrev text : List ℕ
+  text = written bs w (length vs) (length ss) (length cs) (length xs) o p q b
+
+  -- whether a table has the wrong length
+  -- as where the image is read
+  abbrev wrong : Bool
+  wrong = lentWrong w (length vs) (length ss) (length cs) (length xs)
+
+  -- memory of the wrong length
+  -- "1 a lent slice or image has the wrong length"
+  pub lists-memory : (d e : Cursor) → true ≡ memoryWrong o p q b → e ≡ putAll (lentRefusal 1) d → e ≡ putAll text d
+  unfolding written lentRefusal
+  lists-memory d e h g = g ∙ ap (λ (x : Bool). putAll (ite (x || wrong) (refusalLine 1) (inferred bs)) d) h
+
+  -- memory of the right lengths: the tables and the image decide
+  -- as they do where the image is read
+  text-read : false ≡ memoryWrong o p q b → text ≡ ite wrong (refusalLine 1) (inferred bs)
+  unfolding written
+  text-read h = ap (λ (x : Bool). ite (x || wrong) (refusalLine 1) (inferred bs)) (sym h)
+
+  -- the number of what was read, where it is refused
+  -- the class of all that was lent
+  read-number : (r : Read) → r ≡ readImage bs w t → (r .job .refusal ≡ 0 → ⊥) → r .job .refusal ≡ readClass bs w t
+  unfolding readImage noJob jobOf
+  read-number r h n =
+      ⊎-elim
+      (λ z. absurd (n (ap (λ (x : Read). x .job .refusal) (h ∙ ite-eq (readClass bs w t) 0 _ _ z))))
+      (λ z. ap (λ (x : Read). x .job .refusal) (h ∙ ite-ne (readClass bs w t) 0 _ _ z))
+      (same-or-not (readClass bs w t) 0)
+
+  -- and where it is not, no class was earned
+  -- a refused job has its class as its number
+  read-class : (r : Read) → r ≡ readImage bs w t → r .job .refusal ≡ 0 → readClass bs w t ≡ 0
+  unfolding readImage noJob jobOf
+  read-class r h n =
+      ⊎-elim
+      (λ z. z)
+      (λ z. sym (ap (λ (x : Read). x .job .refusal) (h ∙ ite-ne (readClass bs w t) 0 _ _ z)) ∙ n)
+      (same-or-not (readClass bs w t) 0)
+
+  -- the listing of a refused image
+  -- a wrong length of a table, or the image's own class
+  by-number : (n : ℕ) → n ≡ readClass bs w t → (n ≡ 0 → ⊥) → refusalLine n ≡ ite wrong (refusalLine 1) (inferred bs)
+  unfolding readClass inferred
+  by-number n e z = go wrong e
+    where
+      go : (x : Bool) → n ≡ ite x 1 (refusalOf bs) → refusalLine n ≡ ite x (refusalLine 1) (ite (eqb (refusalOf bs) 0) (shown (outcome (imageCall (wordsOf bs)))) (refusalLine (refusalOf bs)))
+      go true h = ap refusalLine h
+      go false h = ap refusalLine h ∙ sym (ite-ne (refusalOf bs) 0 _ _ (λ y. z (h ∙ y)))
+
+  -- a refused image: its number
+  -- the tables are as they were
+  pub lists-refused : (r : Read) (d e : Cursor) → false ≡ memoryWrong o p q b → r ≡ readImage bs w t → (r .job .refusal ≡ 0 → ⊥) → e ≡ putAll (lentRefusal (r .job .refusal)) d → e ≡ putAll text d
+  unfolding lentRefusal
+  lists-refused r d e m h n g = g ∙ ap (λ (l : List ℕ). putAll l d) (by-number (r .job .refusal) (read-number r h n) n ∙ sym (text-read m))
+
+  -- an accepted image, with tables of the right lengths
+  -- both follow where no class was earned
+  accepted : readClass bs w t ≡ 0 → (wrong ≡ false) × (refusalOf bs ≡ 0)
+  unfolding readClass
+  accepted h = go wrong h
+    where
+      go : (x : Bool) → ite x 1 (refusalOf bs) ≡ 0 → (x ≡ false) × (refusalOf bs ≡ 0)
+      go true e = absurd (omega arith)
+      go false e = (refl, e)
+
+  -- tables of the right lengths are filled as empty ones are
+  -- only their lengths count
+  filled-empty : (im : Image) → wrong ≡ false → filled im t ≡ filled im empty
+  unfolding filled
+  filled-empty im h =
+      let l = lent-right w (length vs) (length ss) (length cs) (length xs) h in
+      let a = l .0 ∙ sym (zeros-length 1024) in
+      let d = l .1 ∙ sym (zeros-length 8192) in
+      let e = l .2 ∙ sym (zeros-length Layout.long) in
+      let f = l .3 ∙ sym (zeros-length 6272) in
+      rw (a, d, e, f)
+
+  -- an accepted image was read whole
+  -- its job and its tables
+  read-whole : (r : Read) → r ≡ readImage bs w t → readClass bs w t ≡ 0 → r ≡ record { job = jobOf (wordsOf bs); tables = filled (wordsOf bs) t }
+  unfolding readImage
+  read-whole r h n = h ∙ ite-eq (readClass bs w t) 0 _ _ n
+
+  -- the listing of an accepted image
+  -- what its call comes to
+  text-job : false ≡ memoryWrong o p q b → wrong ≡ false → refusalOf bs ≡ 0 → text ≡ shown (outcome (imageCall (wordsOf bs)))
+  unfolding inferred
+  text-job m h g = text-read m ∙ ap (λ (x : Bool). ite x (refusalLine 1) (inferred bs)) h ∙ ite-eq (refusalOf bs) 0 _ _ g
+
+  -- an accepted image: its call, and what is shown of it
+  -- the tables that were read have room for it
+  pub lists-job : (r : Read) (os s64 s32 : List ℕ) (d e : Cursor) → false ≡ memoryWrong o p q b → o ≡ length os → p ≡ length s64 → q ≡ length s32 → r ≡ readImage bs w t → r .job .refusal ≡ 0
+      → length (r .tables .sets) ≡ length ss → length (r .tables .candidates) ≡ length xs
+      → (Fits (r .tables .sets) (r .tables .candidates) s64 (r .job) → length os ≡ 109760 → length s32 ≡ 22786 → e ≡ putAll (shown (outcome (jobCall (r .job) (r .tables)))) d)
+      → e ≡ putAll text d
+  unfolding jobOf
+  lists-job r os s64 s32 d e m ho hp hq h n ls lx f =
+      let c = read-class r h n in
+      let a = accepted c in
+      let k = few bs (a .1) in
+      let l = lent-right w (length vs) (length ss) (length cs) (length xs) (a .0) in
+      let u = memory-right o p q b (sym m) in
+      let g = read-whole r h c in
+      let i = ap (λ (x : Read). x .job .identifiers) g in
+      let j = ap (λ (x : Read). x .job .candidates) g in
+      f (record { rows = omega (arith, l .1); records = omega (arith, l .3); scratch = omega (arith, u .1) }) (sym ho ∙ u .0) (sym hq ∙ u .2)
+      ∙ ap (λ (x : Read). putAll (shown (outcome (jobCall (x .job) (x .tables)))) d) g
+      ∙ ap (λ (x : Tables). putAll (shown (outcome (jobCall (jobOf (wordsOf bs)) x))) d) (filled-empty (wordsOf bs) (a .0))
+      ∙ ap (λ (x : List ℕ). putAll x d) (sym (text-job m (a .0) (a .1)))

@@ -1,0 +1,2 @@
+pub mod Inferring
+pub mod InferringLaws
