@@ -39,7 +39,7 @@ NINTH_LINES = [
     # Words that are missing, or too many.
     (b"value 1 Frozen", "a word is missing after 'Frozen'; expected the reasons: - for none"),
     (b"value", "a word is missing after 'value'; expected a value number such as 1, or own(IDENTIFIER)"),
-    (b"Assign p q", "'q' stands in place of `into`; expected `into` and the place that is written to"),
+    (b"Assign p q", "'q' stands in place of `into`; expected `into` and the place of the destination"),
     (b"Assign p into", "a word is missing after 'into'; expected the label of a line `place`"),
     (b"Create p Frozen State", "'p' stands in place of `into`"),
     (b"Freeze p", "a word is missing after 'p'; expected the reason: KnownReturnSignature"),

@@ -44,7 +44,7 @@ def candidate(line, labels, code):
     if 1 in used:
         words[1] = labels.take(line, "place")
     if 2 in used:
-        line.expect("into", "the place that is written to")
+        line.expect("into", "the place of the destination")
         words[2] = labels.take(line, "place")
     if 3 in used:
         words[3] = word_three(line, code)

@@ -2,6 +2,7 @@
 -- (document 01, 'The job image and its program'). Assumes nothing: these are definitions.
 use Prim.Native.Nat.{ℕ, _+_, _*_, _≤_}
 use mathlib.Core.Bool.{Bool, false, not, _||_}
+use mathlib.Core.Path.{_≡_}
 use mathlib.Core.List.{List}
 use lib.Dec.{eqb}
 use lib.ListN.{length, take}
@@ -14,7 +15,7 @@ use Rattle.image.specs.Listing.{refusalLine}
 use Rattle.images.specs.declared.Job.{Job}
 use Rattle.images.specs.Reading.{Tables, tables, jobOf, filled, lentWrong}
 use Rattle.signatures.specs.Calls.{Call, Outcome, call, outcome}
-use Rattle.listings.specs.Texts.{lentListing}
+use Rattle.listings.specs.Texts.{Cursor, putAll, lentListing}
 
 -- tables at their full size, and nothing in them
 -- 1,024 values, 512 rows of 16 words, a context, 64 records of 98 words
@@ -66,9 +67,16 @@ unfoldable pub written : List ℕ → ℕ → ℕ → ℕ → ℕ → ℕ → �
 written bytes words values sets context candidates output scratch64 scratch32 buffer =
     ite (memoryWrong output scratch64 scratch32 buffer || lentWrong words values sets context candidates) (refusalLine 1) (inferred bytes)
 
--- the lent tables have room for a job: its rows, its records, its scratch
+-- the lent tables have room for a job: its rows, its records, its scratch; and its session's entries are a word
 -- of an accepted image they do
 pub record Fits (ss xs s64 : List ℕ) (j : Job) : Type 0 where
   pub rows : setWords j ≤ length ss
   pub records : candidateWords j ≤ length xs
   pub scratch : 1024 + setWords j ≤ length s64
+  pub entries : j .session .entries ≤ 4294967295
+
+-- a text written into a buffer from a cursor on, and a buffer of 2,900,000 bytes suffices for it
+-- `putAll` leaves out what does not fit; with a buffer of the right length nothing is left out
+pub record Writes (text : List ℕ) (before after : Cursor) : Type 0 where
+  pub bytes : after ≡ putAll text before
+  pub suffices : length text ≤ 2900000

@@ -3,9 +3,9 @@ use Prim.Native.Nat.{ℕ, _+_, _*_, _≤_}
 use native.Mathlib.Omega.{arith}
 use mathlib.Core.Path.{_≡_, refl, sym, ap, ap₂, _∙_}
 use mathlib.Core.Bool.{Bool, true, false, not, _||_}
-use mathlib.Core.List.{List, []}
+use mathlib.Core.List.{List, [], _++_}
 use lib.Dec.{eqb, ltb}
-use lib.ListN.{length, take, getD}
+use lib.ListN.{length, take, drop, getD}
 use lib.Seq.{length-take-le}
 use borrow.Author.Tests.{eq-eqb, ne-eqb, eqb-true, ltb-false, not-false}
 use mathlib.Core.Logic.{⊎-elim}
@@ -34,31 +34,58 @@ use Rattle.merge_calls.specs.MergeCalls.{lower}
 use Rattle.word_classes.specs.Classes.{earns}
 use Rattle.effect_classes.specs.EffectClasses.{instructionClass}
 use Rattle.context_accepts.specs.Accepting.{contextClass}
-use Rattle.signatures.specs.Calls.{Call, Outcome, call, given, lengthsWrong, candidateCount, callClass, lentInstruction, lentWorld, concluded, outcome}
+use Rattle.signatures.specs.Calls.{Call, Outcome, call, given, lengthsWrong, candidateCount, callClass, lentInstruction, lentWorld, refusedWith, concluded, outcome}
 use Rattle.listings.specs.Texts.{Cursor, cursor, putAll, lentListing, lentRefusal}
-use Rattle.images.specs.Reading.{Tables, tables, Read, jobOf, filled, noJob, refusedWith, lentWrong, readClass, readImage}
-use Rattle.images.specs.Reading as Reading
-use Rattle.infers.specs.Inferring.{empty, setWords, candidateWords, jobCall, imageCall, shown, inferred, memoryWrong, written, Fits}
+use Rattle.listings.specs.TextLaws.{put-fits}
+use Rattle.suffices.specs.Suffices.{nothing-lost}
+use Rattle.images.specs.Reading.{Tables, tables, Read, jobOf, filled, noJob, lentWrong, readClass, readImage}
+use Rattle.infers.specs.Inferring.{empty, setWords, candidateWords, jobCall, imageCall, shown, inferred, memoryWrong, written, Fits, Writes}
 
 -- ---- what is shown of a call
 
+-- what is shown where a refusal has a number
+-- it prints only that
+refused-shown : (a : Applied) (vs ss cs os s64 s32 : List ℕ) (c : Call) → given a vs ss cs os s64 s32 ≡ outcome c → (a .refusal ≡ 0 → ⊥) → lentRefusal (a .refusal) ≡ shown (outcome c)
+unfolding shown lentRefusal
+refused-shown a vs ss cs os s64 s32 c h n =
+    sym (ite-ne (a .refusal) 0 (lentListing os (a .count) (a .entries) vs ss (a .session .access)) (refusalLine (a .refusal)) n) ∙ ap shown h
+
+-- what is shown where there is none
+-- the listing of all that the call left
+listing-shown : (a : Applied) (vs ss cs os s64 s32 : List ℕ) (c : Call) → given a vs ss cs os s64 s32 ≡ outcome c → a .refusal ≡ 0 → lentListing os (a .count) (a .entries) vs ss (a .session .access) ≡ shown (outcome c)
+unfolding shown
+listing-shown a vs ss cs os s64 s32 c h n =
+    sym (ite-eq (a .refusal) 0 (lentListing os (a .count) (a .entries) vs ss (a .session .access)) (refusalLine (a .refusal)) n) ∙ ap shown h
+
+-- a text that is another is written as that one
+-- and as long
+as-text : {s t : List ℕ} {d e : Cursor} → s ≡ t → Writes s d e → Writes t d e
+as-text {s} {t} {d} {e} h w = record { bytes = w .bytes ∙ ap (λ (l : List ℕ). putAll l d) h; suffices = let k = ap length h in let m = w .suffices in omega arith }
+
+-- no call answers with more than 1,120 effects
+-- one that a class refuses answers with none
+count-most : (c : Call) → c .session .entries ≤ 4294967295 → outcome c .applied .count ≤ 1120
+unfolding outcome
+count-most c h =
+    ⊎-elim
+    (λ z. nothing-lost c z h)
+    (λ z. let k = ap (λ (x : Outcome). x .applied .count) (ite-ne (callClass c) 0 (concluded c (applySignature (lentInstruction c) (lentWorld c))) (refusedWith (callClass c) c) z) in omega arith)
+    (same-or-not (callClass c) 0)
+
 -- a refused call: its number
 -- one way through `run_job`
-pub shows-refused : (a : Applied) (vs ss cs os s64 s32 : List ℕ) (c : Call) (d e : Cursor) → given a vs ss cs os s64 s32 ≡ outcome c → (a .refusal ≡ 0 → ⊥) → e ≡ putAll (lentRefusal (a .refusal)) d → e ≡ putAll (shown (outcome c)) d
-unfolding shown lentRefusal
-shows-refused a vs ss cs os s64 s32 c d e h n p =
-    p
-    ∙ ap (λ (l : List ℕ). putAll l d) (sym (ite-ne (a .refusal) 0 (lentListing os (a .count) (a .entries) vs ss (a .session .access)) (refusalLine (a .refusal)) n))
-    ∙ ap (λ (o : Outcome). putAll (shown o) d) h
+pub shows-refused : (a : Applied) (vs ss cs os s64 s32 : List ℕ) (c : Call) (d e : Cursor) → given a vs ss cs os s64 s32 ≡ outcome c → (a .refusal ≡ 0 → ⊥) → (e ≡ putAll (lentRefusal (a .refusal)) d) × (length (lentRefusal (a .refusal)) ≤ 2900000) → Writes (shown (outcome c)) d e
+shows-refused a vs ss cs os s64 s32 c d e h n p = as-text (refused-shown a vs ss cs os s64 s32 c h n) (record { bytes = p .0; suffices = p .1 })
 
 -- a call that ends: its listing
 -- the other way
-pub shows-listing : (a : Applied) (vs ss cs os s64 s32 : List ℕ) (c : Call) (d e : Cursor) → given a vs ss cs os s64 s32 ≡ outcome c → a .refusal ≡ 0 → e ≡ putAll (lentListing os (a .count) (a .entries) vs ss (a .session .access)) d → e ≡ putAll (shown (outcome c)) d
-unfolding shown
-shows-listing a vs ss cs os s64 s32 c d e h n p =
-    p
-    ∙ ap (λ (l : List ℕ). putAll l d) (sym (ite-eq (a .refusal) 0 (lentListing os (a .count) (a .entries) vs ss (a .session .access)) (refusalLine (a .refusal)) n))
-    ∙ ap (λ (o : Outcome). putAll (shown o) d) h
+pub shows-listing : (a : Applied) (vs ss cs os s64 s32 : List ℕ) (c : Call) (d e : Cursor) → given a vs ss cs os s64 s32 ≡ outcome c → a .refusal ≡ 0 → c .session .entries ≤ 4294967295
+    → (e ≡ putAll (lentListing os (a .count) (a .entries) vs ss (a .session .access)) d) × (a .count ≤ 1120 → length (lentListing os (a .count) (a .entries) vs ss (a .session .access)) ≤ 2900000)
+    → Writes (shown (outcome c)) d e
+shows-listing a vs ss cs os s64 s32 c d e h n l p =
+    let m = count-most c l in
+    let k = ap (λ (x : Outcome). x .applied .count) h in
+    as-text (listing-shown a vs ss cs os s64 s32 c h n) (record { bytes = p .0; suffices = p .1 (omega arith) })
 
 -- ---- the memory of a call
 
@@ -128,17 +155,18 @@ module _ (vs ss : List ℕ) (flag : Bool) (cs : List ℕ) (s : Session) (xs : Li
 -- the rows, the records and the scratch that the call is lent are those of the job
 -- the way through `run_tables`
 pub runs-job : (vs ss cs xs : List ℕ) (j : Job) (os s64 s32 : List ℕ) (m n e : ℕ) (d c : Cursor) → m ≡ setWords j → n ≡ candidateWords j → e ≡ 1024 + m → e ≤ length s64 → length os ≡ 109760 → length s32 ≡ 22786
-    → d ≡ putAll (shown (outcome (call vs (take m ss) false cs (j .session) (take n xs) (j .lvalue) (j .own) os (take e s64) s32))) c
-    → d ≡ putAll (shown (outcome (jobCall j (tables vs ss cs xs)))) c
+    → Writes (shown (outcome (call vs (take m ss) false cs (j .session) (take n xs) (j .lvalue) (j .own) os (take e s64) s32))) c d
+    → Writes (shown (outcome (jobCall j (tables vs ss cs xs)))) c d
 unfolding jobCall
 runs-job vs ss cs xs j os s64 s32 m n e d c hm hn he l ho hs h =
-    h
-    ∙ ap₂ (λ (a b : ℕ). putAll (shown (outcome (call vs (take a ss) false cs (j .session) (take b xs) (j .lvalue) (j .own) os (take e s64) s32))) c) hm hn
-    ∙ ap (λ (o : Outcome). putAll (shown o) c)
+    as-text
+    (ap₂ (λ (a b : ℕ). shown (outcome (call vs (take a ss) false cs (j .session) (take b xs) (j .lvalue) (j .own) os (take e s64) s32))) hm hn
+    ∙ ap shown
     (memory-same vs (take (setWords j) ss) false cs (j .session) (take (candidateWords j) xs) (j .lvalue) (j .own) os (zeros 109760) (take e s64) (zeros (1024 + setWords j)) s32 (zeros 22786)
     (ho ∙ sym (zeros-length 109760))
     (length-take-le e s64 l ∙ he ∙ ap (λ (a : ℕ). 1024 + a) hm ∙ sym (zeros-length (1024 + setWords j)))
-    (hs ∙ sym (zeros-length 22786)))
+    (hs ∙ sym (zeros-length 22786))))
+    h
 
 -- ---- lengths
 
@@ -242,9 +270,9 @@ module _ (bs : List ℕ) (w : ℕ) (vs ss cs xs : List ℕ) (o p q b : ℕ) wher
 
   -- memory of the wrong length
   -- "1 a lent slice or image has the wrong length"
-  pub lists-memory : (d e : Cursor) → true ≡ memoryWrong o p q b → e ≡ putAll (lentRefusal 1) d → e ≡ putAll text d
+  pub lists-memory : (d e : Cursor) → true ≡ memoryWrong o p q b → (e ≡ putAll (lentRefusal 1) d) × (length (lentRefusal 1) ≤ 2900000) → Writes text d e
   unfolding written lentRefusal
-  lists-memory d e h g = g ∙ ap (λ (x : Bool). putAll (ite (x || wrong) (refusalLine 1) (inferred bs)) d) h
+  lists-memory d e h g = as-text (ap (λ (x : Bool). ite (x || wrong) (refusalLine 1) (inferred bs)) h) (record { bytes = g .0; suffices = g .1 })
 
   -- memory of the right lengths: the tables and the image decide
   -- as they do where the image is read
@@ -284,9 +312,9 @@ module _ (bs : List ℕ) (w : ℕ) (vs ss cs xs : List ℕ) (o p q b : ℕ) wher
 
   -- a refused image: its number
   -- the tables are as they were
-  pub lists-refused : (r : Read) (d e : Cursor) → false ≡ memoryWrong o p q b → r ≡ readImage bs w t → (r .job .refusal ≡ 0 → ⊥) → e ≡ putAll (lentRefusal (r .job .refusal)) d → e ≡ putAll text d
+  pub lists-refused : (r : Read) (d e : Cursor) → false ≡ memoryWrong o p q b → r ≡ readImage bs w t → (r .job .refusal ≡ 0 → ⊥) → (e ≡ putAll (lentRefusal (r .job .refusal)) d) × (length (lentRefusal (r .job .refusal)) ≤ 2900000) → Writes text d e
   unfolding lentRefusal
-  lists-refused r d e m h n g = g ∙ ap (λ (l : List ℕ). putAll l d) (by-number (r .job .refusal) (read-number r h n) n ∙ sym (text-read m))
+  lists-refused r d e m h n g = as-text (by-number (r .job .refusal) (read-number r h n) n ∙ sym (text-read m)) (record { bytes = g .0; suffices = g .1 })
 
   -- an accepted image, with tables of the right lengths
   -- both follow where no class was earned
@@ -326,8 +354,8 @@ module _ (bs : List ℕ) (w : ℕ) (vs ss cs xs : List ℕ) (o p q b : ℕ) wher
   -- the tables that were read have room for it
   pub lists-job : (r : Read) (os s64 s32 : List ℕ) (d e : Cursor) → false ≡ memoryWrong o p q b → o ≡ length os → p ≡ length s64 → q ≡ length s32 → r ≡ readImage bs w t → r .job .refusal ≡ 0
       → length (r .tables .sets) ≡ length ss → length (r .tables .candidates) ≡ length xs
-      → (Fits (r .tables .sets) (r .tables .candidates) s64 (r .job) → length os ≡ 109760 → length s32 ≡ 22786 → e ≡ putAll (shown (outcome (jobCall (r .job) (r .tables)))) d)
-      → e ≡ putAll text d
+      → (Fits (r .tables .sets) (r .tables .candidates) s64 (r .job) → length os ≡ 109760 → length s32 ≡ 22786 → Writes (shown (outcome (jobCall (r .job) (r .tables)))) d e)
+      → Writes text d e
   unfolding jobOf
   lists-job r os s64 s32 d e m ho hp hq h n ls lx f =
       let c = read-class r h n in
@@ -338,7 +366,19 @@ module _ (bs : List ℕ) (w : ℕ) (vs ss cs xs : List ℕ) (o p q b : ℕ) wher
       let g = read-whole r h c in
       let i = ap (λ (x : Read). x .job .identifiers) g in
       let j = ap (λ (x : Read). x .job .candidates) g in
-      f (record { rows = omega (arith, l .1); records = omega (arith, l .3); scratch = omega (arith, u .1) }) (sym ho ∙ u .0) (sym hq ∙ u .2)
-      ∙ ap (λ (x : Read). putAll (shown (outcome (jobCall (x .job) (x .tables)))) d) g
-      ∙ ap (λ (x : Tables). putAll (shown (outcome (jobCall (jobOf (wordsOf bs)) x))) d) (filled-empty (wordsOf bs) (a .0))
-      ∙ ap (λ (x : List ℕ). putAll x d) (sym (text-job m (a .0) (a .1)))
+      as-text
+      (ap (λ (x : Read). shown (outcome (jobCall (x .job) (x .tables)))) g
+      ∙ ap (λ (x : Tables). shown (outcome (jobCall (jobOf (wordsOf bs)) x))) (filled-empty (wordsOf bs) (a .0))
+      ∙ sym (text-job m (a .0) (a .1)))
+      (f (record { rows = omega (arith, l .1); records = omega (arith, l .3); scratch = omega (arith, u .1); entries = omega (arith, ap (λ (x : Read). x .job .session .entries) g) }) (sym ho ∙ u .0) (sym hq ∙ u .2))
+
+-- ---- a buffer of the right length
+
+-- it holds the whole text from its first byte on, and the answer is how long the text is
+-- what `Writes` says of such a buffer
+pub written-whole : (text bs us : List ℕ) (r : ℕ) → length bs ≡ 2900000 → Writes text (cursor 0 bs) (cursor r us) → (r ≡ length text) × (us ≡ text ++ drop (length text) bs)
+written-whole text bs us r l w =
+    let s = w .suffices in
+    let z : 0 + length text ≡ length text = omega arith in
+    let e = w .bytes ∙ put-fits text 0 bs (omega arith) ∙ ap (λ (m : ℕ). cursor m (text ++ drop m bs)) z in
+    (ap (λ (c : Cursor). c .at) e, ap (λ (c : Cursor). c .bytes) e)

@@ -1,13 +1,14 @@
 // From the bytes of a job image to the bytes of its listing: all that the program `infer` does between reading and writing (document 01, 'The job image and its program').
 // A host that wants more than a listing calls `images::read_image` and `signatures::apply_signature` itself.
 ghost use mathlib.Core.Path.{_≡_};
+ghost use Prim.Native.Nat.{_≤_};
 ghost use lib.ListN.{length};
 ghost use mathlib.Core.Bool.{false};
 ghost use Rattle.signatures.specs.Calls.{call, outcome};
-ghost use Rattle.listings.specs.Texts.{cursor, putAll};
+ghost use Rattle.listings.specs.Texts.{cursor};
 ghost use Rattle.images.specs.Reading.{tables};
 ghost use Rattle.copies.specs.Copies.{zeros};
-ghost use Rattle.infers.specs.Inferring.{Fits, jobCall, shown, memoryWrong, written};
+ghost use Rattle.infers.specs.Inferring.{Fits, Writes, jobCall, shown, memoryWrong, written};
 use copies::clear32;
 use copies::clear64;
 use images::Job;
@@ -29,7 +30,7 @@ fn run_job(
     scratch32: &mut [u32],
     buffer: &mut [u8],
 ) -> usize
-    ensures { λ r. ⌜ cursor r (now (buffer .exit)) ≡ putAll (shown (outcome (call (now (values .entry)) (now (sets .entry)) false (now (context .entry)) (job .session) (now (candidates .entry)) (job .lvalue) (job .own) (now (output .entry)) (now (scratch64 .entry)) (now (scratch32 .entry))))) (cursor 0 (now (buffer .entry))) ⌝ }
+    ensures { λ r. ⌜ (job .session .entries ≤ 4294967295 → Writes (shown (outcome (call (now (values .entry)) (now (sets .entry)) false (now (context .entry)) (job .session) (now (candidates .entry)) (job .lvalue) (job .own) (now (output .entry)) (now (scratch64 .entry)) (now (scratch32 .entry))))) (cursor 0 (now (buffer .entry))) (cursor r (now (buffer .exit)))) ⌝ }
 {
     let session = job.session;
     let lvalue = job.lvalue;
@@ -82,7 +83,7 @@ fn run_tables(
     scratch32: &mut [u32],
     buffer: &mut [u8],
 ) -> usize
-    ensures { λ r. ⌜ (Fits (now (sets .entry)) (now (candidates .entry)) (now (scratch64 .entry)) job → length (now (output .entry)) ≡ 109760 → length (now (scratch32 .entry)) ≡ 22786 → cursor r (now (buffer .exit)) ≡ putAll (shown (outcome (jobCall job (tables (now (values .entry)) (now (sets .entry)) (now (context .entry)) (now (candidates .entry)))))) (cursor 0 (now (buffer .entry)))) ⌝ }
+    ensures { λ r. ⌜ (Fits (now (sets .entry)) (now (candidates .entry)) (now (scratch64 .entry)) job → length (now (output .entry)) ≡ 109760 → length (now (scratch32 .entry)) ≡ 22786 → Writes (shown (outcome (jobCall job (tables (now (values .entry)) (now (sets .entry)) (now (context .entry)) (now (candidates .entry)))))) (cursor 0 (now (buffer .entry))) (cursor r (now (buffer .exit)))) ⌝ }
 {
     let m = 16 * wide(job.identifiers);
     let n = 98 * wide(job.candidates);
@@ -140,7 +141,7 @@ fn list_image(
     scratch32: &mut [u32],
     buffer: &mut [u8],
 ) -> usize
-    ensures { λ r. ⌜ cursor r (now (buffer .exit)) ≡ putAll (written (now (bytes .entry)) (length (now (words .entry))) (length (now (values .entry))) (length (now (sets .entry))) (length (now (context .entry))) (length (now (candidates .entry))) (length (now (output .entry))) (length (now (scratch64 .entry))) (length (now (scratch32 .entry))) (length (now (buffer .entry)))) (cursor 0 (now (buffer .entry))) ⌝ }
+    ensures { λ r. ⌜ Writes (written (now (bytes .entry)) (length (now (words .entry))) (length (now (values .entry))) (length (now (sets .entry))) (length (now (context .entry))) (length (now (candidates .entry))) (length (now (output .entry))) (length (now (scratch64 .entry))) (length (now (scratch32 .entry))) (length (now (buffer .entry)))) (cursor 0 (now (buffer .entry))) (cursor r (now (buffer .exit))) ⌝ }
 {
     if memory_wrong(output, scratch64, scratch32, buffer) {
         return put_refusal(buffer, 1);
@@ -198,7 +199,7 @@ pub fn infer(
     scratch32: &mut [u32],
     buffer: &mut [u8],
 ) -> usize
-    ensures { λ r. ⌜ (cursor r (now (buffer .exit)) ≡ putAll (written (now (bytes .entry)) (length (now (words .entry))) (length (now (values .entry))) (length (now (sets .entry))) (length (now (context .entry))) (length (now (candidates .entry))) (length (now (output .entry))) (length (now (scratch64 .entry))) (length (now (scratch32 .entry))) (length (now (buffer .entry)))) (cursor 0 (now (buffer .entry)))) × (now (words .exit) ≡ zeros (length (now (words .entry)))) × (now (values .exit) ≡ zeros (length (now (values .entry)))) × (now (sets .exit) ≡ zeros (length (now (sets .entry)))) × (now (context .exit) ≡ zeros (length (now (context .entry)))) × (now (candidates .exit) ≡ zeros (length (now (candidates .entry)))) × (now (output .exit) ≡ zeros (length (now (output .entry)))) × (now (scratch64 .exit) ≡ zeros (length (now (scratch64 .entry)))) × (now (scratch32 .exit) ≡ zeros (length (now (scratch32 .entry)))) ⌝ }
+    ensures { λ r. ⌜ Writes (written (now (bytes .entry)) (length (now (words .entry))) (length (now (values .entry))) (length (now (sets .entry))) (length (now (context .entry))) (length (now (candidates .entry))) (length (now (output .entry))) (length (now (scratch64 .entry))) (length (now (scratch32 .entry))) (length (now (buffer .entry)))) (cursor 0 (now (buffer .entry))) (cursor r (now (buffer .exit))) × (now (words .exit) ≡ zeros (length (now (words .entry)))) × (now (values .exit) ≡ zeros (length (now (values .entry)))) × (now (sets .exit) ≡ zeros (length (now (sets .entry)))) × (now (context .exit) ≡ zeros (length (now (context .entry)))) × (now (candidates .exit) ≡ zeros (length (now (candidates .entry)))) × (now (output .exit) ≡ zeros (length (now (output .entry)))) × (now (scratch64 .exit) ≡ zeros (length (now (scratch64 .entry)))) × (now (scratch32 .exit) ≡ zeros (length (now (scratch32 .entry)))) ⌝ }
 {
     let length = list_image(
         bytes,

@@ -28,8 +28,8 @@ use Rattle.records.specs.Records.{heads, headIn, effectIn, effectWith, countedP
 use Rattle.contexts.specs.Lent.{effectsIn}
 use Rattle.lent.specs.World.{output}
 use Rattle.kinds.specs.Values.{mk}
-use Rattle.image.specs.Listing.{ascii, decimal, shown, line, row, place, mutationReason, effectRow, effectLines, linesFrom, valueLine, setLine, shownAll, undefinedIdentifier, orAbsent, shownLines}
-use Rattle.listings.specs.Texts.{cursor, putAll, lentListing, valueLines, setLines}
+use Rattle.image.specs.Listing.{ascii, decimal, shown, line, row, place, mutationReason, effectRow, effectLines, linesFrom, valueLine, setLine, shownAll, undefinedIdentifier, orAbsent, shownLines, refusalLine}
+use Rattle.listings.specs.Texts.{cursor, putAll, lentListing, lentRefusal, valueLines, setLines}
 use Rattle.listings.specs.TextLaws.{put-fits}
 use Rattle.listings.specs.Lengths.{Small, shown-small, columns-small, absent-small, line-length, lines-length}
 use Rattle.listings.specs.Loops.{not-shown, effects-length}
@@ -258,3 +258,12 @@ listing-whole os count entries vs ss access r bs us w c n a l p =
     let s = listing-suffices os count entries vs ss access w c n a in
     let z : 0 + length t ≡ length t = omega arith in
     p ∙ put-fits t 0 bs (omega arith) ∙ ap (λ (m : ℕ). cursor m (t ++ drop m bs)) z
+
+-- and what is written of a refusal
+-- its number is a word
+pub refusal-suffices : (n : ℕ) → n < 4294967296 → length (lentRefusal n) ≤ 2900000
+unfolding lentRefusal refusalLine ascii
+refusal-suffices n h =
+    let e = line-length (ascii "REFUSED") (some n ∷ []) in
+    let s = columns-small (some n ∷ []) (h, tt) in
+    omega arith

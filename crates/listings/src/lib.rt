@@ -1,7 +1,8 @@
 // The listing of a job as bytes in a lent buffer (document 01, 'The job image and its program').
 // Every function writes from a place of the buffer on and answers the place after; what does not fit is left out.
 ghost use mathlib.Core.Path.{_≡_};
-ghost use Prim.Native.Nat.{_+_, _%_};
+ghost use Prim.Native.Nat.{_+_, _%_, _≤_};
+ghost use lib.ListN.{length};
 ghost use mathlib.Core.List.{List, [], _∷_};
 ghost use mathlib.Core.Option.{none, some};
 ghost use Rattle.kinds.specs.Kinds as Kinds;
@@ -429,7 +430,7 @@ fn put_undefined(buffer: &mut [u8], at: usize, access: u32) -> usize
 }
 
 // The listing of what a call left in the lent tables, from the buffer's first byte on; the answer is its length.
-// What the buffer has no room for is left out; a buffer of 2,900,000 bytes suffices for every result.
+// What the buffer has no room for is left out; a buffer of 2,900,000 bytes suffices for every result, of which no more than 1,120 effects are listed.
 pub fn put_listing(
     buffer: &mut [u8],
     output: &[u32],
@@ -439,7 +440,7 @@ pub fn put_listing(
     sets: &[u64],
     access: u32,
 ) -> usize
-    ensures { λ r. ⌜ cursor r (now (buffer .exit)) ≡ putAll (lentListing (now (output .entry)) count entries (now (values .entry)) (now (sets .entry)) access) (cursor 0 (now (buffer .entry))) ⌝ }
+    ensures { λ r. ⌜ (cursor r (now (buffer .exit)) ≡ putAll (lentListing (now (output .entry)) count entries (now (values .entry)) (now (sets .entry)) access) (cursor 0 (now (buffer .entry)))) × (count ≤ 1120 → length (lentListing (now (output .entry)) count entries (now (values .entry)) (now (sets .entry)) access) ≤ 2900000) ⌝ }
 {
     let a = put_head(buffer, 0, count, entries);
     let b = effect_lines(buffer, a, output, count);
@@ -465,7 +466,7 @@ fn put_refused(buffer: &mut [u8], at: usize) -> usize
 // What is written of a refusal, from the buffer's first byte on; the answer is its length.
 // "A refusal prints only `REFUSED n`."
 pub fn put_refusal(buffer: &mut [u8], n: u32) -> usize
-    ensures { λ r. ⌜ cursor r (now (buffer .exit)) ≡ putAll (lentRefusal n) (cursor 0 (now (buffer .entry))) ⌝ }
+    ensures { λ r. ⌜ (cursor r (now (buffer .exit)) ≡ putAll (lentRefusal n) (cursor 0 (now (buffer .entry)))) × (length (lentRefusal n) ≤ 2900000) ⌝ }
 {
     let a = put_refused(buffer, 0);
     let b = put_number(buffer, a, n);

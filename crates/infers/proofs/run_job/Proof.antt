@@ -47,7 +47,7 @@ same-length-7 c = search needs
 
 -- src/lib.rt:48:9
 returns : tie.Need-returns
-returns c = shows-refused _ _ _ _ _ _ _ _ _ _ (c .before .before .before .before .before .before .before .before .before .before .before .before .before .before .before .before .before .before .apply-signature .ensures .0) (c .before .before .before .before .if1 .taken) (c .before .before .put-refusal .ensures)
+returns c = λ l. shows-refused _ _ _ _ _ _ _ _ _ _ (c .before .before .before .before .before .before .before .before .before .before .before .before .before .before .before .before .before .before .apply-signature .ensures .0) (c .before .before .before .before .if1 .taken) (c .before .before .put-refusal .ensures)
 
 -- src/lib.rt:51:5
 put-listing-requires : tie.Need-put-listing-requires
@@ -83,7 +83,7 @@ same-length-14 c = search needs
 
 -- src/lib.rt:19:1
 returns-2 : tie.Need-returns-2
-returns-2 c = shows-listing _ _ _ _ _ _ _ _ _ _ (c .before .before .before .before .before .before .before .before .before .before .before .before .before .before .before .before .before .before .before .before .before .before .apply-signature .ensures .0) (c .before .before .before .before .before .before .before .before .if1 .left) (c .before .before .put-listing .ensures)
+returns-2 c = λ l. shows-listing _ _ _ _ _ _ _ _ _ _ (c .before .before .before .before .before .before .before .before .before .before .before .before .before .before .before .before .before .before .before .before .before .before .apply-signature .ensures .0) (c .before .before .before .before .before .before .before .before .if1 .left) l (c .before .before .put-listing .ensures)
 
 pub run-job-spec : {M : Type 1} → statement M
 run-job-spec =

@@ -98,7 +98,7 @@ same-length-7 c = search needs
 
 -- src/lib.rt:75:1
 returns-4 : tie.Need-returns-4
-returns-4 c = λ h a b. runs-job _ _ _ _ _ _ _ _ _ _ _ _ _ (ap (λ (x : ℕ). 16 * x) (c .before .before .before .before .before .before .before .before .before .before .before .before .before .before .before .before .before .before .before .before .before .before .before .before .before .before .before .wide .ensures)) (ap (λ (x : ℕ). 98 * x) (c .before .before .before .before .before .before .before .before .before .before .before .before .before .before .before .before .before .before .before .before .before .before .before .before .before .before .wide2 .ensures)) refl (c .before .before .before .before .before .before .before .before .before .before .before .before .before .before .before .before .before .before .before .before .before .before .before .if3 .left) a b (c .before .before .before .before .before .before .before .before .before .before .before .before .before .before .run-job .ensures)
+returns-4 c = λ h a b. runs-job _ _ _ _ _ _ _ _ _ _ _ _ _ (ap (λ (x : ℕ). 16 * x) (c .before .before .before .before .before .before .before .before .before .before .before .before .before .before .before .before .before .before .before .before .before .before .before .before .before .before .before .wide .ensures)) (ap (λ (x : ℕ). 98 * x) (c .before .before .before .before .before .before .before .before .before .before .before .before .before .before .before .before .before .before .before .before .before .before .before .before .before .before .wide2 .ensures)) refl (c .before .before .before .before .before .before .before .before .before .before .before .before .before .before .before .before .before .before .before .before .before .before .before .if3 .left) a b (c .before .before .before .before .before .before .before .before .before .before .before .before .before .before .run-job .ensures (h .entries))
 
 pub run-tables-spec : {M : Type 1} → statement M
 run-tables-spec =

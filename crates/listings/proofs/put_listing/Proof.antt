@@ -3,6 +3,7 @@ use mathlib.Core.Path.{_≡_, refl, sym, ap, _∙_}
 use Prim.Native.Nat.{ℕ, _-_, _+_, _<_}
 use lib.ListN.{length}
 use Rattle.listings.specs.Loops.{listing-is}
+use Rattle.listings.specs.Suffices.{listing-suffices}
 use borrow.Author.Needs.{needs}
 use Rattle.listings.proofs.put_listing.Statement.{statement}
 use Rattle.listings.proofs.put_listing.Tie as tie
@@ -40,7 +41,7 @@ same-length c = search needs
 
 -- src/lib.rt:433:1
 returns : tie.Need-returns
-returns c = listing-is _ _ _ _ _ _ _ _ _ _ _ _ (c .before .before .before .before .before .before .before .before .before .before .before .before .before .before .before .before .before .before .put-head .ensures) (c .before .before .before .before .before .before .before .before .before .before .before .before .before .before .effect-lines .ensures) (c .before .before .before .before .before .before .before .before .before .before .value-lines .ensures) (c .before .before .before .before .before .before .set-lines .ensures) (c .before .before .put-undefined .ensures)
+returns c = (listing-is _ _ _ _ _ _ _ _ _ _ _ _ (c .before .before .before .before .before .before .before .before .before .before .before .before .before .before .before .before .before .before .put-head .ensures) (c .before .before .before .before .before .before .before .before .before .before .before .before .before .before .effect-lines .ensures) (c .before .before .before .before .before .before .before .before .before .before .value-lines .ensures) (c .before .before .before .before .before .before .set-lines .ensures) (c .before .before .put-undefined .ensures), λ h. listing-suffices _ _ _ _ _ _ (λ j. omega (arith, c .before .before .before .before .before .before .before .before .before .before .before .before .before .before .before .before .before .before .before .before .before .before .shared-slice-known .given j)) h (omega arith) (omega arith))
 
 pub put-listing-spec : {M : Type 1} → statement M
 put-listing-spec =

@@ -1,3 +1,4 @@
+use Rattle.listings.specs.Suffices.{refusal-suffices}
 use native.Mathlib.Omega.{arith}
 use mathlib.Core.Path.{_≡_, refl, sym, ap, _∙_}
 use Rattle.listings.specs.Lines.{refusal-is}
@@ -28,7 +29,7 @@ same-length c = search needs
 
 -- src/lib.rt:522:1
 returns : tie.Need-returns
-returns c = refusal-is _ _ _ _ _ (c .before .before .before .before .before .before .before .before .before .before .put-refused .ensures) (c .before .before .before .before .before .before .put-number .ensures) (c .before .before .put-newline .ensures)
+returns c = (refusal-is _ _ _ _ _ (c .before .before .before .before .before .before .before .before .before .before .put-refused .ensures) (c .before .before .before .before .before .before .put-number .ensures) (c .before .before .put-newline .ensures), refusal-suffices _ (omega arith))
 
 pub put-refusal-spec : {M : Type 1} → statement M
 put-refusal-spec =
