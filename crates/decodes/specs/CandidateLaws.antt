@@ -16,7 +16,7 @@ use Rattle.records.specs.declared.AliasingEffect.{AliasingEffect as Head}
 use Rattle.records.specs.declared.AliasingEffect.the-variants as Head
 use Rattle.records.specs.Records.{effectWith, putEffect}
 use Rattle.records.specs.HeadLaws.{lower-or-not}
-use Rattle.instructions.specs.Instructions.{candidateTable}
+use Rattle.effect_classes.specs.EffectClasses.{candidateTable}
 use Rattle.image.specs.Layout.{cell, code, firstPlace, secondPlace, detail, reason, function, capturesFirst, capturesCount}
 use Rattle.image.specs.Decode.{listFrom, placeAt, placesFrom, makers, effectAt}
 use Rattle.decodes.specs.Decoded.{decodedCandidate, diagnosticAt, headsAt, headAt}

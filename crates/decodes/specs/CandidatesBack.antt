@@ -11,7 +11,7 @@ use Rattle.words.specs.declared.Table.{Table}
 use Rattle.records.specs.Records.{effectIn, putEffect}
 use Rattle.records.specs.EffectFrames.{effect-cong, effect-length, effect-record}
 use Rattle.contexts.specs.Lent.{effectsIn}
-use Rattle.instructions.specs.Instructions.{candidateTable}
+use Rattle.effect_classes.specs.EffectClasses.{candidateTable}
 use Rattle.image.specs.Layout.{Image, code, firstPlace, capturesFirst, capturesCount}
 use Rattle.image.specs.Decode.{listFrom, placeAt, placesFrom, makers, effectAt}
 use Rattle.decodes.specs.Decoded.{after, decodedCandidate, decodedCandidates}

@@ -13,7 +13,7 @@ use Rattle.records.specs.declared.AliasingEffect.{AliasingEffect as Head}
 use Rattle.records.specs.declared.AliasingEffect.the-variants as Head
 use Rattle.records.specs.Records.{putEffect}
 use Rattle.contexts.specs.Layout as Lent
-use Rattle.instructions.specs.Instructions.{candidateTable}
+use Rattle.effect_classes.specs.EffectClasses.{candidateTable}
 use Rattle.image.specs.Layout.{Image, options, identifiers, functions, countOf, identifierFlags, identifierName, accessStart, accessEnd, valueNumber, valueKind, valueReasons, pairIdentifier, pairValue, functionFlags, contextFirst, contextCount, insideFirst, insideCount, code, firstPlace, secondPlace, detail, reason, function}
 use Rattle.image.specs.Decode.{memberOf, placeAt, placesFrom, effectAt}
 

@@ -6,7 +6,7 @@ ghost use Rattle.kinds.specs.Kinds.{kindAt};
 ghost use Rattle.effects.specs.Effects.{CreateFunction};
 ghost use Rattle.words.specs.Words.{putPlaces};
 ghost use Rattle.records.specs.Records.{putEffect};
-ghost use Rattle.instructions.specs.Instructions.{candidateTable};
+ghost use Rattle.effect_classes.specs.EffectClasses.{candidateTable};
 ghost use Rattle.image.specs.Layout as Image;
 ghost use Rattle.image.specs.Layout.{countOf};
 ghost use Rattle.image.specs.Decode.{memberOf, placeAt, placesFrom};

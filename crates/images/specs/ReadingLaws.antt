@@ -58,41 +58,38 @@ words-read bs im m vs ss cs xs us ts ds ys n j e f g hv hs hc hx hj =
 
 -- ---- lengths
 
+-- a length that is not what it must be
+-- the tests after it do not matter
+pub wrong-here : (m n : ℕ) (rest : Bool) → (m ≡ n → ⊥) → true ≡ (not (eqb m n) || rest)
+wrong-here m n rest h = sym (ap (λ (b : Bool). not b || rest) (ne-eqb m n h))
+
+-- a length that is
+-- the tests after it decide
+pub right-here : (m n : ℕ) (rest : Bool) → m ≡ n → rest ≡ (not (eqb m n) || rest)
+right-here m n rest h = sym (ap (λ (b : Bool). not b || rest) (eq-eqb m n h))
+
 -- the five lengths, tested one after the other
 -- one law for each way through `lent_wrong`
 module _ (w v s c x : ℕ) where
   pub wrong-words : (w ≡ 16384 → ⊥) → true ≡ lentWrong w v s c x
   unfolding lentWrong
-  wrong-words h = sym (ap (λ (b : Bool). not b || (not (eqb v 1024) || (not (eqb s 8192) || (not (eqb c Layout.long) || not (eqb x 6272))))) (ne-eqb w 16384 h))
+  wrong-words h = wrong-here w 16384 _ h
 
   pub wrong-values : w ≡ 16384 → (v ≡ 1024 → ⊥) → true ≡ lentWrong w v s c x
   unfolding lentWrong
-  wrong-values g h =
-      sym (ap (λ (b : Bool). not b || (not (eqb v 1024) || (not (eqb s 8192) || (not (eqb c Layout.long) || not (eqb x 6272))))) (eq-eqb w 16384 g)
-      ∙ ap (λ (b : Bool). not b || (not (eqb s 8192) || (not (eqb c Layout.long) || not (eqb x 6272)))) (ne-eqb v 1024 h))
+  wrong-values g h = wrong-here v 1024 _ h ∙ right-here w 16384 _ g
 
   pub wrong-sets : w ≡ 16384 → v ≡ 1024 → (s ≡ 8192 → ⊥) → true ≡ lentWrong w v s c x
   unfolding lentWrong
-  wrong-sets f g h =
-      sym (ap (λ (b : Bool). not b || (not (eqb v 1024) || (not (eqb s 8192) || (not (eqb c Layout.long) || not (eqb x 6272))))) (eq-eqb w 16384 f)
-      ∙ ap (λ (b : Bool). not b || (not (eqb s 8192) || (not (eqb c Layout.long) || not (eqb x 6272)))) (eq-eqb v 1024 g)
-      ∙ ap (λ (b : Bool). not b || (not (eqb c Layout.long) || not (eqb x 6272))) (ne-eqb s 8192 h))
+  wrong-sets f g h = wrong-here s 8192 _ h ∙ right-here v 1024 _ g ∙ right-here w 16384 _ f
 
   pub wrong-context : w ≡ 16384 → v ≡ 1024 → s ≡ 8192 → (c ≡ 235973 → ⊥) → true ≡ lentWrong w v s c x
   unfolding lentWrong
-  wrong-context e f g h =
-      sym (ap (λ (b : Bool). not b || (not (eqb v 1024) || (not (eqb s 8192) || (not (eqb c Layout.long) || not (eqb x 6272))))) (eq-eqb w 16384 e)
-      ∙ ap (λ (b : Bool). not b || (not (eqb s 8192) || (not (eqb c Layout.long) || not (eqb x 6272)))) (eq-eqb v 1024 f)
-      ∙ ap (λ (b : Bool). not b || (not (eqb c Layout.long) || not (eqb x 6272))) (eq-eqb s 8192 g)
-      ∙ ap (λ (b : Bool). not b || not (eqb x 6272)) (ne-eqb c 235973 h))
+  wrong-context e f g h = wrong-here c 235973 _ h ∙ right-here s 8192 _ g ∙ right-here v 1024 _ f ∙ right-here w 16384 _ e
 
   pub wrong-candidates : w ≡ 16384 → v ≡ 1024 → s ≡ 8192 → c ≡ 235973 → not (eqb x 6272) ≡ lentWrong w v s c x
   unfolding lentWrong
-  wrong-candidates d e f g =
-      sym (ap (λ (b : Bool). not b || (not (eqb v 1024) || (not (eqb s 8192) || (not (eqb c Layout.long) || not (eqb x 6272))))) (eq-eqb w 16384 d)
-      ∙ ap (λ (b : Bool). not b || (not (eqb s 8192) || (not (eqb c Layout.long) || not (eqb x 6272)))) (eq-eqb v 1024 e)
-      ∙ ap (λ (b : Bool). not b || (not (eqb c Layout.long) || not (eqb x 6272))) (eq-eqb s 8192 f)
-      ∙ ap (λ (b : Bool). not b || not (eqb x 6272)) (eq-eqb c 235973 g))
+  wrong-candidates d e f g = right-here c 235973 _ g ∙ right-here s 8192 _ f ∙ right-here v 1024 _ e ∙ right-here w 16384 _ d
 
 -- ---- the bytes of an image
 

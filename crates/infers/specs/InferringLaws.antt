@@ -7,7 +7,7 @@ use mathlib.Core.List.{List, [], _++_}
 use lib.Dec.{eqb, ltb}
 use lib.ListN.{length, take, drop, getD}
 use lib.Seq.{length-take-le}
-use borrow.Author.Tests.{eq-eqb, ne-eqb, eqb-true, ltb-false, not-false}
+use borrow.Author.Tests.{eqb-true, ltb-false, not-false}
 use mathlib.Core.Logic.{⊎-elim}
 use Rattle.rows.specs.BitLaws.{same-or-not}
 use Rattle.accepts.specs.TestLaws.{or-no-first, or-no-second}
@@ -38,6 +38,7 @@ use Rattle.signatures.specs.Calls.{Call, Outcome, call, given, lengthsWrong, ca
 use Rattle.listings.specs.Texts.{Cursor, cursor, putAll, lentListing, lentRefusal}
 use Rattle.listings.specs.TextLaws.{put-fits}
 use Rattle.suffices.specs.Suffices.{nothing-lost}
+use Rattle.images.specs.ReadingLaws.{wrong-here, right-here}
 use Rattle.images.specs.Reading.{Tables, tables, Read, jobOf, filled, noJob, lentWrong, readClass, readImage}
 use Rattle.infers.specs.Inferring.{empty, setWords, candidateWords, jobCall, imageCall, shown, inferred, memoryWrong, written, Fits, Writes}
 
@@ -175,27 +176,19 @@ runs-job vs ss cs xs j os s64 s32 m n e d c hm hn he l ho hs h =
 module _ (o p q b : ℕ) where
   pub wrong-output : (o ≡ 109760 → ⊥) → true ≡ memoryWrong o p q b
   unfolding memoryWrong
-  wrong-output h = sym (ap (λ (x : Bool). not x || (not (eqb p 9216) || (not (eqb q 22786) || not (eqb b 2900000)))) (ne-eqb o 109760 h))
+  wrong-output h = wrong-here o 109760 _ h
 
   pub wrong-64 : o ≡ 109760 → (p ≡ 9216 → ⊥) → true ≡ memoryWrong o p q b
   unfolding memoryWrong
-  wrong-64 g h =
-      sym (ap (λ (x : Bool). not x || (not (eqb p 9216) || (not (eqb q 22786) || not (eqb b 2900000)))) (eq-eqb o 109760 g)
-      ∙ ap (λ (x : Bool). not x || (not (eqb q 22786) || not (eqb b 2900000))) (ne-eqb p 9216 h))
+  wrong-64 g h = wrong-here p 9216 _ h ∙ right-here o 109760 _ g
 
   pub wrong-32 : o ≡ 109760 → p ≡ 9216 → (q ≡ 22786 → ⊥) → true ≡ memoryWrong o p q b
   unfolding memoryWrong
-  wrong-32 f g h =
-      sym (ap (λ (x : Bool). not x || (not (eqb p 9216) || (not (eqb q 22786) || not (eqb b 2900000)))) (eq-eqb o 109760 f)
-      ∙ ap (λ (x : Bool). not x || (not (eqb q 22786) || not (eqb b 2900000))) (eq-eqb p 9216 g)
-      ∙ ap (λ (x : Bool). not x || not (eqb b 2900000)) (ne-eqb q 22786 h))
+  wrong-32 f g h = wrong-here q 22786 _ h ∙ right-here p 9216 _ g ∙ right-here o 109760 _ f
 
   pub wrong-buffer : o ≡ 109760 → p ≡ 9216 → q ≡ 22786 → not (eqb b 2900000) ≡ memoryWrong o p q b
   unfolding memoryWrong
-  wrong-buffer e f g =
-      sym (ap (λ (x : Bool). not x || (not (eqb p 9216) || (not (eqb q 22786) || not (eqb b 2900000)))) (eq-eqb o 109760 e)
-      ∙ ap (λ (x : Bool). not x || (not (eqb q 22786) || not (eqb b 2900000))) (eq-eqb p 9216 f)
-      ∙ ap (λ (x : Bool). not x || not (eqb b 2900000)) (eq-eqb q 22786 g))
+  wrong-buffer e f g = right-here q 22786 _ g ∙ right-here p 9216 _ f ∙ right-here o 109760 _ e
 
   -- memory of the right lengths
   -- what is not wrong

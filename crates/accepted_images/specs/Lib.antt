@@ -1,0 +1,10 @@
+pub mod Facts
+pub mod Records
+pub mod Limits
+pub mod Places
+pub mod Lengths
+pub mod State
+pub mod Context
+pub mod Instruction
+pub mod Accepted
+pub mod Later
