@@ -71,22 +71,32 @@ right-here m n rest h = sym (ap (λ (b : Bool). not b || rest) (eq-eqb m n h))
 -- the five lengths, tested one after the other
 -- one law for each way through `lent_wrong`
 module _ (w v s c x : ℕ) where
+  -- scratch for the words has another length
+  -- nothing else is looked at
   pub wrong-words : (w ≡ 16384 → ⊥) → true ≡ lentWrong w v s c x
   unfolding lentWrong
   wrong-words h = wrong-here w 16384 _ h
 
+  -- the values have
+  -- scratch is right
   pub wrong-values : w ≡ 16384 → (v ≡ 1024 → ⊥) → true ≡ lentWrong w v s c x
   unfolding lentWrong
   wrong-values g h = wrong-here v 1024 _ h ∙ right-here w 16384 _ g
 
+  -- the sets have
+  -- scratch and values are right
   pub wrong-sets : w ≡ 16384 → v ≡ 1024 → (s ≡ 8192 → ⊥) → true ≡ lentWrong w v s c x
   unfolding lentWrong
   wrong-sets f g h = wrong-here s 8192 _ h ∙ right-here v 1024 _ g ∙ right-here w 16384 _ f
 
+  -- the context has
+  -- the tables of the state are right
   pub wrong-context : w ≡ 16384 → v ≡ 1024 → s ≡ 8192 → (c ≡ 235973 → ⊥) → true ≡ lentWrong w v s c x
   unfolding lentWrong
   wrong-context e f g h = wrong-here c 235973 _ h ∙ right-here s 8192 _ g ∙ right-here v 1024 _ f ∙ right-here w 16384 _ e
 
+  -- the candidates decide
+  -- all else is right
   pub wrong-candidates : w ≡ 16384 → v ≡ 1024 → s ≡ 8192 → c ≡ 235973 → not (eqb x 6272) ≡ lentWrong w v s c x
   unfolding lentWrong
   wrong-candidates d e f g = right-here c 235973 _ g ∙ right-here s 8192 _ f ∙ right-here v 1024 _ e ∙ right-here w 16384 _ d
@@ -96,6 +106,8 @@ module _ (w v s c x : ℕ) where
 -- what is lent, and which class refuses it
 -- one law for each way through `read_image`
 module _ (bs : List ℕ) (w : ℕ) (vs ss cs xs : List ℕ) where
+  -- the tables as they are lent
+  -- under one name
   abbrev t : Tables
   t = tables vs ss cs xs
 

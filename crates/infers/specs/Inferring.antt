@@ -22,11 +22,13 @@ use Rattle.listings.specs.Texts.{Cursor, putAll, lentListing}
 abbrev pub empty : Tables
 empty = tables (zeros 1024) (zeros 8192) (zeros Layout.long) (zeros 6272)
 
--- how many words the rows of an image's identifiers have, and the records of its candidates
--- the call is lent no more of them
+-- how many words the rows of an image's identifiers have
+-- 16 words each; the call is lent no more of them
 abbrev pub setWords : Job → ℕ
 setWords j = 16 * j .identifiers
 
+-- the same of the records of its candidates
+-- 98 words each
 abbrev pub candidateWords : Job → ℕ
 candidateWords j = 98 * j .candidates
 

@@ -120,6 +120,8 @@ module _ (vs ss : List ℕ) (flag : Bool) (cs : List ℕ) (s : Session) (xs : Li
       (w .state .values) (w .state .sets) (w .rest .context) (w .rest .work .listed .words) (zeros b) (zeros d)
   ends a b d (refused n w) = refuses n a b d
 
+  -- it is what `concluded` has, by the two ways in which a transfer ends
+  -- with the lengths of the memory in hand
   ends-is : (os s64 s32 : List ℕ) (r : Res (World lent) Done) → concluded (call vs ss flag cs s xs p own os s64 s32) r ≡ ends (length os) (length s64) (length s32) r
   unfolding ends refuses
   ends-is os s64 s32 (ok x w) = refl
@@ -140,6 +142,8 @@ module _ (vs ss : List ℕ) (flag : Bool) (cs : List ℕ) (s : Session) (xs : Li
       (ends-is os s64 s32 (applySignature (lentInstruction bare) (lentWorld (call vs ss flag cs s xs p own os s64 s32)))
       ∙ ap (ends (length os) (length s64) (length s32)) (begins os s64 s32))
 
+  -- two calls that differ in what their memory holds come to the same
+  -- their lengths are equal
   pub memory-same : (os ps s64 t64 s32 t32 : List ℕ) → length os ≡ length ps → length s64 ≡ length t64 → length s32 ≡ length t32
       → outcome (call vs ss flag cs s xs p own os s64 s32) ≡ outcome (call vs ss flag cs s xs p own ps t64 t32)
   memory-same os ps s64 t64 s32 t32 h g f =
@@ -174,18 +178,26 @@ runs-job vs ss cs xs j os s64 s32 m n e d c hm hn he l ho hs h =
 -- the four lengths, tested one after the other
 -- one law for each way through `memory_wrong`
 module _ (o p q b : ℕ) where
+  -- the output list has another length
+  -- nothing else is looked at
   pub wrong-output : (o ≡ 109760 → ⊥) → true ≡ memoryWrong o p q b
   unfolding memoryWrong
   wrong-output h = wrong-here o 109760 _ h
 
+  -- scratch for a state has
+  -- the output list is right
   pub wrong-64 : o ≡ 109760 → (p ≡ 9216 → ⊥) → true ≡ memoryWrong o p q b
   unfolding memoryWrong
   wrong-64 g h = wrong-here p 9216 _ h ∙ right-here o 109760 _ g
 
+  -- scratch for a context has
+  -- the output list and the other scratch are right
   pub wrong-32 : o ≡ 109760 → p ≡ 9216 → (q ≡ 22786 → ⊥) → true ≡ memoryWrong o p q b
   unfolding memoryWrong
   wrong-32 f g h = wrong-here q 22786 _ h ∙ right-here p 9216 _ g ∙ right-here o 109760 _ f
 
+  -- the buffer decides
+  -- all else is right
   pub wrong-buffer : o ≡ 109760 → p ≡ 9216 → q ≡ 22786 → not (eqb b 2900000) ≡ memoryWrong o p q b
   unfolding memoryWrong
   wrong-buffer e f g = right-here q 22786 _ g ∙ right-here p 9216 _ f ∙ right-here o 109760 _ e
@@ -224,6 +236,8 @@ first-not : (b : Bool) (k n : ℕ) → (k ≡ 0 → ⊥) → _≡_ {A = ℕ} (el
 first-not true k n h e = absurd (h e)
 first-not false k n h e = refl
 
+-- and then the rest decides
+-- it earns none either
 rest-not : (b : Bool) (k n : ℕ) → (k ≡ 0 → ⊥) → _≡_ {A = ℕ} (elim b [ true ↦ k | false ↦ n ]) 0 → n ≡ 0
 rest-not true k n h e = absurd (h e)
 rest-not false k n h e = e
@@ -248,6 +262,8 @@ few bs h =
 -- what was lent, what was read of it, and what was written
 -- one law for each way through `list_image`
 module _ (bs : List ℕ) (w : ℕ) (vs ss cs xs : List ℕ) (o p q b : ℕ) where
+  -- the tables as they are lent
+  -- under one name
   abbrev t : Tables
   t = tables vs ss cs xs
 
