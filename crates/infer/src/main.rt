@@ -9,7 +9,7 @@ fn show(buffer: &[u8], length: usize) {
 }
 
 // Standard input until its end; 65,537 bytes are enough to know that it is too long.
-// All memory that the job needs stands here, on the stack: 4.8 MB.
+// All memory that the job needs stands here, on the stack: 4.7 MB.
 fn main() {
     let mut input = [0u8; 65537];
     let n = io::read_full(0, &mut input);
