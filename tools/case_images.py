@@ -2,7 +2,7 @@
 """Makes the list of images for the limit of 2,048 keys, and looks for the cases and refusals of document 01 in the lists.
 
     python3 tools/case_images.py            the same as --check
-    python3 tools/case_images.py --check    compares crates/replay_images/data with what belongs there; status 1 if
+    python3 tools/case_images.py --check    compares crates/test_images/data with what belongs there; status 1 if
                                             something differs, or if a case or a refusal is in none of its lists
     python3 tools/case_images.py --write    writes cases.bin, and images.bin and damaged.bin as copies of vectors/
     python3 tools/case_images.py --table    prints which records show each case and each refusal
@@ -28,7 +28,7 @@ from words import bytes_as_words, list_bytes, read_list, unpack, words_as_bytes 
 from world import create, create_function, flow  # noqa: E402
 
 VECTORS = os.path.join(HERE, "..", "vectors")
-DATA = os.path.join(HERE, "..", "crates", "replay_images", "data")
+DATA = os.path.join(HERE, "..", "crates", "test_images", "data")
 ORACLE = os.path.join(HERE, "..", "target", "oracle", "oracle")
 LISTS = ["images.bin", "damaged.bin", "cases.bin"]
 
@@ -200,11 +200,11 @@ def slips():
     for name in LISTS:
         path = os.path.join(DATA, name)
         if not os.path.exists(path):
-            out.append("crates/replay_images/data/%s is missing; see --write" % name)
+            out.append("crates/test_images/data/%s is missing; see --write" % name)
             continue
         with open(path, "rb") as source:
             if source.read() != wanted_bytes(name):
-                out.append("crates/replay_images/data/%s is not what belongs there; see --write" % name)
+                out.append("crates/test_images/data/%s is not what belongs there; see --write" % name)
     return out + ["%s: in none of the lists" % what for what, where in table() if not where]
 
 

@@ -2,7 +2,7 @@
 """Checks the examples and the text form of job images (tools/imagetext/FORMAT.md).
 
     python3 tools/examples.py [--check]     everything below, for the gate; needs no oracle
-    python3 tools/examples.py --write       writes crates/replay_images/data/examples.bin, then checks
+    python3 tools/examples.py --write       writes crates/test_images/data/examples.bin, then checks
     python3 tools/examples.py --oracle      checks, and compares every listing with target/oracle/oracle
 
 Every example is assembled, shown and assembled again; its comment must quote its listing line by line.
@@ -33,7 +33,7 @@ from names import MAX_BYTES, MIN_BYTES, NO  # noqa: E402
 from words import bytes_as_words, list_bytes, pack, read_list, unpack, words_as_bytes  # noqa: E402
 
 EXAMPLES = os.path.join(ROOT, "examples")
-LIST = os.path.join("crates", "replay_images", "data", "examples.bin")
+LIST = os.path.join("crates", "test_images", "data", "examples.bin")
 ORACLE = os.path.join(ROOT, "target", "oracle", "oracle")
 CASE_ONE = "02-assign"
 

@@ -1,7 +1,7 @@
 #!/usr/bin/env python3
-"""Converts the recorded library jobs into lent words for crates/replay_jobs, and makes the list of damaged ones.
+"""Converts the recorded library jobs into lent words for crates/test_jobs, and makes the list of damaged ones.
 
-    python3 tools/lent_jobs.py            writes crates/replay_jobs/data/jobs.bin and refused.bin
+    python3 tools/lent_jobs.py            writes crates/test_jobs/data/jobs.bin and refused.bin
     python3 tools/lent_jobs.py --check    compares them with what it would write; status 1 if they differ
     python3 tools/lent_jobs.py --names    prints the name and the class of each damaged job, by its number
 
@@ -21,7 +21,7 @@ from lent_damage import damaged_jobs  # noqa: E402
 from words import pack, read_list  # noqa: E402
 
 VECTORS = [os.path.join(HERE, "..", "vectors", name) for name in ("jobs.bin", "large_jobs.bin")]
-DATA = os.path.join(HERE, "..", "crates", "replay_jobs", "data")
+DATA = os.path.join(HERE, "..", "crates", "test_jobs", "data")
 
 
 # Every recorded job as a lent one; one that cannot be lent, or that the plain test refuses, is an error.
@@ -55,7 +55,7 @@ def settle(name, data, check):
     with open(path, "rb") as f:
         same = f.read() == data
     if not same:
-        print("lent_jobs: crates/replay_jobs/data/%s is not what vectors/jobs.bin and large_jobs.bin make" % name, file=sys.stderr)
+        print("lent_jobs: crates/test_jobs/data/%s is not what vectors/jobs.bin and large_jobs.bin make" % name, file=sys.stderr)
     return same
 
 

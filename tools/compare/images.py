@@ -1,4 +1,4 @@
-"""Compares the definition of `infer` (crates/image) with recorded images.
+"""Compares the definition of `infer` (crates/def_image) with recorded images.
 
 python3 tools/compare/images.py LIST [--count N] [--small M] [--seed S] [--most BYTES]
     [--only I,J,..] [--per-file K]

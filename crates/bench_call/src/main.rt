@@ -1,16 +1,16 @@
 // A benchmark of the call for one instruction. Arguments: what is lent (1 nearly empty tables, 2 full tables, 3 a walk that goes 4,096 entries deep
 // and is refused), and the power of ten of repetitions, or 9 for none. It prints refusal and count of the last call;
 // `tools/bench_call.py` times it, and finds out how much stack it needs.
-use effects::Place;
-use effects::Session;
-use effects::Span;
-use kinds::AbstractValue;
-use kinds::ValueKind;
+use call_apply::apply_signature;
+use call_outcome::Applied;
+use def_effects::Place;
+use def_effects::Session;
+use def_effects::Span;
+use def_kinds::AbstractValue;
+use def_kinds::ValueKind;
+use lent_slices::set32;
+use lent_slices::wide32;
 use libc::STDOUT_FILENO;
-use signatures::Applied;
-use signatures::apply_signature;
-use slices::set32;
-use slices::wide32;
 
 // The digit that argument k is, or 0.
 // Arguments are single digits.
@@ -92,14 +92,14 @@ fn lend_function(context: &mut [u32]) {
 // Case 18, f below g: p = {f}, f with context x = {f, g}, either option on; Freeze p never ends in the Rust.
 // p is identifier 0, x identifier 1, f value 1, g value 2.
 fn lend_walk(values: &mut [u64], sets: &mut [u64]) {
-    cells::put_value(values, 1, mutable());
-    cells::put_value(values, 2, mutable());
-    rows::define(sets, 0, 1);
-    rows::define(sets, 1, 1);
+    lent_values::put_value(values, 1, mutable());
+    lent_values::put_value(values, 2, mutable());
+    lent_sets::define(sets, 0, 1);
+    lent_sets::define(sets, 1, 1);
     let mut row = [0u64; 16];
-    rows::add_set(&mut row, sets, 1);
-    rows::add_value(&mut row, 2);
-    rows::put_set(sets, 1, &row);
+    lent_sets::add_set(&mut row, sets, 1);
+    lent_sets::add_value(&mut row, 2);
+    lent_sets::put_set(sets, 1, &row);
 }
 
 // Interned effect k of a full context: ImmutableCapture from identifier k % 512 into identifier k / 512.
@@ -146,7 +146,7 @@ fn report_all(context: &mut [u32]) {
 fn fill_values(values: &mut [u64]) {
     let mut v: usize = 1;
     while v < 1024 {
-        cells::put_value(values, v, mutable());
+        lent_values::put_value(values, v, mutable());
         v += 1;
     }
 }
@@ -156,7 +156,7 @@ fn fill_values(values: &mut [u64]) {
 fn fill_sets(sets: &mut [u64], all: &[u64]) {
     let mut i: u32 = 0;
     while i < 512 {
-        rows::put_set(sets, i, all);
+        lent_sets::put_set(sets, i, all);
         i += 1;
     }
 }

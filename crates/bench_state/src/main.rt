@@ -1,9 +1,9 @@
 // A benchmark: repeats one operation of a state on a sparse or on a full table. Arguments: operation, table (0 sparse, 1 full), and the power of ten of repetitions.
 // It prints a number that depends on the answers; `tools/bench_state.py` times it.
-use effects::Session;
-use effects::Span;
-use kinds::AbstractValue;
-use kinds::ValueKind;
+use def_effects::Session;
+use def_effects::Span;
+use def_kinds::AbstractValue;
+use def_kinds::ValueKind;
 use libc::STDOUT_FILENO;
 
 // The digit that argument k is, or 0.
@@ -53,7 +53,7 @@ fn session() -> Session {
 fn fill_values(values: &mut [u64]) {
     let mut v: usize = 1;
     while v < 1024 {
-        cells::put_value(
+        lent_values::put_value(
             values,
             v,
             AbstractValue {
@@ -69,7 +69,7 @@ fn fill_values(values: &mut [u64]) {
 fn fill_sets(sets: &mut [u64], all: &[u64]) {
     let mut i: u32 = 0;
     while i < 512 {
-        rows::put_set(sets, i, all);
+        lent_sets::put_set(sets, i, all);
         i += 1;
     }
 }
@@ -81,7 +81,7 @@ fn fill(values: &mut [u64], sets: &mut [u64], full: u32) {
         fill_sets(sets, &[18446744073709551615u64; 16]);
         return;
     }
-    cells::put_value(
+    lent_values::put_value(
         values,
         1,
         AbstractValue {
@@ -89,13 +89,13 @@ fn fill(values: &mut [u64], sets: &mut [u64], full: u32) {
             reason: 2048,
         },
     );
-    rows::define(sets, 0, 1);
-    rows::define(sets, 1, 1);
+    lent_sets::define(sets, 0, 1);
+    lent_sets::define(sets, 1, 1);
 }
 
 // Value 1 is Mutable {Other} again, so that the next freeze of its place acts: with frozen ones beside it the place is MaybeFrozen.
 fn thaw(values: &mut [u64]) {
-    cells::put_value(
+    lent_values::put_value(
         values,
         1,
         AbstractValue {
@@ -107,47 +107,55 @@ fn thaw(values: &mut [u64]) {
 
 // The first state is empty again, so that the next merge adds all of the second.
 fn empty(values: &mut [u64], sets: &mut [u64]) {
-    merges::clear_words(values);
-    merges::clear_words(sets);
+    state_merge::clear_words(values);
+    state_merge::clear_words(sets);
 }
 
 // One operation: 1 to 4 are kind, freeze, merge_from and phi of the covered core, 5 to 8 the public calls of the same.
 // Each freeze acts and each merge adds; 9 is the emptying that comes before a merge, alone.
 fn once(op: u32, values: &mut [u64], sets: &mut [u64], values2: &[u64], sets2: &[u64]) -> u32 {
     if op == 1 {
-        let a = state::kind_of(values, sets, 0);
+        let a = state_ops::kind_of(values, sets, 0);
         return a.reason;
     }
     if op == 2 {
         thaw(values);
-        return flag(state::freeze(values, sets, 0, 1));
+        return flag(state_ops::freeze(values, sets, 0, 1));
     }
     if op == 3 {
         empty(values, sets);
-        merges::merge_values(values, values2);
-        merges::merge_sets(sets, sets2);
+        state_merge::merge_values(values, values2);
+        state_merge::merge_sets(sets, sets2);
         return 0;
     }
     if op == 4 {
-        state::infer_phi(sets, 0, &[0u32, 1]);
+        state_ops::infer_phi(sets, 0, &[0u32, 1]);
         return 0;
     }
     if op == 5 {
-        let a = reading_calls::kind(values, sets, session(), 0);
+        let a = state_reads::kind(values, sets, session(), 0);
         return a.refusal;
     }
     if op == 6 {
         thaw(values);
-        let a = writing_calls::freeze(values, sets, session(), 0, 1);
+        let a = state_writes::freeze(values, sets, session(), 0, 1);
         return flag(a.answer);
     }
     if op == 7 {
         empty(values, sets);
-        let a = merge_calls::merge_from(values, sets, false, values2, sets2, false, session());
+        let a = state_merge_calls::merge_from(
+            values,
+            sets,
+            false,
+            values2,
+            sets2,
+            false,
+            session(),
+        );
         return a.refusal;
     }
     if op == 8 {
-        return writing_calls::infer_phi(values, sets, session(), 0, &[0u32, 1]);
+        return state_writes::infer_phi(values, sets, session(), 0, &[0u32, 1]);
     }
     empty(values, sets);
     0

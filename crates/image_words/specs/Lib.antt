@@ -1,3 +1,2 @@
 pub mod Loaded
-pub mod WordLaws
-pub mod LoadLaws
+pub mod Laws

@@ -1,8 +1,8 @@
--- The words of an image in a slice of any length. Assumes nothing: this is a definition.
+-- The words of an image in a slice of any length. Assumes nothing: these are definitions.
 use Prim.Native.Nat.{ℕ}
 use mathlib.Core.List.{List}
-use Rattle.image.specs.Layout.{word, wordsOf}
-use Rattle.image.specs.Decode.{listFrom}
+use Rattle.def_image.specs.Layout.{word, wordsOf}
+use Rattle.def_image.specs.Decode.{listFrom}
 
 -- the first n words of an image; past its end stands 0
 -- "Little-endian u32 words"

@@ -3,14 +3,15 @@
 ghost use mathlib.Core.Path.{_≡_};
 ghost use Prim.Native.Nat.{_+_, _*_};
 ghost use lib.ListN.{getD, length};
-ghost use Rattle.image.specs.Layout.{wrongLength, wordsOf, word};
+ghost use Rattle.def_image.specs.Layout.{wrongLength, wordsOf, word};
 ghost use Rattle.image_words.specs.Loaded.{loaded};
-use slices::set32;
+ghost use Rattle.lent_slices.specs.Lent.{old, new};
+use lent_slices::set32;
 
 // Whether an image has a wrong length.
 // "from 68 to 65,536 bytes and a multiple of 4 (else 1)"
 pub fn length_wrong(bytes: &[u8]) -> bool
-    ensures { λ r. ⌜ r ≡ wrongLength (now (bytes .entry)) ⌝ }
+    ensures { λ r. ⌜ r ≡ wrongLength (old bytes) ⌝ }
 {
     if bytes.len() < 68 {
         return true;
@@ -32,7 +33,7 @@ fn wide8(x: u8) -> u32
 // Byte i, or 0 past the end.
 // This is `getD`, so the caller need not know that i lies inside.
 fn get8(bytes: &[u8], i: usize) -> u8
-    ensures { λ r. ⌜ r ≡ getD (now (bytes .entry)) i 0 ⌝ }
+    ensures { λ r. ⌜ r ≡ getD (old bytes) i 0 ⌝ }
 {
     if i < bytes.len() { bytes[i] } else { 0 }
 }
@@ -48,7 +49,7 @@ fn joined(a: u8, b: u8, c: u8, d: u8) -> u32
 // Word k of an image, or 0 past its end.
 // Fewer than four bytes at the end are no word, and such a length is refused.
 pub fn word_at(bytes: &[u8], k: usize) -> u32
-    ensures { λ r. ⌜ r ≡ word (wordsOf (now (bytes .entry))) k ⌝ }
+    ensures { λ r. ⌜ r ≡ word (wordsOf (old bytes)) k ⌝ }
 {
     if k >= bytes.len() / 4 {
         return 0;
@@ -64,7 +65,7 @@ pub fn word_at(bytes: &[u8], k: usize) -> u32
 // Every word of the slice becomes the image's word at its place.
 // Past the image's end that is 0.
 pub fn load_words(bytes: &[u8], words: &mut [u32])
-    ensures { λ _. ⌜ now (words .exit) ≡ loaded (now (bytes .entry)) (length (now (words .entry))) ⌝ }
+    ensures { λ _. ⌜ new words ≡ loaded (old bytes) (length (old words)) ⌝ }
 {
     let mut k: usize = 0;
     while k < words.len() {

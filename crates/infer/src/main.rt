@@ -1,5 +1,5 @@
 // The program `infer`: a job image on standard input, its listing on standard output (document 01, 'The job image and its program').
-// All work is in `infers::infer`. No contract says what is read or written: that it is standard input until its end, and the listing and nothing else, is these lines.
+// All work is in `image_infer::infer`. No contract says what is read or written: that it is standard input until its end, and the listing and nothing else, is these lines.
 // The listing is written, and nothing else.
 // It never runs past the buffer, so the test always passes; no contract of this program asks for it.
 fn show(buffer: &[u8], length: usize) {
@@ -22,7 +22,7 @@ fn main() {
     let mut scratch64 = [0u64; 9216];
     let mut scratch32 = [0u32; 22786];
     let mut buffer = [0u8; 2900000];
-    let length = infers::infer(
+    let length = image_infer::infer(
         &input[..n],
         &mut words,
         &mut values,

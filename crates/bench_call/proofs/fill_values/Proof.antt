@@ -1,15 +1,10 @@
 -- `bench_call::fill_values` ends, within its bounds. Assumes nothing.
-use Prim.Native.Nat.{ℕ, _-_, _≤_}
-use native.Mathlib.Omega.{arith}
+use Prim.Native.Nat.{_-_, _≤_}
 use mathlib.Core.Path.{_≡_, refl, _∙_}
 use lib.ListN.{length}
 use borrow.Author.Needs.{needs}
 use Rattle.bench_call.proofs.fill_values.Statement.{statement}
 use Rattle.bench_call.proofs.fill_values.Tie as tie
-use Rattle.bench_call.proofs.fill_values.Reads as reads
-use Rattle.bench_call.proofs.fill_values.Lts as lts
-use Rattle.bench_call.proofs.mutable.Reads as mutable-reads
-use Rattle.cells.proofs.put_value.Reads as put-value-reads
 
 abbrev Inv-loop : tie.InvT-loop
 Inv-loop values₀ v₀ values v = (v ≤ 1024) × (length values ≡ length values₀)
@@ -17,35 +12,27 @@ Inv-loop values₀ v₀ values v = (v ≤ 1024) × (length values ≡ length val
 abbrev μ-loop : tie.MeasureT-loop
 μ-loop values₀ v₀ values v = 1024 - v
 
--- src/main.rt:148:5
 loop-holds : tie.Need-loop-holds Inv-loop μ-loop
 loop-holds c = (search needs, refl)
 
--- src/main.rt:149:37
 mutable-requires : tie.Need-mutable-requires Inv-loop μ-loop
 mutable-requires c κs = search needs
 
--- src/main.rt:149:9
 put-value-requires : tie.Need-put-value-requires Inv-loop μ-loop
 put-value-requires c κs = search needs
 
--- src/main.rt:150:9
 add-v : tie.Need-add-v Inv-loop μ-loop
 add-v c = search needs
 
--- src/main.rt:148:5
 loop-less : tie.Need-loop-less Inv-loop μ-loop
 loop-less c = search needs
 
--- src/main.rt:148:5
 loop-again : tie.Need-loop-again Inv-loop μ-loop
 loop-again c = (search needs, c .before .before .put-value .kept .0 ∙ c .before .before .before .before .before .before .loop .inv .1)
 
--- src/main.rt:146:1
 same-length : tie.Need-same-length Inv-loop μ-loop
 same-length c = c .before .loop .inv .1
 
--- src/main.rt:146:1
 returns : tie.Need-returns Inv-loop μ-loop
 returns c = search needs
 

@@ -1,14 +1,10 @@
 -- `bench_call::intern_all` ends, within its bounds. Assumes nothing.
-use Prim.Native.Nat.{ℕ, _-_, _≤_}
-use native.Mathlib.Omega.{arith}
+use Prim.Native.Nat.{_-_, _≤_}
 use mathlib.Core.Path.{_≡_, refl, _∙_}
 use lib.ListN.{length}
 use borrow.Author.Needs.{needs}
 use Rattle.bench_call.proofs.intern_all.Statement.{statement}
 use Rattle.bench_call.proofs.intern_all.Tie as tie
-use Rattle.bench_call.proofs.intern_all.Reads as reads
-use Rattle.bench_call.proofs.intern_all.Lts as lts
-use Rattle.bench_call.proofs.intern_one.Reads as intern-one-reads
 
 abbrev Inv-loop : tie.InvT-loop
 Inv-loop context₀ k₀ context k = (k ≤ 2048) × (length context ≡ length context₀)
@@ -16,31 +12,24 @@ Inv-loop context₀ k₀ context k = (k ≤ 2048) × (length context ≡ length 
 abbrev μ-loop : tie.MeasureT-loop
 μ-loop context₀ k₀ context k = 2048 - k
 
--- src/main.rt:118:5
 loop-holds : tie.Need-loop-holds Inv-loop μ-loop
 loop-holds c = (search needs, refl)
 
--- src/main.rt:119:9
 intern-one-requires : tie.Need-intern-one-requires Inv-loop μ-loop
 intern-one-requires c κs = search needs
 
--- src/main.rt:120:9
 add-k : tie.Need-add-k Inv-loop μ-loop
 add-k c = search needs
 
--- src/main.rt:118:5
 loop-less : tie.Need-loop-less Inv-loop μ-loop
 loop-less c = search needs
 
--- src/main.rt:118:5
 loop-again : tie.Need-loop-again Inv-loop μ-loop
 loop-again c = (search needs, c .before .before .intern-one .kept .0 ∙ c .before .before .before .before .before .loop .inv .1)
 
--- src/main.rt:116:1
 same-length : tie.Need-same-length Inv-loop μ-loop
 same-length c = c .before .loop .inv .1
 
--- src/main.rt:116:1
 returns : tie.Need-returns Inv-loop μ-loop
 returns c = search needs
 

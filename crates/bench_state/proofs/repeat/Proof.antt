@@ -1,13 +1,9 @@
 use borrow.Author.Needs.{needs}
-use native.Mathlib.Omega.{arith}
-use mathlib.Core.Path.{_≡_, refl, sym, ap, _∙_}
-use Prim.Native.Nat.{ℕ, _+_, _≤_, _<_, _-_}
+use mathlib.Core.Path.{_≡_, refl, _∙_}
+use Prim.Native.Nat.{_≤_, _-_}
 use lib.ListN.{length}
 use Rattle.bench_state.proofs.repeat.Statement.{statement}
 use Rattle.bench_state.proofs.repeat.Tie as tie
-use Rattle.bench_state.proofs.repeat.Reads as reads
-use Rattle.bench_state.proofs.repeat.Lts as lts
-use Rattle.bench_state.proofs.once.Reads as once-reads
 
 abbrev Inv-loop : tie.InvT-loop
 Inv-loop op n values₀ sets₀ values2 sets2 r₀ k₀ values sets r k = (k ≤ n) × (length values ≡ length values₀) × (length sets ≡ length sets₀)
@@ -15,35 +11,30 @@ Inv-loop op n values₀ sets₀ values2 sets2 r₀ k₀ values sets r k = (k ≤
 abbrev μ-loop : tie.MeasureT-loop
 μ-loop op n values₀ sets₀ values2 sets2 r₀ k₀ values sets r k = n - k
 
--- src/main.rt:133:5
 loop-holds : tie.Need-loop-holds Inv-loop μ-loop
 loop-holds c = (search needs, refl, refl)
 
--- src/main.rt:134:9
 once-requires : tie.Need-once-requires Inv-loop μ-loop
 once-requires c κs = search needs
 
--- src/main.rt:135:9
 add-k : tie.Need-add-k Inv-loop μ-loop
 add-k c = search needs
 
--- src/main.rt:133:5
 loop-less : tie.Need-loop-less Inv-loop μ-loop
 loop-less c = search needs
 
--- src/main.rt:133:5
 loop-again : tie.Need-loop-again Inv-loop μ-loop
-loop-again c = (search needs, c .before .before .before .before .once .kept .1 .0 ∙ c .before .before .before .before .before .before .before .before .loop .inv .1, c .before .before .before .before .once .kept .1 .1 .0 ∙ c .before .before .before .before .before .before .before .before .loop .inv .2)
+loop-again c =
+    let at-once = c .before .before .before .before in
+    let at-loop = at-once .before .before .before .before in
+    (search needs, at-once .once .kept .1 .0 ∙ at-loop .loop .inv .1, at-once .once .kept .1 .1 .0 ∙ at-loop .loop .inv .2)
 
--- src/main.rt:123:1
 same-length : tie.Need-same-length Inv-loop μ-loop
 same-length c = c .before .loop .inv .1
 
--- src/main.rt:123:1
 same-length-2 : tie.Need-same-length-2 Inv-loop μ-loop
 same-length-2 c = c .before .loop .inv .2
 
--- src/main.rt:123:1
 returns : tie.Need-returns Inv-loop μ-loop
 returns c = search needs
 

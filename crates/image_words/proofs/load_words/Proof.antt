@@ -4,14 +4,10 @@ use native.Mathlib.Omega.{arith}
 use mathlib.Core.Path.{_≡_, refl, _∙_}
 use Prim.Native.Nat.{ℕ, _-_, _<_}
 use lib.ListN.{length, getD}
-use Rattle.image.specs.Layout.{word, wordsOf}
-use Rattle.image_words.specs.LoadLaws.{load-more, load-end}
+use Rattle.def_image.specs.Layout.{word, wordsOf}
+use Rattle.image_words.specs.Laws.Load.{load-more, load-end}
 use Rattle.image_words.proofs.load_words.Statement.{statement}
 use Rattle.image_words.proofs.load_words.Tie as tie
-use Rattle.image_words.proofs.load_words.Reads as reads
-use Rattle.image_words.proofs.load_words.Lts as lts
-use Rattle.image_words.proofs.word_at.Reads as word-at-reads
-use Rattle.slices.proofs.set32.Reads as set32-reads
 
 abbrev Inv-loop : tie.InvT-loop
 Inv-loop bytes words₀ k₀ words k = (length words ≡ length words₀) × ((j : ℕ) → j < k → getD words j 0 ≡ word (wordsOf bytes) j)
@@ -19,35 +15,32 @@ Inv-loop bytes words₀ k₀ words k = (length words ≡ length words₀) × ((j
 abbrev μ-loop : tie.MeasureT-loop
 μ-loop bytes words₀ k₀ words k = length words - k
 
--- src/lib.rt:65:5
 loop-holds : tie.Need-loop-holds Inv-loop μ-loop
 loop-holds c = (refl, λ j q. absurd (omega arith))
 
--- src/lib.rt:66:25
 word-at-requires : tie.Need-word-at-requires Inv-loop μ-loop
 word-at-requires c κs = search needs
 
--- src/lib.rt:66:9
 set32-requires : tie.Need-set32-requires Inv-loop μ-loop
 set32-requires c κs = search needs
 
--- src/lib.rt:67:9
 add-k : tie.Need-add-k Inv-loop μ-loop
 add-k c = search needs
 
--- src/lib.rt:65:5
 loop-less : tie.Need-loop-less Inv-loop μ-loop
 loop-less c = search needs
 
--- src/lib.rt:65:5
 loop-again : tie.Need-loop-again Inv-loop μ-loop
-loop-again c = (c .before .before .set32 .kept .0 ∙ c .before .before .before .before .before .before .loop .inv .0, load-more _ (c .before .before .before .before .before .before .loop .words) _ (c .before .before .before .before .before .before .loop .k) _ (c .before .before .before .word-at .ensures) (c .before .before .set32 .ensures) (c .before .before .before .before .before .loop-test .taken) (c .before .before .before .before .before .before .loop .inv .1))
+loop-again c =
+    let at-set32 = c .before .before in
+    let at-word-at = at-set32 .before in
+    let at-loop-test = at-word-at .before .before in
+    let at-loop = at-loop-test .before in
+    (at-set32 .set32 .kept .0 ∙ at-loop .loop .inv .0, load-more _ (at-loop .loop .words) _ (at-loop .loop .k) _ (at-word-at .word-at .ensures) (at-set32 .set32 .ensures) (at-loop-test .loop-test .taken) (at-loop .loop .inv .1))
 
--- src/lib.rt:61:1
 same-length : tie.Need-same-length Inv-loop μ-loop
 same-length c = search needs
 
--- src/lib.rt:61:1
 returns : tie.Need-returns Inv-loop μ-loop
 returns c = load-end _ (c .before .before .before .before .args .words .now) (c .before .loop .words) (c .before .loop .k) (c .before .loop .inv .0) (c .before .loop .inv .1) (c .loop-test .left)
 

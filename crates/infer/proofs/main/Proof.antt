@@ -5,77 +5,55 @@ use lib.ListN.{length-replicate}
 use borrow.Author.Needs.{needs}
 use Rattle.infer.proofs.main.Statement.{statement}
 use Rattle.infer.proofs.main.Tie as tie
-use Rattle.infer.proofs.main.Reads as reads
-use Rattle.infer.proofs.main.Lts as lts
-use Rattle.infer.proofs.show.Reads as show-reads
-use Rattle.infers.proofs.infer.Reads as infer-reads
-use Rattle.io.proofs.read_full.Reads as read-full-reads
 
--- src/main.rt:15:30
 slice-aggregate-read-full : tie.Need-slice-aggregate-read-full
 slice-aggregate-read-full c = sym (length-replicate {0} {A = ℕ} 65537 0)
 
--- src/main.rt:15:9
 read-full-requires : tie.Need-read-full-requires
 read-full-requires c κs = search needs
 
--- src/main.rt:26:9
 array-share-prefix-input : tie.Need-array-share-prefix-input
 array-share-prefix-input c = search needs
 
--- src/main.rt:26:9
 slice-aggregate-infer : tie.Need-slice-aggregate-infer
 slice-aggregate-infer c = search needs
 
--- src/main.rt:27:9
 slice-aggregate-infer-2 : tie.Need-slice-aggregate-infer-2
 slice-aggregate-infer-2 c = sym (length-replicate {0} {A = ℕ} 16384 0)
 
--- src/main.rt:28:9
 slice-aggregate-infer-3 : tie.Need-slice-aggregate-infer-3
 slice-aggregate-infer-3 c = sym (length-replicate {0} {A = ℕ} 1024 0)
 
--- src/main.rt:29:9
 slice-aggregate-infer-4 : tie.Need-slice-aggregate-infer-4
 slice-aggregate-infer-4 c = sym (length-replicate {0} {A = ℕ} 8192 0)
 
--- src/main.rt:30:9
 slice-aggregate-infer-5 : tie.Need-slice-aggregate-infer-5
 slice-aggregate-infer-5 c = sym (length-replicate {0} {A = ℕ} 235973 0)
 
--- src/main.rt:31:9
 slice-aggregate-infer-6 : tie.Need-slice-aggregate-infer-6
 slice-aggregate-infer-6 c = sym (length-replicate {0} {A = ℕ} 6272 0)
 
--- src/main.rt:32:9
 slice-aggregate-infer-7 : tie.Need-slice-aggregate-infer-7
 slice-aggregate-infer-7 c = sym (length-replicate {0} {A = ℕ} 109760 0)
 
--- src/main.rt:33:9
 slice-aggregate-infer-8 : tie.Need-slice-aggregate-infer-8
 slice-aggregate-infer-8 c = sym (length-replicate {0} {A = ℕ} 9216 0)
 
--- src/main.rt:34:9
 slice-aggregate-infer-9 : tie.Need-slice-aggregate-infer-9
 slice-aggregate-infer-9 c = sym (length-replicate {0} {A = ℕ} 22786 0)
 
--- src/main.rt:35:9
 slice-aggregate-infer-10 : tie.Need-slice-aggregate-infer-10
 slice-aggregate-infer-10 c = sym (length-replicate {0} {A = ℕ} 2900000 0)
 
--- src/main.rt:25:9
 infer-requires : tie.Need-infer-requires
 infer-requires c κs = search needs
 
--- src/main.rt:37:10
 slice-aggregate-show : tie.Need-slice-aggregate-show
 slice-aggregate-show c = search needs
 
--- src/main.rt:37:5
 show-requires : tie.Need-show-requires
 show-requires c κs = search needs
 
--- src/main.rt:13:1
 returns : tie.Need-returns
 returns c = search needs
 

@@ -4,23 +4,16 @@ use lib.Seq.{length-take-le}
 use borrow.Author.Needs.{needs}
 use Rattle.infer.proofs.show.Statement.{statement}
 use Rattle.infer.proofs.show.Tie as tie
-use Rattle.infer.proofs.show.Reads as reads
-use Rattle.infer.proofs.show.Lts as lts
-use Rattle.io.proofs.write_all.Reads as write-all-reads
 
--- src/main.rt:7:26
 slice-aggregate-write-all : tie.Need-slice-aggregate-write-all
 slice-aggregate-write-all c = sym (length-take-le _ _ (c .before .if1 .taken))
 
--- src/main.rt:7:9
 write-all-requires : tie.Need-write-all-requires
 write-all-requires c κs = search needs
 
--- src/main.rt:5:1
 returns : tie.Need-returns
 returns c = search needs
 
--- src/main.rt:5:1
 returns-2 : tie.Need-returns-2
 returns-2 c = search needs
 

@@ -1,3 +1,0 @@
-pub mod Acts
-pub mod ActLaws
-pub mod SequelLaws

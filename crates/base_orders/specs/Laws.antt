@@ -1,0 +1,3 @@
+pub mod Union
+pub mod Options
+pub mod Join

@@ -1,0 +1,3 @@
+pub mod Join
+pub mod Options
+pub mod Laws

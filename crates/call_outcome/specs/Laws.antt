@@ -1,0 +1,4 @@
+pub mod Class
+pub mod Attempt
+pub mod Outcome
+pub mod Isolation

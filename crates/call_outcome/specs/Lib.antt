@@ -1,0 +1,5 @@
+pub mod Calls
+pub mod Isolation
+pub mod Attempts
+pub mod Promise
+pub mod Laws

@@ -1,4 +1,0 @@
-pub mod Layout
-pub mod Lent
-pub mod CodeLaws
-pub mod SearchLaws

@@ -1,2 +1,0 @@
-pub mod Creations
-pub mod CreationLaws

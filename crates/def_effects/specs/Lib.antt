@@ -1,0 +1,5 @@
+pub mod Effects
+pub mod Keys
+pub mod Mutation
+pub mod Places
+pub mod Laws

@@ -1,0 +1,31 @@
+use mathlib.Core.Path.{sym, ap}
+use Rattle.def_kinds.specs.Kinds.{kindAt}
+use Rattle.def_kinds.specs.Laws.Kinds.{kindAt-rest}
+use Rattle.def_kinds.proofs.ValueKind.of_code.Statement.{statement}
+use Rattle.def_kinds.proofs.ValueKind.of_code.Tie as tie
+
+returns : tie.Need-returns
+unfolding kindAt
+returns c = sym (ap kindAt (c .match .keys1))
+
+returns-2 : tie.Need-returns-2
+unfolding kindAt
+returns-2 c = sym (ap kindAt (c .match .keys2))
+
+returns-3 : tie.Need-returns-3
+unfolding kindAt
+returns-3 c = sym (ap kindAt (c .match .keys3))
+
+returns-4 : tie.Need-returns-4
+unfolding kindAt
+returns-4 c = sym (ap kindAt (c .match .keys4))
+
+returns-5 : tie.Need-returns-5
+unfolding kindAt
+returns-5 c = sym (ap kindAt (c .match .keys5))
+
+returns-6 : tie.Need-returns-6
+returns-6 c = sym (kindAt-rest _ (c .match .rest .0 .0 .0 .0 .1) (c .match .rest .0 .0 .0 .1) (c .match .rest .0 .0 .1) (c .match .rest .0 .1) (c .match .rest .1))
+
+pub of-code-spec : {M : Type 1} → statement M
+of-code-spec = tie.close (tie.spec returns returns-2 returns-3 returns-4 returns-5 returns-6)

@@ -1,0 +1,4 @@
+pub mod Kinds
+pub mod Reasons
+pub mod Values
+pub mod Laws

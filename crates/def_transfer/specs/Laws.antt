@@ -1,0 +1,9 @@
+pub mod Computing
+pub mod Sim
+pub mod Worlds
+pub mod Closed
+pub mod Derived
+pub mod Within
+pub mod Isolation
+pub mod Pure
+pub mod Cases

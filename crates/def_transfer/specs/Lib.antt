@@ -1,0 +1,14 @@
+pub mod Monad
+pub mod Diagnostics
+pub mod Tables
+pub mod State
+pub mod Context
+pub mod Walk
+pub mod Step
+pub mod Instruction
+pub mod Merge
+pub mod Accepted
+pub mod Reach
+pub mod Pure
+pub mod Lawful
+pub mod Laws

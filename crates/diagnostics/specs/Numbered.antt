@@ -1,8 +1,0 @@
--- A diagnostic with its identity, as the code holds it. Assumes nothing: these are definitions.
-use Rattle.transfer.specs.Pure.{Interned}
-use Rattle.diagnostics.specs.declared.Numbered.{Numbered}
-
--- the code's record as the definition's
--- the same two fields
-abbrev pub internedOf : Numbered → Interned
-internedOf x = record { identity = x .identity; diagnostic = x .diagnostic }

@@ -1,4 +1,0 @@
-pub mod EffectClasses
-pub mod UseLaws
-pub mod EffectLaws
-pub mod InstructionLaws

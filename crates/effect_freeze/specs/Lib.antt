@@ -1,0 +1,2 @@
+pub mod Freezes
+pub mod Laws

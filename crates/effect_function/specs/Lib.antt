@@ -1,0 +1,2 @@
+pub mod NewFunctions
+pub mod Laws

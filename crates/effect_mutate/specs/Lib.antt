@@ -1,0 +1,2 @@
+pub mod Mutations
+pub mod Laws

@@ -1,5 +1,0 @@
-pub mod Effects
-pub mod Keys
-pub mod KeyLaws
-pub mod Mutation
-pub mod Places

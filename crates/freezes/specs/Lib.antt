@@ -1,2 +1,0 @@
-pub mod Freezes
-pub mod FreezeLaws

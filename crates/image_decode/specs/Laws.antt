@@ -1,0 +1,10 @@
+pub mod Read
+pub mod State
+pub mod Context
+pub mod Candidate
+pub mod StateBack
+pub mod PlacesBack
+pub mod EffectBack
+pub mod CandidatesBack
+pub mod ContextBack
+pub mod WordsBack

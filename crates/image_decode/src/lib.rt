@@ -1,0 +1,424 @@
+// The lent tables of an accepted image: values, sets, context and candidates, written from the image's words (document 01, 'The job image and its program').
+// Every function is total: past the end of the image stands 0, and what a table has no room for is not written.
+ghost use mathlib.Core.Path.{_≡_};
+ghost use Prim.Native.Nat.{_+_};
+ghost use Rattle.def_kinds.specs.Kinds.{kindAt};
+ghost use Rattle.def_effects.specs.Effects.{CreateFunction};
+ghost use Rattle.lent_tables.specs.Words.{putPlaces};
+ghost use Rattle.lent_effects.specs.Records.{putEffect};
+ghost use Rattle.refuse_instruction.specs.EffectClasses.{candidateTable};
+ghost use Rattle.def_image.specs.Layout as Image;
+ghost use Rattle.def_image.specs.Layout.{countOf};
+ghost use Rattle.def_image.specs.Decode.{memberOf, placeAt, placesFrom};
+ghost use Rattle.lent_sets.specs.Rows.{addSet};
+ghost use Rattle.image_decode.specs.Decoded as Decoded;
+ghost use Rattle.image_decode.specs.Decoded.{decodedValue, decodedValues, decodedPair, decodedSets, decodedIdentifier, decodedIdentifiers, decodedCounts, decodedFunction, decodedFunctions, decodedHeader, decodedContext, decodedCandidate, decodedCandidates, headAt};
+ghost use Rattle.lent_slices.specs.Lent.{old, new};
+use def_effects::AliasingDiagnostic;
+use def_effects::Place;
+use def_effects::Span;
+use def_kinds::AbstractValue;
+use def_kinds::ValueKind;
+use image_class2::cell;
+use image_class2::count_of;
+use image_class2::offset_of;
+use lent_effects::AliasingEffect;
+use lent_effects::put_effect;
+use lent_sets::add_set;
+use lent_sets::add_value;
+use lent_sets::put_set;
+use lent_slices::get32;
+use lent_slices::set32;
+use lent_slices::wide32;
+use lent_tables::Table;
+use lent_tables::put_field;
+use lent_tables::put_place;
+use lent_values::put_value;
+
+// The identifiers of a context.
+// Four words each, as in an image.
+const IDENTIFIERS: Table = Table {
+    base: 3,
+    count: 512,
+    width: 4,
+};
+
+// The functions of a context.
+// Flags, two counts and 32 places mutated inside.
+const FUNCTIONS: Table = Table {
+    base: 2051,
+    count: 64,
+    width: 163,
+};
+
+// The context places of the functions.
+// Sixteen of five words.
+const CONTEXTS: Table = Table {
+    base: 12485,
+    count: 64,
+    width: 80,
+};
+
+// The candidates of an instruction.
+// "candidates (64)": records of 98 words.
+const CANDIDATES: Table = Table {
+    base: 0,
+    count: 64,
+    width: 98,
+};
+
+// ---- the words of an image
+
+// Place i of a run that begins at place `first`.
+// "places: identifier, `Effect` in declared order from 0, reactive 0 or 1, start, end"
+fn place_of(im: &[u32], first: u32, i: u32) -> Place
+    ensures { λ r. ⌜ r ≡ placeAt (old im) (first + i) ⌝ }
+{
+    let w = wide32(offset_of(im, 3)) + (wide32(first) + wide32(i)) * 5;
+    let identifier = get32(im, w);
+    let effect = get32(im, w + 1);
+    let reactive = get32(im, w + 2);
+    let start = get32(im, w + 3);
+    let end = get32(im, w + 4);
+    let span = Span { start, end };
+    Place {
+        identifier,
+        effect,
+        reactive,
+        span,
+    }
+}
+
+// Place k of the image.
+// It is the first of a run of its own.
+pub fn place_at(im: &[u32], k: u32) -> Place
+    ensures { λ r. ⌜ r ≡ placeAt (old im) k ⌝ }
+{
+    place_of(im, k, 0)
+}
+
+// The kind of a word; what is no kind reads as MaybeFrozen.
+// An image with such a word is refused before it is used.
+fn kind_at(x: u32) -> ValueKind
+    ensures { λ r. ⌜ r ≡ kindAt x ⌝ }
+{
+    if x < 6 {
+        return ValueKind::of_code(x as u8);
+    }
+    ValueKind::MaybeFrozen
+}
+
+// ---- the state
+
+// Value k of the image is put into the table of values.
+// "values: number, kind, reasons"
+fn decode_value(im: &[u32], k: u32, values: &mut [u64])
+    ensures { λ _. ⌜ new values ≡ decodedValue (old im) k (old values) ⌝ }
+{
+    let v = cell(im, 1, k, 0);
+    let kind = kind_at(cell(im, 1, k, 1));
+    let reason = cell(im, 1, k, 2);
+    put_value(values, wide32(v), AbstractValue { kind, reason });
+}
+
+// All values of the image are put into the table of values.
+// As many as the header says, one after the other.
+pub fn decode_values(im: &[u32], values: &mut [u64])
+    ensures { λ _. ⌜ new values ≡ decodedValues (old im) (countOf (old im) Image.values) (old values) ⌝ }
+{
+    let n = count_of(im, 1);
+    let mut k: u32 = 0;
+    while k < n {
+        decode_value(im, k, values);
+        k += 1;
+    }
+}
+
+// A set in hand gets a pair's value too; value 0 adds nothing.
+// "value 0 .. means defined with an empty set"
+fn add_member(acc: &mut [u64], v: u32)
+    ensures { λ _. ⌜ new acc ≡ addSet (old acc) (memberOf v) ⌝ }
+{
+    if v != 0 {
+        add_value(acc, v);
+    }
+}
+
+// Pair k of the image is put into the rows: its identifier is defined, and its value is in the set.
+// "pairs: identifier, value, ascending"
+fn decode_pair(im: &[u32], k: u32, sets: &mut [u64])
+    ensures { λ _. ⌜ new sets ≡ decodedPair (old im) k (old sets) ⌝ }
+{
+    let i = cell(im, 2, k, 0);
+    let v = cell(im, 2, k, 1);
+    let mut acc = [0u64; 16];
+    add_set(&mut acc, sets, i);
+    add_member(&mut acc, v);
+    put_set(sets, i, &acc);
+}
+
+// All pairs of the image are put into the rows.
+// As many as the header says, one after the other.
+pub fn decode_sets(im: &[u32], sets: &mut [u64])
+    ensures { λ _. ⌜ new sets ≡ decodedSets (old im) (countOf (old im) Image.pairs) (old sets) ⌝ }
+{
+    let n = count_of(im, 2);
+    let mut k: u32 = 0;
+    while k < n {
+        decode_pair(im, k, sets);
+        k += 1;
+    }
+}
+
+// ---- the context
+
+// The four words of identifier k are put into a context.
+// "flags (1 ref, 2 hoisted), name 1..512 or 0, access start, end"
+fn decode_identifier(im: &[u32], k: u32, context: &mut [u32])
+    ensures { λ _. ⌜ new context ≡ decodedIdentifier (old im) k (old context) ⌝ }
+{
+    let i = wide32(k);
+    put_field(IDENTIFIERS, context, i, 0, cell(im, 0, k, 0));
+    put_field(IDENTIFIERS, context, i, 1, cell(im, 0, k, 1));
+    put_field(IDENTIFIERS, context, i, 2, cell(im, 0, k, 2));
+    put_field(IDENTIFIERS, context, i, 3, cell(im, 0, k, 3));
+}
+
+// All identifiers of the image are put into a context.
+// As many as the header says, one after the other.
+fn decode_identifiers(im: &[u32], context: &mut [u32])
+    ensures { λ _. ⌜
+        new context ≡ decodedIdentifiers (old im) (countOf (old im) Image.identifiers) (old context) ⌝ }
+{
+    let n = count_of(im, 0);
+    let mut k: u32 = 0;
+    while k < n {
+        decode_identifier(im, k, context);
+        k += 1;
+    }
+}
+
+// A run of n places of the image is written from word w of record i on.
+// Words that the record has no room for are not written.
+fn put_run(t: Table, xs: &mut [u32], i: usize, w: u32, im: &[u32], first: u32, n: u32)
+    ensures { λ _. ⌜ new xs ≡ putPlaces t (old xs) i w 0 (placesFrom (old im) first n) ⌝ }
+{
+    let mut k: u32 = 0;
+    while k < n {
+        put_place(t, xs, i, w, k, place_of(im, first, k));
+        k += 1;
+    }
+}
+
+// Flags and both counts of function k are put into a context.
+// The counts of context places and of places mutated inside.
+fn decode_counts(im: &[u32], k: u32, context: &mut [u32])
+    ensures { λ _. ⌜ new context ≡ decodedCounts (old im) k (old context) ⌝ }
+{
+    let i = wide32(k);
+    put_field(FUNCTIONS, context, i, 0, cell(im, 4, k, 0));
+    put_field(FUNCTIONS, context, i, 1, cell(im, 4, k, 2));
+    put_field(FUNCTIONS, context, i, 2, cell(im, 4, k, 4));
+}
+
+// Function k is put into a context: flags and counts, the places mutated inside, the context places.
+// "each function has its own copy of its context places"
+fn decode_function(im: &[u32], k: u32, context: &mut [u32])
+    ensures { λ _. ⌜ new context ≡ decodedFunction (old im) k (old context) ⌝ }
+{
+    let i = wide32(k);
+    let first_context = cell(im, 4, k, 1);
+    let contexts = cell(im, 4, k, 2);
+    let first_inside = cell(im, 4, k, 3);
+    let inside = cell(im, 4, k, 4);
+    decode_counts(im, k, context);
+    put_run(FUNCTIONS, context, i, 3, im, first_inside, inside);
+    put_run(CONTEXTS, context, i, 0, im, first_context, contexts);
+}
+
+// All functions of the image are put into a context.
+// As many as the header says, one after the other.
+fn decode_functions(im: &[u32], context: &mut [u32])
+    ensures { λ _. ⌜
+        new context ≡ decodedFunctions (old im) (countOf (old im) Image.functions) (old context) ⌝ }
+{
+    let n = count_of(im, 4);
+    let mut k: u32 = 0;
+    while k < n {
+        decode_function(im, k, context);
+        k += 1;
+    }
+}
+
+// Options and both counts are put into a context.
+// The words before its tables.
+fn decode_header(im: &[u32], context: &mut [u32])
+    ensures { λ _. ⌜ new context ≡ decodedHeader (old im) (old context) ⌝ }
+{
+    set32(context, 0, get32(im, 1));
+    set32(context, 1, count_of(im, 0));
+    set32(context, 2, count_of(im, 4));
+}
+
+// All that the image says of a context is put into it.
+// "Interned effects, cached numbers, links and diagnostics start empty": the context was zero.
+pub fn decode_context(im: &[u32], context: &mut [u32])
+    ensures { λ _. ⌜ new context ≡ decodedContext (old im) (old context) ⌝ }
+{
+    decode_header(im, context);
+    decode_identifiers(im, context);
+    decode_functions(im, context);
+}
+
+// ---- the candidates
+
+// The diagnostic of candidate k.
+// No accepted image has one.
+fn diagnostic_at(im: &[u32], k: u32) -> AliasingDiagnostic
+    ensures { λ r. ⌜ r ≡ Decoded.diagnosticAt (old im) k ⌝ }
+{
+    let identity = cell(im, 5, k, 3);
+    AliasingDiagnostic {
+        identity,
+        instance: identity,
+    }
+}
+
+// The first place of candidate k.
+// "a destination is the second, any other the first"
+fn first_at(im: &[u32], k: u32) -> Place
+    ensures { λ r. ⌜ r ≡ placeAt (old im) (Image.firstPlace (old im) k) ⌝ }
+{
+    place_at(im, cell(im, 5, k, 1))
+}
+
+// The second place of candidate k.
+// "a destination is the second, any other the first"
+fn second_at(im: &[u32], k: u32) -> Place
+    ensures { λ r. ⌜ r ≡ placeAt (old im) (Image.secondPlace (old im) k) ⌝ }
+{
+    place_at(im, cell(im, 5, k, 2))
+}
+
+// The effect of candidate k, without captures.
+// A number that is no code reads as Render; such an image is refused before it is used.
+fn head_at(im: &[u32], k: u32) -> AliasingEffect
+    ensures { λ r. ⌜ r ≡ headAt (old im) k ⌝ }
+{
+    let code = cell(im, 5, k, 0);
+    match code {
+        0 => AliasingEffect::Freeze {
+            place: first_at(im, k),
+            reason: cell(im, 5, k, 4),
+        },
+        1 => AliasingEffect::Mutate {
+            place: first_at(im, k),
+            reason: cell(im, 5, k, 3),
+        },
+        2 => AliasingEffect::MutateConditionally {
+            place: first_at(im, k),
+        },
+        3 => AliasingEffect::MutateTransitive {
+            place: first_at(im, k),
+        },
+        4 => AliasingEffect::MutateTransitiveConditionally {
+            place: first_at(im, k),
+        },
+        5 => AliasingEffect::Capture {
+            from: first_at(im, k),
+            into: second_at(im, k),
+        },
+        6 => AliasingEffect::Alias {
+            from: first_at(im, k),
+            into: second_at(im, k),
+        },
+        7 => AliasingEffect::MaybeAlias {
+            from: first_at(im, k),
+            into: second_at(im, k),
+        },
+        8 => AliasingEffect::Assign {
+            from: first_at(im, k),
+            into: second_at(im, k),
+        },
+        9 => AliasingEffect::Create {
+            into: second_at(im, k),
+            kind: kind_at(cell(im, 5, k, 3)),
+            reason: cell(im, 5, k, 4),
+        },
+        10 => AliasingEffect::CreateFrom {
+            from: first_at(im, k),
+            into: second_at(im, k),
+        },
+        11 => AliasingEffect::ImmutableCapture {
+            from: first_at(im, k),
+            into: second_at(im, k),
+        },
+        13 => AliasingEffect::CreateFunction {
+            function: cell(im, 5, k, 5),
+            into: second_at(im, k),
+        },
+        14 => AliasingEffect::MutateFrozen {
+            place: first_at(im, k),
+            error: diagnostic_at(im, k),
+        },
+        15 => AliasingEffect::MutateGlobal {
+            place: first_at(im, k),
+            error: diagnostic_at(im, k),
+        },
+        16 => AliasingEffect::Impure {
+            place: first_at(im, k),
+            error: diagnostic_at(im, k),
+        },
+        _ => AliasingEffect::Render {
+            place: first_at(im, k),
+        },
+    }
+}
+
+// A CreateFunction is written as candidate k, with its captures.
+// "first and count of captures (16)": they are copied from the image's places.
+fn decode_creation(im: &[u32], k: u32, xs: &mut [u32])
+    ensures { λ _. ⌜
+        new xs
+        ≡ putEffect candidateTable (old xs) k
+        (CreateFunction
+        (placesFrom (old im) (Image.capturesFirst (old im) k)
+        (Image.capturesCount (old im) k)) (Image.function (old im) k)
+        (placeAt (old im) (Image.secondPlace (old im) k))) ⌝ }
+{
+    let i = wide32(k);
+    let first = cell(im, 5, k, 6);
+    let n = cell(im, 5, k, 7);
+    put_field(CANDIDATES, xs, i, 0, 13);
+    put_place(CANDIDATES, xs, i, 6, 0, second_at(im, k));
+    put_field(CANDIDATES, xs, i, 14, cell(im, 5, k, 5));
+    put_field(CANDIDATES, xs, i, 17, n);
+    put_run(CANDIDATES, xs, i, 18, im, first, n);
+}
+
+// Candidate k is written as its record.
+// Of all effects a CreateFunction alone has captures.
+fn decode_candidate(im: &[u32], k: u32, xs: &mut [u32])
+    ensures { λ _. ⌜ new xs ≡ decodedCandidate (old im) k (old xs) ⌝ }
+{
+    let code = cell(im, 5, k, 0);
+    if code == 13 {
+        decode_creation(im, k, xs);
+        return;
+    }
+    let none = [0u32; 1];
+    put_effect(CANDIDATES, xs, wide32(k), head_at(im, k), &none);
+}
+
+// All candidates of the image are written as records.
+// As many as the header says, one after the other.
+pub fn decode_candidates(im: &[u32], xs: &mut [u32])
+    ensures { λ _. ⌜ new xs ≡ decodedCandidates (old im) (countOf (old im) Image.candidates) (old xs) ⌝ }
+{
+    let n = count_of(im, 5);
+    let mut k: u32 = 0;
+    while k < n {
+        decode_candidate(im, k, xs);
+        k += 1;
+    }
+}

@@ -1,0 +1,3 @@
+pub mod Inferring
+pub mod Promise
+pub mod Laws

@@ -1,0 +1,7 @@
+pub mod Text
+pub mod Decimals
+pub mod Pieces
+pub mod Lines
+pub mod Loops
+pub mod Lengths
+pub mod Suffices

@@ -1,0 +1,517 @@
+// The listing of a job as bytes in a lent buffer (document 01, 'The job image and its program').
+// Every function writes from a place of the buffer on and answers the place after; what does not fit is left out.
+ghost use mathlib.Core.Path.{_≡_};
+ghost use Prim.Native.Nat.{_+_, _%_, _≤_};
+ghost use lib.ListN.{length};
+ghost use mathlib.Core.List.{[], _∷_};
+ghost use mathlib.Core.Option.{none, some};
+ghost use Rattle.def_kinds.specs.Kinds as Kinds;
+ghost use Rattle.lent_keys.specs.KeyRecords.{optionOf};
+ghost use Rattle.lent_values.specs.Cells.{valueAt};
+ghost use Rattle.lent_sets.specs.Rows.{setAt, valuesOf};
+ghost use Rattle.def_image.specs.Listing.{ascii, decimal, newline, line, row, place, mutationReason, undefinedIdentifier, valueLine, setLine, orAbsent};
+ghost use Rattle.image_listing.specs.Texts.{cursor, putAll, column, columns, headLine, listedLines, valueLines, setLines, lentListing, lentRefusal};
+ghost use Rattle.lent_slices.specs.Lent.{old, new};
+use def_effects::AliasingDiagnostic;
+use def_effects::Place;
+use def_kinds::AbstractValue;
+use def_kinds::ValueKind;
+use lent_effects::AliasingEffect;
+use lent_effects::effect_in;
+use lent_effects::kind_word;
+use lent_keys::Found;
+use lent_sets::is_defined;
+use lent_sets::next_member;
+use lent_slices::wide32;
+use lent_tables::Table;
+use lent_values::Entry;
+use lent_values::value_at;
+
+// The output list: 1,120 records of 98 words.
+// "The output list has 1,120 records (32 + 64 × 17, so it suffices)."
+const OUTPUT: Table = Table {
+    base: 0,
+    count: 1120,
+    width: 98,
+};
+
+// One byte is written, and the place moves on; past the end nothing changes.
+// Every byte of a listing goes through it.
+fn put_byte(buffer: &mut [u8], at: usize, x: u8) -> usize
+    ensures { λ r. ⌜ cursor r (new buffer) ≡ putAll (x ∷ []) (cursor at (old buffer)) ⌝ }
+{
+    if at < buffer.len() {
+        buffer[at] = x;
+        return at + 1;
+    }
+    at
+}
+
+// The ASCII code of a number's last digit.
+// 48 is that of 0.
+fn last_digit(n: u32) -> u8
+    ensures { λ r. ⌜ r ≡ 48 + n % 10 ⌝ }
+{
+    48 + (n % 10) as u8
+}
+
+// A number in decimal digits, the highest first.
+// Those of its tenth come before its last one.
+fn put_decimal(buffer: &mut [u8], at: usize, n: u32) -> usize
+    ensures { λ r. ⌜ cursor r (new buffer) ≡ putAll (decimal n) (cursor at (old buffer)) ⌝ }
+{
+    if n < 10 {
+        return put_byte(buffer, at, last_digit(n));
+    }
+    let next = put_decimal(buffer, at, n / 10);
+    put_byte(buffer, next, last_digit(n))
+}
+
+// A blank and a number.
+// The columns of a line are parted by blanks.
+fn put_number(buffer: &mut [u8], at: usize, n: u32) -> usize
+    ensures { λ r. ⌜ cursor r (new buffer) ≡ putAll (column (some n)) (cursor at (old buffer)) ⌝ }
+{
+    let next = put_byte(buffer, at, 32);
+    put_decimal(buffer, next, n)
+}
+
+// A blank and a dash.
+// "Absent is `-`."
+fn put_absent(buffer: &mut [u8], at: usize) -> usize
+    ensures { λ r. ⌜ cursor r (new buffer) ≡ putAll (column none) (cursor at (old buffer)) ⌝ }
+{
+    let next = put_byte(buffer, at, 32);
+    put_byte(buffer, next, 45)
+}
+
+// A blank and a number that may be absent.
+// A column of an effect's line.
+fn put_column(buffer: &mut [u8], at: usize, x: Found) -> usize
+    ensures { λ r. ⌜ cursor r (new buffer) ≡ putAll (column (optionOf x)) (cursor at (old buffer)) ⌝ }
+{
+    match x {
+        Found::Nowhere => put_absent(buffer, at),
+        Found::At(n) => put_number(buffer, at, n),
+    }
+}
+
+// The end of a line.
+// Every line of a listing has one.
+fn put_newline(buffer: &mut [u8], at: usize) -> usize
+    ensures { λ r. ⌜ cursor r (new buffer) ≡ putAll (newline ∷ []) (cursor at (old buffer)) ⌝ }
+{
+    put_byte(buffer, at, 10)
+}
+
+// The first line of a listing.
+// "OK: effects, walk entries."
+fn put_head(buffer: &mut [u8], at: usize, count: u32, entries: u32) -> usize
+    ensures { λ r. ⌜
+        cursor r (new buffer)
+        ≡ putAll (line (ascii "OK") (some count ∷ some entries ∷ [])) (cursor at (old buffer)) ⌝ }
+{
+    let o = put_byte(buffer, at, 79);
+    let k = put_byte(buffer, o, 75);
+    let a = put_number(buffer, k, count);
+    let b = put_number(buffer, a, entries);
+    put_newline(buffer, b)
+}
+
+// ---- effects
+
+// The line of an effect from its six columns.
+// "E: code, source, destination, kind, reason, function or diagnostic."
+fn put_row(
+    buffer: &mut [u8],
+    at: usize,
+    code: u32,
+    source: Found,
+    destination: Found,
+    kind: Found,
+    reason: Found,
+    last: Found,
+) -> usize
+    ensures { λ r. ⌜
+        cursor r (new buffer)
+        ≡ putAll
+        (line (ascii "E")
+        (row code (optionOf source) (optionOf destination) (optionOf kind)
+        (optionOf reason) (optionOf last))) (cursor at (old buffer)) ⌝ }
+{
+    let e = put_byte(buffer, at, 69);
+    let a = put_number(buffer, e, code);
+    let b = put_column(buffer, a, source);
+    let c = put_column(buffer, b, destination);
+    let d = put_column(buffer, c, kind);
+    let f = put_column(buffer, d, reason);
+    let g = put_column(buffer, f, last);
+    put_newline(buffer, g)
+}
+
+// How a mutation reason is shown.
+// "A mutation reason stands under reason by its code, none as `-`."
+fn mutation_reason(r: u32) -> Found
+    ensures { λ f. ⌜ optionOf f ≡ mutationReason r ⌝ }
+{
+    if r == 0 {
+        return Found::Nowhere;
+    }
+    Found::At(r)
+}
+
+// The line of an effect of two places.
+// "Places are shown by identifier."
+fn put_pair(buffer: &mut [u8], at: usize, code: u32, from: Place, into: Place) -> usize
+    ensures { λ r. ⌜
+        cursor r (new buffer)
+        ≡ putAll (line (ascii "E") (row code (place from) (place into) none none none))
+        (cursor at (old buffer)) ⌝ }
+{
+    let source = Found::At(from.identifier);
+    let destination = Found::At(into.identifier);
+    put_row(
+        buffer,
+        at,
+        code,
+        source,
+        destination,
+        Found::Nowhere,
+        Found::Nowhere,
+        Found::Nowhere,
+    )
+}
+
+// The line of an effect of one place that is no destination, with what stands under reason and in the last column.
+// "A place that is no destination is a source."
+fn put_source(
+    buffer: &mut [u8],
+    at: usize,
+    code: u32,
+    p: Place,
+    reason: Found,
+    last: Found,
+) -> usize
+    ensures { λ r. ⌜
+        cursor r (new buffer)
+        ≡ putAll (line (ascii "E") (row code (place p) none none (optionOf reason) (optionOf last)))
+        (cursor at (old buffer)) ⌝ }
+{
+    let source = Found::At(p.identifier);
+    put_row(
+        buffer,
+        at,
+        code,
+        source,
+        Found::Nowhere,
+        Found::Nowhere,
+        reason,
+        last,
+    )
+}
+
+// The line of an effect that has one place and no more.
+// Its other columns are absent.
+fn put_single(buffer: &mut [u8], at: usize, code: u32, p: Place) -> usize
+    ensures { λ r. ⌜
+        cursor r (new buffer)
+        ≡ putAll (line (ascii "E") (row code (place p) none none none none)) (cursor at (old buffer)) ⌝ }
+{
+    put_source(buffer, at, code, p, Found::Nowhere, Found::Nowhere)
+}
+
+// The line of an effect that has one place and a reason, which may be absent.
+// Freeze and Mutate.
+fn put_reasoned(buffer: &mut [u8], at: usize, code: u32, p: Place, reason: Found) -> usize
+    ensures { λ r. ⌜
+        cursor r (new buffer)
+        ≡ putAll (line (ascii "E") (row code (place p) none none (optionOf reason) none))
+        (cursor at (old buffer)) ⌝ }
+{
+    put_source(buffer, at, code, p, reason, Found::Nowhere)
+}
+
+// The line of an effect that has one place and a diagnostic.
+// A diagnostic is shown by its place in the table.
+fn put_reported(buffer: &mut [u8], at: usize, code: u32, p: Place, d: AliasingDiagnostic) -> usize
+    ensures { λ r. ⌜
+        cursor r (new buffer)
+        ≡ putAll (line (ascii "E") (row code (place p) none none none (some (d .instance))))
+        (cursor at (old buffer)) ⌝ }
+{
+    put_source(buffer, at, code, p, Found::Nowhere, Found::At(d.instance))
+}
+
+// The line of a Create.
+// Its place is a destination.
+fn put_create(buffer: &mut [u8], at: usize, p: Place, kind: ValueKind, reason: u32) -> usize
+    ensures { λ r. ⌜
+        cursor r (new buffer)
+        ≡ putAll (line (ascii "E") (row 9 none (place p) (some (Kinds.codeOf kind)) (some reason) none))
+        (cursor at (old buffer)) ⌝ }
+{
+    let k = Found::At(kind_word(kind));
+    let into = Found::At(p.identifier);
+    put_row(
+        buffer,
+        at,
+        9,
+        Found::Nowhere,
+        into,
+        k,
+        Found::At(reason),
+        Found::Nowhere,
+    )
+}
+
+// The line of a CreateFunction.
+// Its captures are not shown.
+fn put_function(buffer: &mut [u8], at: usize, function: u32, p: Place) -> usize
+    ensures { λ r. ⌜
+        cursor r (new buffer)
+        ≡ putAll (line (ascii "E") (row 13 none (place p) none none (some function)))
+        (cursor at (old buffer)) ⌝ }
+{
+    let into = Found::At(p.identifier);
+    let last = Found::At(function);
+    put_row(
+        buffer,
+        at,
+        13,
+        Found::Nowhere,
+        into,
+        Found::Nowhere,
+        Found::Nowhere,
+        last,
+    )
+}
+
+// The line of an effect, by its kind.
+// "E: code, source, destination, kind, reason, function or diagnostic."
+fn put_effect(buffer: &mut [u8], at: usize, e: AliasingEffect) -> usize
+    ensures { λ r. ⌜ cursor r (new buffer) ≡ putAll (headLine e) (cursor at (old buffer)) ⌝ }
+{
+    match e {
+        AliasingEffect::Freeze { place, reason } => put_reasoned(
+            buffer,
+            at,
+            0,
+            place,
+            Found::At(reason),
+        ),
+        AliasingEffect::Mutate { place, reason } => {
+            let shown = mutation_reason(reason);
+            put_reasoned(buffer, at, 1, place, shown)
+        }
+        AliasingEffect::MutateConditionally { place } => put_single(buffer, at, 2, place),
+        AliasingEffect::MutateTransitive { place } => put_single(buffer, at, 3, place),
+        AliasingEffect::MutateTransitiveConditionally { place } => put_single(buffer, at, 4, place),
+        AliasingEffect::Capture { from, into } => put_pair(buffer, at, 5, from, into),
+        AliasingEffect::Alias { from, into } => put_pair(buffer, at, 6, from, into),
+        AliasingEffect::MaybeAlias { from, into } => put_pair(buffer, at, 7, from, into),
+        AliasingEffect::Assign { from, into } => put_pair(buffer, at, 8, from, into),
+        AliasingEffect::Create { into, kind, reason } => put_create(buffer, at, into, kind, reason),
+        AliasingEffect::CreateFrom { from, into } => put_pair(buffer, at, 10, from, into),
+        AliasingEffect::ImmutableCapture { from, into } => put_pair(buffer, at, 11, from, into),
+        AliasingEffect::CreateFunction { function, into } => put_function(
+            buffer,
+            at,
+            function,
+            into,
+        ),
+        AliasingEffect::MutateFrozen { place, error } => put_reported(buffer, at, 14, place, error),
+        AliasingEffect::MutateGlobal { place, error } => put_reported(buffer, at, 15, place, error),
+        AliasingEffect::Impure { place, error } => put_reported(buffer, at, 16, place, error),
+        AliasingEffect::Render { place } => put_single(buffer, at, 17, place),
+    }
+}
+
+// The lines of the effects of the output list.
+// In the order in which they were listed.
+fn effect_lines(buffer: &mut [u8], at: usize, output: &[u32], count: u32) -> usize
+    ensures { λ r. ⌜
+        cursor r (new buffer) ≡ putAll (listedLines (old output) count) (cursor at (old buffer)) ⌝ }
+{
+    let mut next = at;
+    let mut k: u32 = 0;
+    while k < count {
+        let e = effect_in(OUTPUT, output, wide32(k));
+        next = put_effect(buffer, next, e);
+        k += 1;
+    }
+    next
+}
+
+// ---- values
+
+// The line of a value that has an entry.
+// "V: number, kind, reasons."
+fn put_value(buffer: &mut [u8], at: usize, v: u32, a: AbstractValue) -> usize
+    ensures { λ r. ⌜ cursor r (new buffer) ≡ putAll (valueLine v (some a)) (cursor at (old buffer)) ⌝ }
+{
+    let k = a.kind;
+    let kind = kind_word(k);
+    let reason = a.reason;
+    let w = put_byte(buffer, at, 86);
+    let x = put_number(buffer, w, v);
+    let y = put_number(buffer, x, kind);
+    let z = put_number(buffer, y, reason);
+    put_newline(buffer, z)
+}
+
+// The line of a value number, if it has an entry.
+// One that has none is not shown.
+fn put_value_line(buffer: &mut [u8], at: usize, values: &[u64], v: u32) -> usize
+    ensures { λ r. ⌜
+        cursor r (new buffer) ≡ putAll (valueLine v (valueAt (old values) v)) (cursor at (old buffer)) ⌝ }
+{
+    match value_at(values, wide32(v)) {
+        Entry::Absent => at,
+        Entry::Present(a) => put_value(buffer, at, v, a),
+    }
+}
+
+// The lines of the values 1 to 1,023.
+// Ascending.
+fn value_lines(buffer: &mut [u8], at: usize, values: &[u64]) -> usize
+    ensures { λ r. ⌜ cursor r (new buffer) ≡ putAll (valueLines (old values)) (cursor at (old buffer)) ⌝ }
+{
+    let mut next = at;
+    let mut v: u32 = 1;
+    while v < 1024 {
+        next = put_value_line(buffer, next, values, v);
+        v += 1;
+    }
+    next
+}
+
+// ---- sets
+
+// The columns of an identifier's values, ascending; a dash where there are none.
+// "its values, or `-` for an empty set."
+fn put_members(buffer: &mut [u8], at: usize, sets: &[u64], i: u32) -> usize
+    ensures { λ r. ⌜
+        cursor r (new buffer)
+        ≡ putAll (columns (orAbsent (valuesOf (setAt (old sets) i)))) (cursor at (old buffer)) ⌝ }
+{
+    if !is_defined(sets, i) {
+        return put_absent(buffer, at);
+    }
+    let mut m = next_member(sets, i, 1);
+    if m >= 1024 {
+        return put_absent(buffer, at);
+    }
+    let mut next = at;
+    while m < 1024 {
+        next = put_number(buffer, next, m);
+        m = next_member(sets, i, m + 1);
+    }
+    next
+}
+
+// The line of an identifier, if it is defined.
+// "P: identifier, its values, or `-` for an empty set."
+fn put_set_line(buffer: &mut [u8], at: usize, sets: &[u64], i: u32) -> usize
+    ensures { λ r. ⌜
+        cursor r (new buffer) ≡ putAll (setLine i (setAt (old sets) i)) (cursor at (old buffer)) ⌝ }
+{
+    if !is_defined(sets, i) {
+        return at;
+    }
+    let p = put_byte(buffer, at, 80);
+    let a = put_number(buffer, p, i);
+    let b = put_members(buffer, a, sets, i);
+    put_newline(buffer, b)
+}
+
+// The lines of the identifiers 0 to 511.
+// Ascending.
+fn set_lines(buffer: &mut [u8], at: usize, sets: &[u64]) -> usize
+    ensures { λ r. ⌜ cursor r (new buffer) ≡ putAll (setLines (old sets)) (cursor at (old buffer)) ⌝ }
+{
+    let mut next = at;
+    let mut i: u32 = 0;
+    while i < 512 {
+        next = put_set_line(buffer, next, sets, i);
+        i += 1;
+    }
+    next
+}
+
+// ---- the whole
+
+// The identifier of an access: "0, or 1 + identifier".
+// A session holds it so.
+fn undefined_identifier(access: u32) -> Found
+    ensures { λ f. ⌜ optionOf f ≡ undefinedIdentifier access ⌝ }
+{
+    if access == 0 {
+        return Found::Nowhere;
+    }
+    Found::At(access - 1)
+}
+
+// The last line of a listing.
+// "U: first undefined identifier."
+fn put_undefined(buffer: &mut [u8], at: usize, access: u32) -> usize
+    ensures { λ r. ⌜
+        cursor r (new buffer)
+        ≡ putAll (line (ascii "U") (undefinedIdentifier access ∷ [])) (cursor at (old buffer)) ⌝ }
+{
+    let shown = undefined_identifier(access);
+    let u = put_byte(buffer, at, 85);
+    let a = put_column(buffer, u, shown);
+    put_newline(buffer, a)
+}
+
+// The listing of what a call left in the lent tables, from the buffer's first byte on; the answer is its length.
+// What the buffer has no room for is left out; a buffer of 2,900,000 bytes suffices for every result, of which no more than 1,120 effects are listed.
+pub fn put_listing(
+    buffer: &mut [u8],
+    output: &[u32],
+    count: u32,
+    entries: u32,
+    values: &[u64],
+    sets: &[u64],
+    access: u32,
+) -> usize
+    ensures { λ r. ⌜
+        (cursor r (new buffer)
+        ≡ putAll (lentListing (old output) count entries (old values) (old sets) access)
+        (cursor 0 (old buffer)))
+        × (count ≤ 1120
+        → length (lentListing (old output) count entries (old values) (old sets) access) ≤
+        2900000) ⌝ }
+{
+    let a = put_head(buffer, 0, count, entries);
+    let b = effect_lines(buffer, a, output, count);
+    let c = value_lines(buffer, b, values);
+    let d = set_lines(buffer, c, sets);
+    put_undefined(buffer, d, access)
+}
+
+// The word of a refusal.
+// Seven letters.
+fn put_refused(buffer: &mut [u8], at: usize) -> usize
+    ensures { λ r. ⌜ cursor r (new buffer) ≡ putAll (ascii "REFUSED") (cursor at (old buffer)) ⌝ }
+{
+    let a = put_byte(buffer, at, 82);
+    let b = put_byte(buffer, a, 69);
+    let c = put_byte(buffer, b, 70);
+    let d = put_byte(buffer, c, 85);
+    let e = put_byte(buffer, d, 83);
+    let f = put_byte(buffer, e, 69);
+    put_byte(buffer, f, 68)
+}
+
+// What is written of a refusal, from the buffer's first byte on; the answer is its length.
+// "A refusal prints only `REFUSED n`."
+pub fn put_refusal(buffer: &mut [u8], n: u32) -> usize
+    ensures { λ r. ⌜
+        (cursor r (new buffer) ≡ putAll (lentRefusal n) (cursor 0 (old buffer)))
+        × (length (lentRefusal n) ≤ 2900000) ⌝ }
+{
+    let a = put_refused(buffer, 0);
+    let b = put_number(buffer, a, n);
+    put_newline(buffer, b)
+}

@@ -1,2 +1,0 @@
-pub mod Inferring
-pub mod InferringLaws

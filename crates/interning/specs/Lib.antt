@@ -1,3 +1,0 @@
-pub mod Interning
-pub mod InterningLaws
-pub mod RefreshLaws

@@ -1,4 +1,0 @@
-pub mod Kinds
-pub mod Laws
-pub mod Reasons
-pub mod Values

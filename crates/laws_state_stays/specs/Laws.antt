@@ -1,0 +1,4 @@
+pub mod Fits
+pub mod Merged
+pub mod MergeCallsStay
+pub mod Stays

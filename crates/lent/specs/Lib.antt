@@ -1,4 +1,0 @@
-pub mod World
-pub mod StateLaws
-pub mod ContextLaws
-pub mod LentLawful

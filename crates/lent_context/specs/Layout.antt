@@ -1,0 +1,70 @@
+-- Where each table of a context stands in its one lent list of words. Assumes nothing: these are definitions.
+-- What an instruction only reads comes first (options, identifiers, functions), then what it may change, and last the interned effects,
+-- so that a refusal restores one run of words and clears the effects that were appended.
+use Prim.Native.Nat.{ℕ}
+use Rattle.lent_tables.specs.declared.Table.{Table}
+
+-- the options: bit 0 `enable_preserve_existing_memoization_guarantees`, bit 1 `enable_transitively_freeze_function_expressions`
+-- either makes a freeze transitive
+abbrev pub options : ℕ
+options = 0
+
+-- how many identifiers there are
+-- "identifiers (at most 512)"
+abbrev pub identifierCount : ℕ
+identifierCount = 1
+
+-- how many functions there are
+-- "functions (64)"
+abbrev pub functionCount : ℕ
+functionCount = 2
+
+-- identifiers: "flags (1 ref, 2 hoisted), name 1..512 or 0, access start, end"
+-- four words, as in an image
+abbrev pub identifiers : Table
+identifiers = record { base = 3; count = 512; width = 4 }
+
+-- functions: flags (1 effects known, 2 tracked side effect), count of context places, count of places mutated inside, 32 such places
+-- the context places stand in a table of their own, since they change
+abbrev pub functions : Table
+functions = record { base = 2051; count = 64; width = 163 }
+
+-- how many interned effects there are
+-- they are appended, in the order in which they come
+abbrev pub internedCount : ℕ
+internedCount = 12483
+
+-- how many diagnostics there are
+-- appended too
+abbrev pub diagnosticCount : ℕ
+diagnosticCount = 12484
+
+-- the context places of each function, sixteen of five words
+-- "each function has its own copy of its context places"
+abbrev pub contexts : Table
+contexts = record { base = 12485; count = 64; width = 80 }
+
+-- the function of each fresh number: 0, or 1 and the function
+-- "function links"
+abbrev pub links : Table
+links = record { base = 17605; count = 512; width = 2 }
+
+-- the key under which each fresh number was handed out, or none
+-- "cached numbers"
+abbrev pub cached : Table
+cached = record { base = 18629; count = 512; width = 28 }
+
+-- diagnostics: identity, identifier, message case, sentence, name, access span, own span
+-- "message case, sentence number .., name number and label spans"
+abbrev pub diagnostics : Table
+diagnostics = record { base = 32965; count = 256; width = 9 }
+
+-- interned effects: the first effect under a key
+-- the last table: 2,048 records
+abbrev pub interned : Table
+interned = record { base = 35269; count = 2048; width = 98 }
+
+-- how many words a context has
+-- "1 a lent slice .. has the wrong length"
+abbrev pub long : ℕ
+long = 235973

@@ -1,0 +1,213 @@
+-- The tables of a context as one lent list of words: how each is read and written. Assumes nothing: these are definitions.
+use Prim.Native.Nat.{ℕ, zero, suc, _+_, _*_, _/_, _%_}
+use mathlib.Core.Bool.{Bool, not, _&&_}
+use mathlib.Core.List.{List, [], _∷_}
+use mathlib.Core.Option.{Option, none, some}
+use lib.Dec.{eqb}
+use lib.ListN.{getD, set}
+use Rattle.base_tests.specs.Tests.{ite}
+use Rattle.def_effects.specs.declared.Span.{Span}
+use Rattle.def_effects.specs.declared.Place.{Place}
+use Rattle.def_effects.specs.Places as Places
+use Rattle.def_effects.specs.Effects.{AliasingEffect}
+use Rattle.def_effects.specs.Keys.{EffectKey}
+use Rattle.def_transfer.specs.Diagnostics.{Diagnostic}
+use Rattle.def_transfer.specs.Pure as Pure
+use Rattle.def_transfer.specs.Pure.{Interned, firstCached, identities}
+use Rattle.lent_tables.specs.declared.Table.{Table}
+use Rattle.lent_tables.specs.Words.{field, putField, placesIn}
+use Rattle.lent_effects.specs.Records.{effectIn, putEffect}
+use Rattle.lent_keys.specs.KeyRecords.{optionIn, putOption, keyIn}
+use Rattle.lent_keys.specs.KeyRecords as Keys
+use Rattle.lent_context.specs.Layout as Layout
+
+-- bit 0 and bit 1 of flags
+-- any number is read; a flag out of range is refused before it is used
+abbrev pub flagOne : ℕ → Bool
+flagOne x = eqb (x % 2) 1
+
+-- the second flag of a word
+-- hoisted, or a tracked side effect
+abbrev pub flagTwo : ℕ → Bool
+flagTwo x = eqb (x / 2 % 2) 1
+
+-- ---- interned effects
+
+-- n effects of a table, from record k on
+-- in the order in which they were interned
+unfoldable pub effectsIn : Table → List ℕ → ℕ → ℕ → List AliasingEffect
+effectsIn t c k zero = []
+effectsIn t c k (suc n) = effectIn t c k ∷ effectsIn t c (suc k) n
+
+-- how many effects are interned
+-- they stand one after the other, in the order in which they came
+unfoldable pub internedCount : List ℕ → ℕ
+internedCount c = getD c Layout.internedCount 0
+
+-- "The first effect under a key of `effect_key` is used ever after"
+-- the definition's own search, over the effects that the words hold
+unfoldable pub findEffect : List ℕ → EffectKey → Option AliasingEffect
+findEffect c k = Pure.findEffect (effectsIn Layout.interned c 0 (internedCount c)) k
+
+-- an interned effect by its place in the table, or none
+-- code finds places, the definition effects
+abbrev pub effectAt : List ℕ → Option ℕ → Option AliasingEffect
+effectAt c none = none
+effectAt c (some k) = some (effectIn Layout.interned c k)
+
+-- an effect is appended, and counted
+-- "a 2,049th key to intern" is refused before
+unfoldable pub addEffect : List ℕ → AliasingEffect → List ℕ
+addEffect c e = set (putEffect Layout.interned c (internedCount c) e) Layout.internedCount (internedCount c + 1)
+
+-- ---- cached numbers
+
+-- the key under which a fresh number was handed out, if it was
+-- document 01's cached numbers
+unfoldable pub keyAt : List ℕ → ℕ → Option EffectKey
+keyAt c n = keyIn Layout.cached c n
+
+-- the lowest fresh number that is cached under a key
+-- the definition's own search
+unfoldable pub findNumber : List ℕ → EffectKey → Option ℕ
+findNumber c k = firstCached 511 1 (keyAt c) k
+
+-- a fresh number is cached under a key
+-- it is handed out once
+unfoldable pub putKey : List ℕ → ℕ → EffectKey → List ℕ
+putKey c n k = Keys.putKey Layout.cached c n k
+
+-- ---- function links
+
+-- the function that a value stands for, if any
+-- "each value in it with a function"; only fresh numbers have one
+unfoldable pub linkOf : List ℕ → ℕ → Option ℕ
+linkOf c v = optionIn Layout.links c v 0
+
+-- a value stands for a function from now on
+-- CreateFunction does so
+unfoldable pub putLink : List ℕ → ℕ → ℕ → List ℕ
+putLink c v f = putOption Layout.links c v 0 (some f)
+
+-- ---- functions
+
+-- the context places of a function, in order
+-- "each function has its own copy of its context places"; their count stands with the function
+unfoldable pub contextOf : List ℕ → ℕ → List Place
+contextOf c f = placesIn Layout.contexts c f 0 0 (field Layout.functions c f 1)
+
+-- the places that a function mutates inside, in order
+-- the early MutateFrozen asks for them
+unfoldable pub mutatedInside : List ℕ → ℕ → List Place
+mutatedInside c f = placesIn Layout.functions c f 3 0 (field Layout.functions c f 2)
+
+-- whether a function has a tracked side effect
+-- "flags (1 effects known, 2 tracked side effect)"
+unfoldable pub hasTrackedSideEffect : List ℕ → ℕ → Bool
+hasTrackedSideEffect c f = flagTwo (field Layout.functions c f 0)
+
+-- context place k of a function, made Read if it is a Capture of identifier i
+-- one word is written
+unfoldable pub readPlace : ℕ → ℕ → ℕ → List ℕ → List ℕ
+readPlace f i k c =
+    ite (eqb (field Layout.contexts c f (k * 5)) i && eqb (field Layout.contexts c f (k * 5 + 1)) Places.Capture) (putField Layout.contexts c f (k * 5 + 1) Places.Read) c
+
+-- so n context places from k on
+-- in order
+unfoldable pub readPlaces : ℕ → ℕ → ℕ → ℕ → List ℕ → List ℕ
+readPlaces f i k zero c = c
+readPlaces f i k (suc n) c = readPlaces f i (suc k) n (readPlace f i k c)
+
+-- "turns a Capture context place of its function into Read"
+-- each such place of one identifier, in the function's own copy
+unfoldable pub makeRead : List ℕ → ℕ → ℕ → List ℕ
+makeRead c f i = readPlaces f i 0 (field Layout.functions c f 1) c
+
+-- ---- identifiers and options
+
+-- whether an identifier is a ref
+-- "one flag per identifier, the answer of `is_ref_or_ref_value`"
+unfoldable pub isRef : List ℕ → ℕ → Bool
+isRef c i = flagOne (field Layout.identifiers c i 0)
+
+-- whether an identifier is hoisted
+-- "The hoisted map: a flag and an access span per identifier"
+unfoldable pub isHoisted : List ℕ → ℕ → Bool
+isHoisted c i = flagTwo (field Layout.identifiers c i 0)
+
+-- where a hoisted identifier is accessed
+-- both words are zero if it is not hoisted
+unfoldable pub accessSpan : List ℕ → ℕ → Span
+accessSpan c i = record { start = field Layout.identifiers c i 2; end = field Layout.identifiers c i 3 }
+
+-- the name number of an identifier
+-- "name 1..512 or 0"
+unfoldable pub nameOf : List ℕ → ℕ → ℕ
+nameOf c i = field Layout.identifiers c i 1
+
+-- whether a freeze is transitive
+-- "(either option on)"
+unfoldable pub isTransitive : List ℕ → Bool
+isTransitive c = not (eqb (getD c Layout.options 0) 0)
+
+-- ---- diagnostics
+
+-- record k of the diagnostics, with its identity
+-- nine words
+unfoldable pub diagnosticIn : List ℕ → ℕ → Interned
+diagnosticIn c k = record {
+  identity = field Layout.diagnostics c k 0;
+  diagnostic = record {
+    identifier = field Layout.diagnostics c k 1;
+    case = field Layout.diagnostics c k 2;
+    sentence = field Layout.diagnostics c k 3;
+    name = field Layout.diagnostics c k 4;
+    access = record { start = field Layout.diagnostics c k 5; end = field Layout.diagnostics c k 6 };
+    own = record { start = field Layout.diagnostics c k 7; end = field Layout.diagnostics c k 8 };
+  };
+}
+
+-- n of them from record k on
+-- in the order in which they came
+unfoldable pub diagnosticsIn : List ℕ → ℕ → ℕ → List Interned
+diagnosticsIn c k zero = []
+diagnosticsIn c k (suc n) = diagnosticIn c k ∷ diagnosticsIn c (suc k) n
+
+-- how many diagnostics there are
+-- each record is an instance
+unfoldable pub instanceCount : List ℕ → ℕ
+instanceCount c = getD c Layout.diagnosticCount 0
+
+-- all diagnostics of a context
+-- as the definition's own searches take them
+abbrev pub diagnosticsOf : List ℕ → List Interned
+diagnosticsOf c = diagnosticsIn c 0 (instanceCount c)
+
+-- how many distinct diagnostics there are, spans apart
+-- identities are numbered as they come
+unfoldable pub identityCount : List ℕ → ℕ
+identityCount c = identities (diagnosticsOf c)
+
+-- the identity of an equal diagnostic, if there is one
+-- "Sharing of numbers follows `intern_aliasing_diagnostic`"
+unfoldable pub findIdentity : List ℕ → Diagnostic → Option ℕ
+findIdentity c d = Pure.findIdentity (diagnosticsOf c) d
+
+-- the record of that identity with the same spans, if there is one
+-- its number is the instance
+unfoldable pub findInstance : List ℕ → ℕ → Diagnostic → Option ℕ
+findInstance c n d = Pure.findInstance 0 (diagnosticsOf c) n d
+
+-- the words of a diagnostic written as record k
+-- in the order of the record
+unfoldable pub putDiagnostic : List ℕ → ℕ → ℕ → Diagnostic → List ℕ
+putDiagnostic c k n d =
+    put (put (put (put (put (put (put (put (put c 0 n) 1 (d .identifier)) 2 (d .case)) 3 (d .sentence)) 4 (d .name)) 5 (d .access .start)) 6 (d .access .end)) 7 (d .own .start)) 8 (d .own .end)
+  where
+    put : List ℕ → ℕ → ℕ → List ℕ
+    put c w x = putField Layout.diagnostics c k w x
+
+-- a diagnostic is appended with its identity, and counted
+-- "a 257th diagnostic or instance" is refused before
+unfoldable pub addDiagnostic : List ℕ → ℕ → Diagnostic → List ℕ
+addDiagnostic c n d = set (putDiagnostic c (instanceCount c) n d) Layout.diagnosticCount (instanceCount c + 1)

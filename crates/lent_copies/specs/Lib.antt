@@ -1,0 +1,3 @@
+pub mod Copies
+pub mod Cleared
+pub mod Laws

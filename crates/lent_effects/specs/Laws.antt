@@ -1,0 +1,4 @@
+pub mod Head
+pub mod EffectWrites
+pub mod Capture
+pub mod EffectFrames

@@ -1,0 +1,168 @@
+-- A key as a record of words: compared with that of another record, read, written. Assumes nothing.
+use Prim.Native.Nat.{ℕ, suc, _+_, _-_, _*_, _≤_, _<_}
+use mathlib.Core.Path.{_≡_, sym, ap, ap₂, _∙_}
+use mathlib.Core.Bool.{Bool, true, false, not}
+use mathlib.Core.List.{List, []}
+use mathlib.Core.Option.{none, some}
+use native.Mathlib.Omega.{arith}
+use lib.ListN.{length}
+use Rattle.base_tests.specs.Laws.Bool.{not-true, not-false}
+use Rattle.base_tests.specs.Tests.{ite}
+use Rattle.base_tests.specs.Laws.Choice.{ite-eq, ite-ne}
+use Rattle.def_effects.specs.declared.Place.{Place}
+use Rattle.def_effects.specs.Places.{identifiers}
+use Rattle.def_effects.specs.Keys.{EffectKey, effectKey, eqList, eqKey}
+use Rattle.lent_tables.specs.declared.Table.{Table}
+use Rattle.lent_tables.specs.Words.{field, putField}
+use Rattle.def_transfer.specs.Pure.{isKey}
+use Rattle.lent_effects.specs.declared.AliasingEffect.{AliasingEffect as Head}
+use Rattle.lent_effects.specs.Records.{countedPlaces, oneRun, capturesOf, effectWith, headIn, effectIn}
+use Rattle.lent_keys.specs.declared.Found.{Found}
+use Rattle.lent_keys.specs.declared.Key.{Key}
+use Rattle.lent_keys.specs.KeyRecords.{optionOf, keyWith, sameHead, numbersIn, putNumbers, optionIn, putOption, keyHeadIn, keyIn, putHead, putKey}
+use Rattle.lent_keys.specs.Laws.SameKey.{keys-differ, keys-captures}
+use Rattle.lent_keys.specs.Laws.Number.{numbers-more, numbers-none, numbers-all, numbers-count, numbers-taken, places-numbers}
+
+-- ---- a key compared with that of a record
+
+-- the identifiers of the captures beside a key, of those that it takes
+-- a run of the slice
+pub taken-numbers : (b : Bool) (ws : List ℕ) (x n : ℕ) → x ≡ field oneRun ws 0 0 → n ≡ ite b x 0 → ite b (identifiers (capturesOf ws)) [] ≡ numbersIn oneRun ws 0 1 5 0 n
+unfolding countedPlaces
+taken-numbers b ws x n h e =
+    ap (λ (l : List ℕ). ite b l []) (places-numbers oneRun ws 0 1 0 (field oneRun ws 0 0))
+    ∙ numbers-taken oneRun ws 0 1 5 b (field oneRun ws 0 0)
+    ∙ ap (numbersIn oneRun ws 0 1 5 0) (sym (e ∙ ap (λ (y : ℕ). ite b y 0) h))
+
+-- the identifiers of a record's captures, of those that its key takes
+-- a run of the record
+record-numbers : (b : Bool) (t : Table) (c : List ℕ) (i x n : ℕ) → x ≡ field t c i 17 → n ≡ ite b x 0 → ite b (identifiers (countedPlaces t c i 17)) [] ≡ numbersIn t c i 18 5 0 n
+unfolding countedPlaces
+record-numbers b t c i x n h e =
+    ap (λ (l : List ℕ). ite b l []) (places-numbers t c i 18 0 (field t c i 17))
+    ∙ numbers-taken t c i 18 5 b (field t c i 17)
+    ∙ ap (numbersIn t c i 18 5 0) (sym (e ∙ ap (λ (y : ℕ). ite b y 0) h))
+
+module _ (t : Table) (c : List ℕ) (i : ℕ) (key other : Key) (ws : List ℕ) (e : Head)
+    (g : e ≡ headIn t c i) (h : (cs : List Place) → keyWith other (identifiers cs) ≡ effectKey (effectWith e cs)) where
+  -- the key of a record's effect
+  -- of its head and its captures
+  effect-key : keyWith other (identifiers (countedPlaces t c i 17)) ≡ effectKey (effectIn t c i)
+  unfolding effectIn
+  effect-key = h (countedPlaces t c i 17) ∙ ap (λ (x : Head). effectKey (effectWith x (countedPlaces t c i 17))) g
+
+  -- the record's effect has another key
+  -- it differs in more than the captures
+  pub effect-differs : (x : Bool) → x ≡ sameHead key other → not x ≡ true → false ≡ eqKey (keyWith key (identifiers (capturesOf ws))) (effectKey (effectIn t c i))
+  effect-differs x p n =
+      keys-differ key other (identifiers (capturesOf ws)) (identifiers (countedPlaces t c i 17)) (sym p ∙ not-true x n)
+      ∙ ap (eqKey (keyWith key (identifiers (capturesOf ws)))) effect-key
+
+  -- the record's effect has the key where the captures are the same
+  -- those that each key takes
+  pub effect-compared : (x r : Bool) (y n z m : ℕ) → x ≡ sameHead key other → not x ≡ false → y ≡ field oneRun ws 0 0 → n ≡ ite (key .captured) y 0 → z ≡ field t c i 17 → m ≡ ite (other .captured) z 0
+      → r ≡ eqList (numbersIn oneRun ws 0 1 5 0 n) (numbersIn t c i 18 5 0 m) → r ≡ eqKey (keyWith key (identifiers (capturesOf ws))) (effectKey (effectIn t c i))
+  effect-compared x r y n z m p q hy hn hz hm k =
+      keys-captures key other (identifiers (capturesOf ws)) (identifiers (countedPlaces t c i 17)) r (sym p ∙ not-false x q)
+      (k ∙ sym (ap₂ eqList (taken-numbers (key .captured) ws y n hy hn) (record-numbers (other .captured) t c i z m hz hm)))
+      ∙ ap (eqKey (keyWith key (identifiers (capturesOf ws)))) effect-key
+
+-- ---- a key as a record
+
+-- the key of a record, of the words that were read
+-- for any captures beside it
+pub reads-head : (t : Table) (c : List ℕ) (i n k r d : ℕ) (f o g : Found)
+    → n ≡ field t c i 1 → optionOf f ≡ optionIn t c i 2 → optionOf o ≡ optionIn t c i 4 → k ≡ field t c i 6 → r ≡ field t c i 7 → optionOf g ≡ optionIn t c i 8 → d ≡ field t c i 10
+    → (is : List ℕ) → keyWith (record { code = n; from = f; into = o; kind = k; reason = r; function = g; identity = d; captured = true }) is ≡ keyHeadIn t c i is
+unfolding keyWith keyHeadIn
+reads-head t c i n k r d f o g h1 h2 h3 h4 h5 h6 h7 is = λ j. record {
+  code = h1 j;
+  from = h2 j;
+  into = h3 j;
+  kind = h4 j;
+  reason = h5 j;
+  function = h6 j;
+  identity = h7 j;
+  captures = is;
+}
+
+-- a record without a key
+-- its first word is 0
+pub no-key : (t : Table) (c : List ℕ) (i x : ℕ) (key : EffectKey) → x ≡ field t c i 0 → x ≡ 0 → false ≡ isKey key (keyIn t c i)
+unfolding keyIn isKey
+no-key t c i x key h z = sym (ap (isKey key) (ite-eq (field t c i 0) 0 none (some (keyHeadIn t c i (numbersIn t c i 12 1 0 (field t c i 11)))) (sym h ∙ z)))
+
+module _ (t : Table) (c : List ℕ) (i : ℕ) (key other : Key) (ws : List ℕ) (x : ℕ)
+    (f : x ≡ field t c i 0) (z : x ≡ 0 → ⊥) (h : (is : List ℕ) → keyWith other is ≡ keyHeadIn t c i is) where
+  -- the key of a record that has one
+  -- its first word is not 0
+  some-key : (k : EffectKey) → eqKey k (keyWith other (numbersIn t c i 12 1 0 (field t c i 11))) ≡ isKey k (keyIn t c i)
+  unfolding keyIn isKey
+  some-key k =
+      ap (eqKey k) (h (numbersIn t c i 12 1 0 (field t c i 11)))
+      ∙ sym (ap (isKey k) (ite-ne (field t c i 0) 0 none (some (keyHeadIn t c i (numbersIn t c i 12 1 0 (field t c i 11)))) (λ e. z (f ∙ e))))
+
+  -- all its captures count
+  -- the record says how many there are
+  all-taken : (is : List ℕ) → ite (other .captured) is [] ≡ is
+  unfolding keyWith keyHeadIn
+  all-taken is = ap (λ (k : EffectKey). k .captures) (h is)
+
+  -- the record holds another key
+  -- it differs in more than the captures
+  pub record-differs : (y : Bool) → y ≡ sameHead key other → not y ≡ true → false ≡ isKey (keyWith key (identifiers (capturesOf ws))) (keyIn t c i)
+  record-differs y p n =
+      keys-differ key other (identifiers (capturesOf ws)) (numbersIn t c i 12 1 0 (field t c i 11)) (sym p ∙ not-true y n)
+      ∙ some-key (keyWith key (identifiers (capturesOf ws)))
+
+  -- the record holds the key where the captures are the same
+  -- the key's, of those that it takes
+  pub record-compared : (y r : Bool) (a n m : ℕ) → y ≡ sameHead key other → not y ≡ false → a ≡ field oneRun ws 0 0 → n ≡ ite (key .captured) a 0 → m ≡ field t c i 11
+      → r ≡ eqList (numbersIn oneRun ws 0 1 5 0 n) (numbersIn t c i 12 1 0 m) → r ≡ isKey (keyWith key (identifiers (capturesOf ws))) (keyIn t c i)
+  record-compared y r a n m p q ha hn hm k =
+      keys-captures key other (identifiers (capturesOf ws)) (numbersIn t c i 12 1 0 (field t c i 11)) r (sym p ∙ not-false y q)
+      (k ∙ ap₂ eqList (sym (taken-numbers (key .captured) ws a n ha hn)) (ap (numbersIn t c i 12 1 0) hm ∙ sym (all-taken (numbersIn t c i 12 1 0 (field t c i 11)))))
+      ∙ some-key (keyWith key (identifiers (capturesOf ws)))
+
+-- ---- a key written
+
+module _ (t : Table) (c : List ℕ) (i : ℕ) (ws : List ℕ) where
+  -- a loop that writes identifiers begins with all of them
+  -- none is written yet
+  pub write-start : (n : ℕ) → putNumbers t c i 12 1 0 (numbersIn oneRun ws 0 1 5 0 (n - 0)) ≡ putNumbers t c i 12 1 0 (numbersIn oneRun ws 0 1 5 0 n)
+  write-start n = ap (putNumbers t c i 12 1 0) (numbers-all oneRun ws 0 1 5 n)
+
+  -- a turn writes one of them
+  -- what is left is what was left after it
+  pub write-more : (d : List ℕ) (k n m x : ℕ) → k < n → x ≡ field oneRun ws 0 (1 + k * 5) → m ≡ k → d ≡ putField t c i (12 + m) x
+      → putNumbers t d i 12 1 (k + 1) (numbersIn oneRun ws 0 1 5 (k + 1) (n - (k + 1))) ≡ putNumbers t c i 12 1 k (numbersIn oneRun ws 0 1 5 k (n - k))
+  unfolding putNumbers
+  write-more d k n m x l e f g =
+      let s : k + 1 ≡ suc k = omega arith in
+      let p : 12 + m ≡ 12 + k * 1 = omega arith in
+      ap₂ (λ (a : List ℕ) (y : ℕ). putNumbers t a i 12 1 y (numbersIn oneRun ws 0 1 5 (k + 1) (n - (k + 1)))) (g ∙ ap₂ (putField t c i) p e) s
+      ∙ ap (putNumbers t c i 12 1 k) (sym (numbers-more oneRun ws 0 1 5 k n l))
+
+  -- at the end none is left
+  -- the list is as it stands
+  pub write-none : (k n : ℕ) → n ≤ k → c ≡ putNumbers t c i 12 1 k (numbersIn oneRun ws 0 1 5 k (n - k))
+  unfolding putNumbers
+  write-none k n l = ap (putNumbers t c i 12 1 k) (sym (numbers-none oneRun ws 0 1 5 k n l))
+
+-- the writes of a key before its captures
+-- word by word
+pub writes-head : (t : Table) (c c1 c2 c3 c4 c5 c6 c7 c8 : List ℕ) (i : ℕ) (key : Key)
+    → c1 ≡ putField t c i 0 1 → c2 ≡ putField t c1 i 1 (key .code) → c3 ≡ putOption t c2 i 2 (optionOf (key .from)) → c4 ≡ putOption t c3 i 4 (optionOf (key .into))
+    → c5 ≡ putField t c4 i 6 (key .kind) → c6 ≡ putField t c5 i 7 (key .reason) → c7 ≡ putOption t c6 i 8 (optionOf (key .function)) → c8 ≡ putField t c7 i 10 (key .identity)
+    → c8 ≡ putHead t c i (keyWith key [])
+unfolding putHead keyWith
+writes-head t c c1 c2 c3 c4 c5 c6 c7 c8 i key h1 h2 h3 h4 h5 h6 h7 h8 = cc
+
+-- the writes of a key
+-- its head, the count of captures that it takes, and their identifiers
+pub writes-key : (t : Table) (c c1 c2 c3 : List ℕ) (i : ℕ) (key : Key) (ws : List ℕ) (x n : ℕ) → x ≡ field oneRun ws 0 0 → n ≡ ite (key .captured) x 0
+    → c1 ≡ putHead t c i (keyWith key []) → c2 ≡ putField t c1 i 11 n → c3 ≡ putNumbers t c2 i 12 1 0 (numbersIn oneRun ws 0 1 5 0 n) → c3 ≡ putKey t c i (keyWith key (identifiers (capturesOf ws)))
+unfolding putKey putHead keyWith
+writes-key t c c1 c2 c3 i key ws x n hx hn h1 h2 h3 =
+    let l : numbersIn oneRun ws 0 1 5 0 n ≡ ite (key .captured) (identifiers (capturesOf ws)) [] = sym (taken-numbers (key .captured) ws x n hx hn) in
+    h3 ∙ ap₂ (λ (d : List ℕ) (is : List ℕ). putNumbers t d i 12 1 0 is) (h2 ∙ ap₂ (λ (d : List ℕ) (y : ℕ). putField t d i 11 y) h1 (sym (numbers-count oneRun ws 0 1 5 0 n) ∙ ap length l)) l

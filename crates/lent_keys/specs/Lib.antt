@@ -1,0 +1,2 @@
+pub mod KeyRecords
+pub mod Laws

@@ -1,0 +1,211 @@
+// Rows of 1,024 bits, each 16 words of a lent slice: the set of values of each identifier.
+// Bit 0 of a row says that the identifier is defined, bit v that value v is in its set; all is total, and one equation each.
+ghost use mathlib.Core.Path.{_≡_};
+ghost use Prim.Native.Nat.{_^_};
+ghost use lib.ListN.{length, getD, set};
+ghost use lib.Bits.{bitOr};
+ghost use lib.Dec.{eqb};
+ghost use lib.Count.{ones};
+ghost use Rattle.lent_sets.specs.Rows.{rowWord, setWord, number, wordOf, setAt, isSome, bitsOf, valuesOf, putSet, copySet, appendSet, nextMember, memberWord, addSet, evenRow, rowNumber};
+ghost use Rattle.lent_slices.specs.Lent.{old, new};
+use lent_slices::get64;
+use lent_slices::set64;
+use lent_slices::wide32;
+
+// Word w of row i, or 0 past the end.
+// Every read of a row goes through it.
+pub fn row_word(rows: &[u64], i: u32, w: u32) -> u64
+    ensures { λ r. ⌜ r ≡ rowWord (old rows) i w ⌝ }
+{
+    get64(rows, wide32(i) * 16 + wide32(w))
+}
+
+// Word w of row i becomes x; past the end nothing changes.
+// Every write of a row goes through it.
+pub fn set_word(rows: &mut [u64], i: u32, w: u32, x: u64)
+    ensures { λ _. ⌜ new rows ≡ setWord (old rows) i w x ⌝ }
+{
+    set64(rows, wide32(i) * 16 + wide32(w), x);
+}
+
+// Whether identifier i is defined: bit 0 of its row.
+// An identifier that is not defined has no set, which is not the same as an empty one.
+pub fn is_defined(rows: &[u64], i: u32) -> bool
+    ensures { λ r. ⌜ r ≡ isSome (setAt (old rows) i) ⌝ }
+{
+    row_word(rows, i, 0) % 2 == 1
+}
+
+// The lowest member of row i from `from` on, or 1,024.
+// A loop over the values of a set goes by it; a word without members is one step.
+pub fn next_member(rows: &[u64], i: u32, from: u32) -> u32
+    ensures { λ r. ⌜ r ≡ nextMember (old rows) i from ⌝ }
+{
+    let mut v = from;
+    while v < 1024 {
+        let rest = row_word(rows, i, v / 64) >> (v % 64);
+        if rest != 0 {
+            return v + u64::trailing_zeros(rest);
+        }
+        v = (v / 64 + 1) * 64;
+    }
+    v
+}
+
+// How many bits of row i are set, with the one that says that it is defined.
+// The sum of the counts of its words.
+fn count_bits(rows: &[u64], i: u32) -> u32
+    ensures { λ r. ⌜ r ≡ ones (rowNumber (old rows) i) ⌝ }
+{
+    let mut n: u32 = 0;
+    let mut w: u32 = 0;
+    while w < 16 {
+        n += u64::count_ones(row_word(rows, i, w));
+        w += 1;
+    }
+    n
+}
+
+// How many values the set of identifier i has; 0 where it is not defined.
+// A set of one value is treated in another way than a larger one.
+pub fn size(rows: &[u64], i: u32) -> u32
+    ensures { λ r. ⌜ r ≡ length (valuesOf (setAt (old rows) i)) ⌝ }
+{
+    if is_defined(rows, i) {
+        count_bits(rows, i) - 1
+    } else {
+        0
+    }
+}
+
+// Word w of row i, without the bit that says that it is defined.
+// What a row adds to a union of sets.
+pub fn member_word(rows: &[u64], i: u32, w: u32) -> u64
+    ensures { λ r. ⌜ r ≡ memberWord (old rows) i w ⌝ }
+{
+    let x = row_word(rows, i, w);
+    if w == 0 { x - x % 2 } else { x }
+}
+
+// Word w of a set in hand gets the bits of x too; past its end nothing changes.
+// A turn of a union.
+fn or_word(acc: &mut [u64], w: u32, x: u64)
+    ensures { λ _. ⌜ new acc ≡ set (old acc) w (bitOr (getD (old acc) w 0) x) ⌝ }
+{
+    let k = wide32(w);
+    let y = get64(acc, k);
+    set64(acc, k, y | x);
+}
+
+// A set in hand gets the values of row i too, without the bit that says that the row is defined.
+// The loop of `add_set`, for a row that is defined.
+fn add_words(acc: &mut [u64], rows: &[u64], i: u32)
+    ensures { λ _. ⌜ new acc ≡ addSet (old acc) (evenRow (old rows) i) ⌝ }
+{
+    let mut w: u32 = 0;
+    while w < 16 {
+        or_word(acc, w, member_word(rows, i, w));
+        w += 1;
+    }
+}
+
+// A set in hand gets the values of identifier i too; one that is not defined adds none.
+// A union of several sets, as of the operands of a phi, is taken so.
+pub fn add_set(acc: &mut [u64], rows: &[u64], i: u32)
+    ensures { λ _. ⌜ new acc ≡ addSet (old acc) (bitsOf (setAt (old rows) i)) ⌝ }
+{
+    if is_defined(rows, i) {
+        add_words(acc, rows, i);
+    }
+}
+
+// A set in hand gets the value v too; a v past 1,023 adds nothing.
+// A set of one value is made so.
+pub fn add_value(acc: &mut [u64], v: u32)
+    ensures { λ _. ⌜ new acc ≡ addSet (old acc) (2 ^ v) ⌝ }
+{
+    if v < 1024 {
+        or_word(acc, v / 64, 1 << v % 64);
+    }
+}
+
+// Whether a set in hand has no bit.
+// A phi whose operands have no values leaves its place as it was.
+pub fn is_empty(acc: &[u64]) -> bool
+    ensures { λ r. ⌜ r ≡ eqb (number 16 (old acc) 0) 0 ⌝ }
+{
+    let mut w: usize = 0;
+    while w < 16 {
+        let x = get64(acc, w);
+        if x != 0 {
+            return false;
+        }
+        w += 1;
+    }
+    true
+}
+
+// Word w of a set in hand, with the bit that says that its row is defined; 0 past the 16 words.
+// What `put_set` stores.
+fn marked_word(acc: &[u64], w: u32) -> u64
+    ensures { λ r. ⌜ r ≡ wordOf (bitOr (number 16 (old acc) 0) 1) w ⌝ }
+{
+    let x = get64(acc, wide32(w));
+    if w == 0 {
+        return x | 1;
+    }
+    if w < 16 {
+        return x;
+    }
+    0
+}
+
+// Identifier i is defined, with the set in hand.
+// Past the end of the rows nothing changes.
+pub fn put_set(rows: &mut [u64], i: u32, acc: &[u64])
+    ensures { λ _. ⌜ new rows ≡ putSet (old rows) i (number 16 (old acc) 0) ⌝ }
+{
+    let mut w: u32 = 0;
+    while w < 16 {
+        let x = marked_word(acc, w);
+        set_word(rows, i, w, x);
+        w += 1;
+    }
+}
+
+// Identifier i is defined, with the one value v.
+// This is `define` of the state; a v past 1,023 gives the empty set.
+pub fn define(rows: &mut [u64], i: u32, v: u32)
+    ensures { λ _. ⌜ new rows ≡ putSet (old rows) i (2 ^ v) ⌝ }
+{
+    let mut acc = [0u64; 16];
+    add_value(&mut acc, v);
+    put_set(rows, i, &acc);
+}
+
+// `into` gets the set of `from`; nothing changes where `from` is not defined.
+// This is the copy of `assign`.
+pub fn copy_set(rows: &mut [u64], into: u32, from: u32)
+    ensures { λ _. ⌜ new rows ≡ copySet (old rows) into from ⌝ }
+{
+    if is_defined(rows, from) {
+        let mut acc = [0u64; 16];
+        add_set(&mut acc, rows, from);
+        put_set(rows, into, &acc);
+    }
+}
+
+// `place` gets the values of `value` too; nothing changes unless both are defined.
+// This is `append_alias`.
+pub fn append_set(rows: &mut [u64], place: u32, value: u32)
+    ensures { λ _. ⌜ new rows ≡ appendSet (old rows) place value ⌝ }
+{
+    if is_defined(rows, place) {
+        if is_defined(rows, value) {
+            let mut acc = [0u64; 16];
+            add_set(&mut acc, rows, place);
+            add_set(&mut acc, rows, value);
+            put_set(rows, place, &acc);
+        }
+    }
+}

@@ -1,8 +1,0 @@
-pub mod Texts
-pub mod TextLaws
-pub mod Decimals
-pub mod Pieces
-pub mod Lines
-pub mod Loops
-pub mod Lengths
-pub mod Suffices

@@ -1,3 +1,0 @@
-pub mod MergeCalls
-pub mod MergeCallLaws
-pub mod Theorems

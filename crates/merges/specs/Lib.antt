@@ -1,3 +1,0 @@
-pub mod CodeLaws
-pub mod Lists
-pub mod MergeListLaws

@@ -1,2 +1,0 @@
-pub mod Mutations
-pub mod MutationLaws

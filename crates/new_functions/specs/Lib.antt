@@ -1,2 +1,0 @@
-pub mod NewFunctions
-pub mod NewFunctionLaws

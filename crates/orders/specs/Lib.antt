@@ -1,4 +1,0 @@
-pub mod Finite
-pub mod Join
-pub mod Options
-pub mod Union

@@ -1,5 +1,0 @@
-pub mod Records
-pub mod HeadLaws
-pub mod EffectWrites
-pub mod CaptureLaws
-pub mod EffectFrames

@@ -1,0 +1,24 @@
+use Rattle.refuse_context.specs.Laws.Accepting.{keys-are}
+use borrow.Author.Needs.{needs}
+use Rattle.refuse_context.proofs.keys_class.Statement.{statement}
+use Rattle.refuse_context.proofs.keys_class.Tie as tie
+
+handed-out-requires : tie.Need-handed-out-requires
+handed-out-requires c κs = search needs
+
+key-records-requires : tie.Need-key-records-requires
+key-records-requires c κs = search needs
+
+stray-after-requires : tie.Need-stray-after-requires
+stray-after-requires c κs = search needs
+
+lower-requires : tie.Need-lower-requires
+lower-requires c κs = search needs
+
+returns : tie.Need-returns
+returns c = keys-are _ _ _ _ _ _ _ _ (c .before .before .before .handed-out .ensures) (c .before .before .key-records .ensures) (c .before .stray-after .ensures) (c .lower .ensures)
+
+pub keys-class-spec : {M : Type 1} → statement M
+keys-class-spec =
+    tie.close
+    (tie.spec handed-out-requires key-records-requires stray-after-requires lower-requires returns)

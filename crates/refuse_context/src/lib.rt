@@ -1,0 +1,355 @@
+// The class of refusal that a lent context earns: its counts, then every record in use of its tables, and the words after them.
+// Every function is total, and its contract is one equation with the definition.
+ghost use mathlib.Core.Path.{_≡_};
+ghost use Rattle.refuse_words.specs.Classes.{lowestBelow};
+ghost use Rattle.refuse_tables.specs.TableClasses.{identifierClass, functionClass, linkClass};
+ghost use Rattle.refuse_context.specs.Accepting.{tooManyCaptures, cachedClass, handedOut, diagnosticClass, internedClass, identifiersClass, functionsClass, linksClass, keysClass, diagnosticsClass, effectsClass, countsWrong, tablesClass, contextClass};
+ghost use Rattle.lent_slices.specs.Lent.{old};
+use lent_context::interned_count;
+use lent_diagnostics::instance_count;
+use lent_slices::get32;
+use lent_slices::wide32;
+use lent_tables::Table;
+use lent_tables::field;
+use refuse_class::lower;
+use refuse_instruction::effect_class;
+use refuse_repeats::diagnostic_twice;
+use refuse_repeats::interned_twice;
+use refuse_repeats::key_twice;
+use refuse_tables::function_class;
+use refuse_tables::identifier_class;
+use refuse_tables::key_class;
+use refuse_tables::link_class;
+use refuse_tables::message_class;
+use refuse_tables::no_key_class;
+use refuse_words::earns;
+use refuse_words::stray_after;
+use refuse_words::word_class;
+
+// Identifiers: flags, name, access span.
+// Four words, as in an image.
+const IDENTIFIERS: Table = Table {
+    base: 3,
+    count: 512,
+    width: 4,
+};
+
+// Functions: flags, count of context places, count of places mutated inside, 32 such places.
+// An instruction only reads them.
+const FUNCTIONS: Table = Table {
+    base: 2051,
+    count: 64,
+    width: 163,
+};
+
+// The context places of each function, sixteen of five words.
+// Each function has its own copy.
+const CONTEXTS: Table = Table {
+    base: 12485,
+    count: 64,
+    width: 80,
+};
+
+// The function of each fresh number: 0, or 1 and the function.
+// Document 01's function links.
+const LINKS: Table = Table {
+    base: 17605,
+    count: 512,
+    width: 2,
+};
+
+// The key under which each fresh number was handed out, or none.
+// Document 01's cached numbers.
+const CACHED: Table = Table {
+    base: 18629,
+    count: 512,
+    width: 28,
+};
+
+// Diagnostics: identity, identifier, message case, sentence, name, access span, own span.
+// Nine words each.
+const DIAGNOSTICS: Table = Table {
+    base: 32965,
+    count: 256,
+    width: 9,
+};
+
+// Interned effects: the first effect under a key.
+// The last table.
+const INTERNED: Table = Table {
+    base: 35269,
+    count: 2048,
+    width: 98,
+};
+
+// ---- records that may repeat one before them
+
+// Whether a cached key has too many captures; only that of a CreateFunction has any.
+// In another key the count is a word without use.
+fn too_many_captures(context: &[u32], v: usize) -> bool
+    ensures { λ r. ⌜ r ≡ tooManyCaptures (old context) v ⌝ }
+{
+    if field(CACHED, context, v, 1) != 13 {
+        return false;
+    }
+    field(CACHED, context, v, 11) > 16
+}
+
+// The class of a cached number: no key at all, or one that is right and of no lower number.
+// A key that is refused already is not looked for among the lower numbers.
+fn cached_class(context: &[u32], v: usize, identifiers: u32, functions: u32) -> u32
+    ensures { λ r. ⌜ r ≡ cachedClass identifiers functions (old context) v ⌝ }
+{
+    if v == 0 {
+        return no_key_class(context, v);
+    }
+    if field(CACHED, context, v, 0) == 0 {
+        return no_key_class(context, v);
+    }
+    if too_many_captures(context, v) {
+        return 2;
+    }
+    let class = key_class(context, v, identifiers, functions);
+    if class != 0 {
+        return class;
+    }
+    earns(4, key_twice(context, v))
+}
+
+// The class of a diagnostic: right, with the identity that it has to have, and no equal record before it.
+// One that is refused already is not looked for among those before it.
+fn diagnostic_class(context: &[u32], k: u32, identifiers: u32) -> u32
+    ensures { λ r. ⌜ r ≡ diagnosticClass identifiers (old context) k ⌝ }
+{
+    let class = message_class(context, wide32(k), identifiers);
+    if class != 0 {
+        return class;
+    }
+    earns(4, diagnostic_twice(context, k))
+}
+
+// The class of an interned effect: right, and the first under its key.
+// One that is refused already is not looked for among those before it.
+fn interned_class(context: &[u32], k: usize, identifiers: u32, functions: u32) -> u32
+    ensures { λ r. ⌜ r ≡ internedClass identifiers functions (old context) k ⌝ }
+{
+    let class = effect_class(context, 3, INTERNED, context, k, identifiers, functions);
+    if class != 0 {
+        return class;
+    }
+    earns(4, interned_twice(context, k))
+}
+
+// ---- the records of each table
+
+// The lowest class of n identifiers.
+// Each is tested word by word.
+fn identifier_records(context: &[u32], n: usize) -> u32
+    ensures { λ r. ⌜ r ≡ lowestBelow n (identifierClass (old context)) ⌝ }
+{
+    let mut worst: u32 = 0;
+    let mut k: usize = 0;
+    while k < n {
+        worst = lower(worst, identifier_class(context, k));
+        k += 1;
+    }
+    worst
+}
+
+// The lowest class of n functions.
+// Each with its context places.
+fn function_records(context: &[u32], n: usize, identifiers: u32) -> u32
+    ensures { λ r. ⌜ r ≡ lowestBelow n (functionClass identifiers (old context)) ⌝ }
+{
+    let mut worst: u32 = 0;
+    let mut k: usize = 0;
+    while k < n {
+        worst = lower(worst, function_class(context, k, identifiers));
+        k += 1;
+    }
+    worst
+}
+
+// The lowest class of the links of n numbers.
+// From number 0 on.
+fn link_records(context: &[u32], n: usize, functions: u32) -> u32
+    ensures { λ r. ⌜ r ≡ lowestBelow n (linkClass functions (old context)) ⌝ }
+{
+    let mut worst: u32 = 0;
+    let mut k: usize = 0;
+    while k < n {
+        worst = lower(worst, link_class(context, k, functions));
+        k += 1;
+    }
+    worst
+}
+
+// The lowest class of the keys of n numbers.
+// From number 0 on.
+fn key_records(context: &[u32], n: usize, identifiers: u32, functions: u32) -> u32
+    ensures { λ r. ⌜ r ≡ lowestBelow n (cachedClass identifiers functions (old context)) ⌝ }
+{
+    let mut worst: u32 = 0;
+    let mut k: usize = 0;
+    while k < n {
+        worst = lower(worst, cached_class(context, k, identifiers, functions));
+        k += 1;
+    }
+    worst
+}
+
+// The lowest class of n diagnostics.
+// In the order in which they came.
+fn diagnostic_records(context: &[u32], n: u32, identifiers: u32) -> u32
+    ensures { λ r. ⌜ r ≡ lowestBelow n (diagnosticClass identifiers (old context)) ⌝ }
+{
+    let mut worst: u32 = 0;
+    let mut k: u32 = 0;
+    while k < n {
+        worst = lower(worst, diagnostic_class(context, k, identifiers));
+        k += 1;
+    }
+    worst
+}
+
+// The lowest class of n interned effects.
+// In the order in which they came.
+fn effect_records(context: &[u32], n: usize, identifiers: u32, functions: u32) -> u32
+    ensures { λ r. ⌜ r ≡ lowestBelow n (internedClass identifiers functions (old context)) ⌝ }
+{
+    let mut worst: u32 = 0;
+    let mut k: usize = 0;
+    while k < n {
+        worst = lower(worst, interned_class(context, k, identifiers, functions));
+        k += 1;
+    }
+    worst
+}
+
+// ---- the tables: the records in use, and the words after them
+
+// The class of the identifiers.
+// As many as the state has.
+fn identifiers_class(context: &[u32], identifiers: u32) -> u32
+    ensures { λ r. ⌜ r ≡ identifiersClass identifiers (old context) ⌝ }
+{
+    let n = wide32(identifiers);
+    let records = identifier_records(context, n);
+    lower(records, stray_after(IDENTIFIERS, context, n))
+}
+
+// The class of the functions with their context places.
+// Two tables of one number of records.
+fn functions_class(context: &[u32], identifiers: u32, functions: u32) -> u32
+    ensures { λ r. ⌜ r ≡ functionsClass identifiers functions (old context) ⌝ }
+{
+    let n = wide32(functions);
+    let records = function_records(context, n, identifiers);
+    let after = stray_after(FUNCTIONS, context, n);
+    lower(records, lower(after, stray_after(CONTEXTS, context, n)))
+}
+
+// How many fresh numbers there are below next.
+// No more than the tables have, whatever next is.
+fn handed_out(next: u32) -> usize
+    ensures { λ r. ⌜ r ≡ handedOut next ⌝ }
+{
+    if next > 512 {
+        return 512;
+    }
+    wide32(next)
+}
+
+// The class of the links of numbers below next.
+// A link of another number is a word without use.
+fn links_class(context: &[u32], functions: u32, next: u32) -> u32
+    ensures { λ r. ⌜ r ≡ linksClass functions (old context) next ⌝ }
+{
+    let n = handed_out(next);
+    let records = link_records(context, n, functions);
+    lower(records, stray_after(LINKS, context, n))
+}
+
+// The class of the keys of numbers below next.
+// A key of another number is a word without use.
+fn keys_class(context: &[u32], identifiers: u32, functions: u32, next: u32) -> u32
+    ensures { λ r. ⌜ r ≡ keysClass identifiers functions (old context) next ⌝ }
+{
+    let n = handed_out(next);
+    let records = key_records(context, n, identifiers, functions);
+    lower(records, stray_after(CACHED, context, n))
+}
+
+// The class of the diagnostics.
+// As many as the context counts.
+fn diagnostics_class(context: &[u32], identifiers: u32) -> u32
+    ensures { λ r. ⌜ r ≡ diagnosticsClass identifiers (old context) ⌝ }
+{
+    let n = instance_count(context);
+    let records = diagnostic_records(context, n, identifiers);
+    lower(records, stray_after(DIAGNOSTICS, context, wide32(n)))
+}
+
+// The class of the interned effects.
+// As many as the context counts.
+fn effects_class(context: &[u32], identifiers: u32, functions: u32) -> u32
+    ensures { λ r. ⌜ r ≡ effectsClass identifiers functions (old context) ⌝ }
+{
+    let n = wide32(interned_count(context));
+    let records = effect_records(context, n, identifiers, functions);
+    lower(records, stray_after(INTERNED, context, n))
+}
+
+// ---- the whole context
+
+// Whether a count is above its limit, or is not what the call says.
+// 512 identifiers at most are the state's own limit; 64 functions, 2,048 interned effects, 256 diagnostics.
+fn counts_wrong(context: &[u32], identifiers: u32, functions: u32) -> bool
+    ensures { λ r. ⌜ r ≡ countsWrong identifiers functions (old context) ⌝ }
+{
+    if get32(context, 1) != identifiers {
+        return true;
+    }
+    if get32(context, 2) != functions {
+        return true;
+    }
+    if functions > 64 {
+        return true;
+    }
+    if interned_count(context) > 2048 {
+        return true;
+    }
+    instance_count(context) > 256
+}
+
+// The lowest class of the options and of all tables.
+// Two options, so below 4.
+fn tables_class(context: &[u32], identifiers: u32, functions: u32, next: u32) -> u32
+    ensures { λ r. ⌜ r ≡ tablesClass identifiers functions (old context) next ⌝ }
+{
+    let options = word_class(5, get32(context, 0));
+    let names = identifiers_class(context, identifiers);
+    let bodies = functions_class(context, identifiers, functions);
+    let links = links_class(context, functions, next);
+    let keys = keys_class(context, identifiers, functions, next);
+    let messages = diagnostics_class(context, identifiers);
+    let effects = effects_class(context, identifiers, functions);
+    lower(
+        options,
+        lower(
+            names,
+            lower(bodies, lower(links, lower(keys, lower(messages, effects)))),
+        ),
+    )
+}
+
+// The class of a context, for the next number; 0 where it is accepted.
+// A count is tested before the records are gone through.
+pub fn context_class(context: &[u32], identifiers: u32, functions: u32, next: u32) -> u32
+    ensures { λ r. ⌜ r ≡ contextClass identifiers functions (old context) next ⌝ }
+{
+    if counts_wrong(context, identifiers, functions) {
+        return 2;
+    }
+    tables_class(context, identifiers, functions, next)
+}

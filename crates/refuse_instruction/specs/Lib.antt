@@ -1,0 +1,2 @@
+pub mod EffectClasses
+pub mod Laws

@@ -1,0 +1,54 @@
+-- Whether a record of a context repeats one before it (document 01, 'Refused calls': "two entries of one key"). Assumes nothing: these are definitions.
+use Prim.Native.Nat.{ℕ, _-_}
+use mathlib.Core.Bool.{Bool, false, not, _||_}
+use mathlib.Core.List.{List}
+use mathlib.Core.Option.{Option, none, some}
+use lib.Dec.{eqb}
+use Rattle.def_effects.specs.Keys.{EffectKey, effectKey}
+use Rattle.def_effects.specs.declared.Diagnostic.{Diagnostic}
+use Rattle.def_transfer.specs.State.{isSome}
+use Rattle.def_transfer.specs.Pure.{firstCached, identities, findEffect, findIdentity, findInstance}
+use Rattle.lent_tables.specs.Words.{field}
+use Rattle.lent_effects.specs.Records.{effectIn}
+use Rattle.lent_keys.specs.KeyRecords.{keyHeadIn, numbersIn}
+use Rattle.lent_context.specs.Layout as Layout
+use Rattle.lent_context.specs.Lent.{effectsIn, keyAt, diagnosticIn, diagnosticsIn}
+
+-- ---- interned effects
+
+-- an effect under the key of one before it
+-- "the first effect under a key of `effect_key` is used ever after"
+unfoldable pub internedTwice : List ℕ → ℕ → Bool
+internedTwice c k = isSome (findEffect (effectsIn Layout.interned c 0 k) (effectKey (effectIn Layout.interned c k)))
+
+-- ---- cached numbers
+
+-- the key that stands in the record of a number that has one
+-- with the captures of the record
+unfoldable pub keyHere : List ℕ → ℕ → EffectKey
+keyHere c v = keyHeadIn Layout.cached c v (numbersIn Layout.cached c v 12 1 0 (field Layout.cached c v 11))
+
+-- "two entries of one key": a lower number has the same key
+-- numbers are looked through from 1
+unfoldable pub keyTwice : List ℕ → ℕ → Bool
+keyTwice c v = elim (keyAt c v) [ none ↦ false | some k ↦ isSome (firstCached (v - 1) 1 (keyAt c) k) ]
+
+-- ---- diagnostics
+
+-- a number that may be absent, or another
+-- the identity of an equal message, or the next
+abbrev pub numberOr : ℕ → Option ℕ → ℕ
+numberOr d none = d
+numberOr d (some n) = n
+
+-- the identity that a diagnostic has to have after the first n: that of the first equal message, else the next
+-- "Sharing of numbers follows `intern_aliasing_diagnostic`"
+unfoldable pub rightIdentity : List ℕ → ℕ → Diagnostic → ℕ
+rightIdentity c n d = numberOr (identities (diagnosticsIn c 0 n)) (findIdentity (diagnosticsIn c 0 n) d)
+
+-- another identity, or an equal record before it
+-- wrong order, or two entries of one key
+unfoldable pub diagnosticTwice : List ℕ → ℕ → Bool
+diagnosticTwice c k =
+    not (eqb (field Layout.diagnostics c k 0) (rightIdentity c k (diagnosticIn c k .diagnostic)))
+    || isSome (findInstance 0 (diagnosticsIn c 0 k) (field Layout.diagnostics c k 0) (diagnosticIn c k .diagnostic))

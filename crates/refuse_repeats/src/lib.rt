@@ -1,0 +1,221 @@
+// Whether a record of a context repeats one before it: an interned effect, a cached key, a diagnostic.
+// Each search goes through the records before the one that is tested; every function is total, and its contract is one equation.
+ghost use mathlib.Core.Path.{_≡_};
+ghost use Rattle.def_effects.specs.Keys.{effectKey, eqKey};
+ghost use Rattle.def_effects.specs.Places.{identifiers};
+ghost use Rattle.def_transfer.specs.State.{isSome};
+ghost use Rattle.def_transfer.specs.Pure.{isKey, identities, findEffect, findIdentity, findInstance};
+ghost use Rattle.lent_effects.specs.Records.{effectIn, capturesOf};
+ghost use Rattle.lent_keys.specs.KeyRecords.{optionOf, keyWith, keyIn};
+ghost use Rattle.lent_context.specs.Layout as Layout;
+ghost use Rattle.lent_context.specs.Lent.{effectsIn, diagnosticsIn};
+ghost use Rattle.refuse_repeats.specs.Repeats.{internedTwice, keyHere, keyTwice, rightIdentity, diagnosticTwice};
+ghost use Rattle.lent_slices.specs.Lent.{old};
+use def_effects::Diagnostic;
+use lent_diagnostics::diagnostic_in;
+use lent_diagnostics::is_instance;
+use lent_diagnostics::larger;
+use lent_diagnostics::same_identity;
+use lent_effects::code_in;
+use lent_effects::copy_captures;
+use lent_effects::effect_in;
+use lent_keys::Found;
+use lent_keys::Key;
+use lent_keys::effect_has_key;
+use lent_keys::head_in;
+use lent_keys::is_other;
+use lent_keys::key_of;
+use lent_keys::same_head;
+use lent_keys::same_numbers;
+use lent_slices::wide32;
+use lent_tables::Table;
+use lent_tables::field;
+
+// The key under which each fresh number was handed out, or none.
+// Document 01's cached numbers.
+const CACHED: Table = Table {
+    base: 18629,
+    count: 512,
+    width: 28,
+};
+
+// Diagnostics: identity and eight more words.
+// Nine words each.
+const DIAGNOSTICS: Table = Table {
+    base: 32965,
+    count: 256,
+    width: 9,
+};
+
+// Interned effects: the first effect under a key.
+// The last table.
+const INTERNED: Table = Table {
+    base: 35269,
+    count: 2048,
+    width: 98,
+};
+
+// ---- interned effects
+
+// Whether interned effect k has a key; the key's captures stand beside it.
+// An effect of another code or with another place is passed over by three words: most are.
+fn is_under(context: &[u32], k: usize, key: Key, captures: &[u32]) -> bool
+    ensures { λ r. ⌜
+        r
+        ≡ eqKey (keyWith key (identifiers (capturesOf (old captures))))
+        (effectKey (effectIn Layout.interned (old context) k)) ⌝ }
+{
+    if key.code != code_in(INTERNED, context, k) {
+        return false;
+    }
+    let from = key.from;
+    if is_other(from, field(INTERNED, context, k, 1)) {
+        return false;
+    }
+    let into = key.into;
+    if is_other(into, field(INTERNED, context, k, 6)) {
+        return false;
+    }
+    effect_has_key(INTERNED, context, k, key, captures)
+}
+
+// Whether one of the first n interned effects has a key.
+// They are looked through in order.
+fn effect_before(context: &[u32], n: usize, key: Key, captures: &[u32]) -> bool
+    ensures { λ r. ⌜
+        r
+        ≡ isSome
+        (findEffect (effectsIn Layout.interned (old context) 0 n)
+        (keyWith key (identifiers (capturesOf (old captures))))) ⌝ }
+{
+    let mut k: usize = 0;
+    while k < n {
+        if is_under(context, k, key, captures) {
+            return true;
+        }
+        k += 1;
+    }
+    false
+}
+
+// Whether interned effect k has the key of one before it.
+// Its captures are copied, since a key has them beside it.
+pub fn interned_twice(context: &[u32], k: usize) -> bool
+    ensures { λ r. ⌜ r ≡ internedTwice (old context) k ⌝ }
+{
+    let mut captures = [0u32; 81];
+    copy_captures(INTERNED, context, k, &mut captures);
+    let key = key_of(effect_in(INTERNED, context, k));
+    effect_before(context, k, key, &captures)
+}
+
+// ---- cached numbers
+
+// Whether number j has a key, and it is that of number i.
+// Both stand in the table.
+fn same_key(context: &[u32], i: usize, j: usize) -> bool
+    ensures { λ r. ⌜ r ≡ isKey (keyHere (old context) i) (keyIn Layout.cached (old context) j) ⌝ }
+{
+    if field(CACHED, context, j, 0) == 0 {
+        return false;
+    }
+    if !same_head(head_in(CACHED, context, i), head_in(CACHED, context, j)) {
+        return false;
+    }
+    let n = field(CACHED, context, i, 11);
+    let m = field(CACHED, context, j, 11);
+    same_numbers(CACHED, context, i, 12, 1, n, CACHED, context, j, 12, 1, m)
+}
+
+// Whether number v has the key of a lower one.
+// Numbers are looked through from 1.
+pub fn key_twice(context: &[u32], v: usize) -> bool
+    ensures { λ r. ⌜ r ≡ keyTwice (old context) v ⌝ }
+{
+    if field(CACHED, context, v, 0) == 0 {
+        return false;
+    }
+    let mut n: usize = 1;
+    while n < v {
+        if same_key(context, v, n) {
+            return true;
+        }
+        n += 1;
+    }
+    false
+}
+
+// ---- diagnostics
+
+// How many identities the first n diagnostics have: one more than the highest.
+// Any words are read, so the number is as wide as one more than a word needs.
+fn identities_before(context: &[u32], n: u32) -> u64
+    ensures { λ r. ⌜ r ≡ identities (diagnosticsIn (old context) 0 n) ⌝ }
+{
+    let mut most: u64 = 0;
+    let mut k: u32 = 0;
+    while k < n {
+        let identity = field(DIAGNOSTICS, context, wide32(k), 0);
+        most = larger(identity as u64 + 1, most);
+        k += 1;
+    }
+    most
+}
+
+// The identity of the first of n diagnostics with the same identifier, message and help.
+// This is the first look-up of intern_aliasing_diagnostic.
+fn identity_before(context: &[u32], n: u32, d: Diagnostic) -> Found
+    ensures { λ r. ⌜ optionOf r ≡ findIdentity (diagnosticsIn (old context) 0 n) d ⌝ }
+{
+    let mut k: u32 = 0;
+    while k < n {
+        let x = diagnostic_in(context, k);
+        let other = x.diagnostic;
+        if same_identity(d, other) {
+            return Found::At(x.identity);
+        }
+        k += 1;
+    }
+    Found::Nowhere
+}
+
+// The identity that a diagnostic has to have after the first n.
+// That of the first equal message, else the next.
+fn right_identity(context: &[u32], n: u32, d: Diagnostic) -> u64
+    ensures { λ r. ⌜ r ≡ rightIdentity (old context) n d ⌝ }
+{
+    let found = identity_before(context, n, d);
+    match found {
+        Found::Nowhere => identities_before(context, n),
+        Found::At(x) => x as u64,
+    }
+}
+
+// Whether one of the first n diagnostics has an identity and the labels of a diagnostic.
+// This is the second look-up of intern_aliasing_diagnostic.
+fn instance_before(context: &[u32], n: u32, identity: u32, d: Diagnostic) -> bool
+    ensures { λ r. ⌜ r ≡ isSome (findInstance 0 (diagnosticsIn (old context) 0 n) identity d) ⌝ }
+{
+    let mut k: u32 = 0;
+    while k < n {
+        if is_instance(diagnostic_in(context, k), identity, d) {
+            return true;
+        }
+        k += 1;
+    }
+    false
+}
+
+// Whether diagnostic k has another identity than it has to, or there is an equal one before it.
+// Wrong order, or two entries of one key.
+pub fn diagnostic_twice(context: &[u32], k: u32) -> bool
+    ensures { λ r. ⌜ r ≡ diagnosticTwice (old context) k ⌝ }
+{
+    let x = diagnostic_in(context, k);
+    let d = x.diagnostic;
+    let identity = x.identity;
+    if identity as u64 != right_identity(context, k, d) {
+        return true;
+    }
+    instance_before(context, k, identity, d)
+}

@@ -1,0 +1,5 @@
+pub mod Cases
+pub mod Word
+pub mod Row
+pub mod State
+pub mod Accepted

@@ -1,0 +1,2 @@
+pub mod TableClasses
+pub mod Laws

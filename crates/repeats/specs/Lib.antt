@@ -1,3 +1,0 @@
-pub mod Repeats
-pub mod KeyLaws
-pub mod DiagnosticLaws

@@ -1,3 +1,0 @@
-pub mod Lists
-pub mod ListLaws
-pub mod Text

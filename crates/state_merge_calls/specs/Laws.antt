@@ -1,0 +1,2 @@
+pub mod MergeCall
+pub mod Theorems

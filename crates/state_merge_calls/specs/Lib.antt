@@ -1,0 +1,3 @@
+pub mod MergeCalls
+pub mod Promise
+pub mod Laws

@@ -1,0 +1,4 @@
+pub mod Lists
+pub mod Use
+pub mod OnLists
+pub mod Laws

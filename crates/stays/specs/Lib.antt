@@ -1,4 +1,0 @@
-pub mod Fits
-pub mod Stays
-pub mod Merged
-pub mod MergeCallsStay

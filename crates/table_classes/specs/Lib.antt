@@ -1,4 +1,0 @@
-pub mod TableClasses
-pub mod TableLaws
-pub mod KeyUseLaws
-pub mod KeyLaws

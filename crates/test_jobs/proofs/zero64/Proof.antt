@@ -1,0 +1,49 @@
+use borrow.Author.Needs.{needs}
+use Prim.Native.Nat.{_≤_, _-_}
+use Rattle.test_jobs.proofs.zero64.Statement.{statement}
+use Rattle.test_jobs.proofs.zero64.Tie as tie
+
+abbrev Inv-loop : tie.InvT-loop
+Inv-loop list from to k₀ k = 0 ≤ k
+
+abbrev μ-loop : tie.MeasureT-loop
+μ-loop list from to k₀ k = to - k
+
+loop-holds : tie.Need-loop-holds Inv-loop μ-loop
+loop-holds c = search needs
+
+wide32-requires : tie.Need-wide32-requires Inv-loop μ-loop
+wide32-requires c κs = search needs
+
+get64-requires : tie.Need-get64-requires Inv-loop μ-loop
+get64-requires c κs = search needs
+
+returns : tie.Need-returns Inv-loop μ-loop
+returns c = search needs
+
+add-k : tie.Need-add-k Inv-loop μ-loop
+add-k c = search needs
+
+loop-less : tie.Need-loop-less Inv-loop μ-loop
+loop-less c = search needs
+
+loop-again : tie.Need-loop-again Inv-loop μ-loop
+loop-again c = search needs
+
+returns-2 : tie.Need-returns-2 Inv-loop μ-loop
+returns-2 c = search needs
+
+pub zero64-spec : {M : Type 1} → statement M
+zero64-spec =
+    tie.close
+    (tie.spec
+    Inv-loop
+    μ-loop
+    loop-holds
+    wide32-requires
+    get64-requires
+    returns
+    add-k
+    loop-less
+    loop-again
+    returns-2)

@@ -1,4 +1,0 @@
-pub mod Classes
-pub mod ClassLaws
-pub mod StrayLaws
-pub mod OrderLaws
