@@ -13,7 +13,6 @@ use lent_slices::wide32;
 use libc::STDOUT_FILENO;
 
 // The digit that argument k is, or 0.
-// Arguments are single digits.
 fn digit(k: usize) -> u32 {
     let mut text = [0u8; 2];
     os::arg(k, &mut text);
@@ -31,7 +30,6 @@ fn digit(k: usize) -> u32 {
 }
 
 // A power of ten, up to a million; 9 is none.
-// How often the call is made.
 fn power(e: u32) -> u32 {
     match e {
         1 => 10,
@@ -112,7 +110,6 @@ fn intern_one(context: &mut [u32], k: u32) {
 }
 
 // All 2,048 of them.
-// The table is full.
 fn intern_all(context: &mut [u32]) {
     let mut k: u32 = 0;
     while k < 2048 {
@@ -132,7 +129,6 @@ fn report_one(context: &mut [u32], k: u32) {
 }
 
 // All 256 of them.
-// The table is full.
 fn report_all(context: &mut [u32]) {
     let mut k: u32 = 0;
     while k < 256 {
@@ -142,7 +138,6 @@ fn report_all(context: &mut [u32]) {
 }
 
 // One entry for each value number, Mutable {Other}.
-// A full table of values.
 fn fill_values(values: &mut [u64]) {
     let mut v: usize = 1;
     while v < 1024 {
@@ -152,7 +147,6 @@ fn fill_values(values: &mut [u64]) {
 }
 
 // Every value in the set of every identifier.
-// A full table of sets.
 fn fill_sets(sets: &mut [u64], all: &[u64]) {
     let mut i: u32 = 0;
     while i < 512 {
@@ -249,7 +243,6 @@ fn repeat(
 }
 
 // Case 1 on tables of two identifiers; what the call answers.
-// Nearly empty tables.
 fn measure_case_1(n: u32) -> u64 {
     let mut values = [0u64; 1024];
     let mut sets = [0u64; 32];

@@ -28,7 +28,6 @@ use lent_work::Run;
 // ---- the run, and what is put back after a refusal
 
 // How many words a list has, but no more than 8,192.
-// Sets have no more.
 fn set_words(sets: &[u64]) -> u32
     ensures { λ r. ⌜ r ≡ atMost 8192 (length (old sets)) ⌝ }
 {
@@ -39,7 +38,6 @@ fn set_words(sets: &[u64]) -> u32
 }
 
 // How many records a list of candidates has, but no more than 64.
-// An instruction has no more.
 fn candidate_count(candidates: &[u32]) -> u32
     ensures { λ r. ⌜ r ≡ atMost 64 (candidateCount (old candidates)) ⌝ }
 {
@@ -66,7 +64,6 @@ fn start_run(session: Session, flag: bool) -> Run
 }
 
 // State and context are saved, the instruction runs, and if it is refused all is put back.
-// Of lists that no class refuses.
 fn attempt(
     values: &mut [u64],
     sets: &mut [u64],

@@ -42,7 +42,6 @@ pub record Call : Type 0 where
   pub scratch32 : List ℕ
 
 -- the same, in the order of the function's parameters
--- its contract is written with it
 abbrev pub call : List ℕ → List ℕ → Bool → List ℕ → Session → List ℕ → Place → ℕ → List ℕ → List ℕ → List ℕ → Call
 call vs ss flag cs session xs lvalue own os s64 s32 = record {
   values = vs;
@@ -59,7 +58,6 @@ call vs ss flag cs session xs lvalue own os s64 s32 = record {
 }
 
 -- what a call answers, and what it leaves in all that it is lent
--- candidates are only read
 pub record Outcome : Type 0 where
   pub applied : Applied
   pub values : List ℕ
@@ -70,7 +68,6 @@ pub record Outcome : Type 0 where
   pub scratch32 : List ℕ
 
 -- the same, in the order of the function's parameters
--- the answer first
 abbrev pub given : Applied → List ℕ → List ℕ → List ℕ → List ℕ → List ℕ → List ℕ → Outcome
 given a vs ss cs os s64 s32 = record { applied = a; values = vs; sets = ss; context = cs; output = os; scratch64 = s64; scratch32 = s32 }
 

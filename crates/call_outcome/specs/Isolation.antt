@@ -13,12 +13,10 @@ abbrev pub stateOf : Call → State lent
 stateOf c = record { values = c .values; sets = c .sets; isFunctionExpression = c .flag }
 
 -- the state as a call leaves it
--- the flag is in the answer
 abbrev pub endState : Outcome → State lent
 endState x = record { values = x .values; sets = x .sets; isFunctionExpression = x .applied .flag }
 
 -- the reach of a call's instruction, in the state that it is lent
--- value numbers and identifiers
 abbrev pub reach : Call → Node → Type 0
 reach c = Reach lent (lentInstruction c) (c .session) (c .context) (stateOf c)
 

@@ -35,7 +35,6 @@ abbrev pub insideRun : Table
 insideRun = record { base = 0; count = 1; width = 161 }
 
 -- the places of such a slice
--- any words are read
 abbrev pub insidePlaces : List ℕ → List Place
 insidePlaces ws = countedPlaces insideRun ws 0 0
 

@@ -44,7 +44,6 @@ use lent_work::Run;
 use state_ops::kind_of;
 
 // Functions: flags, count of context places, count of places mutated inside, 32 such places.
-// An instruction only reads them.
 const FUNCTIONS: Table = Table {
     base: 2051,
     count: 64,
@@ -128,7 +127,6 @@ pub fn report_early(
 }
 
 // So a place of the own function, if it is of that function's context.
-// Else nothing is done.
 pub fn early_error(
     values: &[u64],
     sets: &[u64],

@@ -95,7 +95,6 @@ pub fn restore_context(context: &mut [u32], scratch: &[u32])
 // ---- both
 
 // State and context are saved.
-// Before an instruction runs.
 pub fn save(
     values: &[u64],
     sets: &[u64],

@@ -104,7 +104,6 @@ fn conditional_result(kind: ValueKind) -> MutationResult
 }
 
 // What a mutation of a kind comes to.
-// Strict or conditional.
 pub fn result_of(strict: bool, kind: ValueKind) -> MutationResult
     ensures { λ r. ⌜ r ≡ resultOf strict kind ⌝ }
 {

@@ -66,7 +66,6 @@ impl ValueKind {
     }
 
     // The join of two kinds, by the table.
-    // This is merge_value_kinds.
     pub fn join(self, other: ValueKind) -> ValueKind
         ensures { λ r. ⌜ r ≡ joinKind self other ⌝ }
     {
@@ -112,7 +111,6 @@ impl ValueKind {
     }
 
     // Whether a copy of such a value shares nothing with it.
-    // No data flow is tracked from it.
     pub fn is_copied(self) -> bool
         ensures { λ r. ⌜ r ≡ copied self ⌝ }
     {
@@ -182,7 +180,6 @@ pub struct AbstractValue {
 
 impl AbstractValue {
     // Kinds by the table, reasons by union.
-    // This is merge_abstract_values.
     pub fn join(self, other: AbstractValue) -> AbstractValue
         ensures { λ r. ⌜ r ≡ join self other ⌝ }
     {
@@ -195,7 +192,6 @@ impl AbstractValue {
     }
 
     // Whether each reason of the other is one of ours.
-    // This is is_superset.
     pub fn contains(self, other: AbstractValue) -> bool
         ensures { λ r. ⌜ r ≡ contains self other ⌝ }
     {

@@ -47,6 +47,5 @@ follow again e cs Itself = emit e
 follow again e cs (Derived x) = again (effectWith x cs)
 
 -- an answer of the code, and what follows where it goes on
--- a refusal is the end
 abbrev pub sequel : ℕ → World lent → M (World lent) Done → Res (World lent) Done
 sequel r w m = andThen {A = Done} {B = Done} (answer {A = Done} r tt w) (λ _. m)

@@ -8,7 +8,6 @@ use lent_effects::AliasingEffect;
 use lent_work::Run;
 
 // What an effect does, by its kind: a mutation, a flow between two places, what derives others, or none of these.
-// The step goes by it.
 pub enum Act {
     Plain,
     Mutating {

@@ -22,7 +22,6 @@ does again e cs (CreatingFrom from into) = Step.creatingFrom again from into
 does again e cs (CreatingFunction f into) = Step.creatingFunction again cs f into
 
 -- whether an effect creates a function
--- only then its captures matter
 abbrev pub creates : Act → Bool
 creates Plain = false
 creates (Mutating v p) = false

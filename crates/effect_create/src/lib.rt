@@ -35,7 +35,6 @@ use lent_work::Run;
 use state_ops::assign;
 
 // The kind and reasons with which an effect begins, or its refusal, and what the instruction has by value.
-// Assign begins so.
 pub struct Begun {
     pub refusal: u32,
     pub run: Run,

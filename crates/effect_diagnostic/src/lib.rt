@@ -26,7 +26,6 @@ pub struct Given {
 }
 
 // Both numbers of a diagnostic, or the refusal 10.
-// An effect carries both.
 pub struct Reported {
     pub refusal: u32,
     pub diagnostic: AliasingDiagnostic,
@@ -64,7 +63,6 @@ pub fn identity_for(context: &[u32], d: Diagnostic) -> Given
 }
 
 // The place of an equal record, or of a new one; 10 refuses the 257th.
-// A new record is appended.
 pub fn instance_for(context: &mut [u32], identity: u32, d: Diagnostic) -> Given
     ensures { λ r. ⌜
         ((vs ss os : List ℕ) (run : ARun)

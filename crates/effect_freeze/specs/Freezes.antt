@@ -3,6 +3,5 @@ use Prim.Native.Nat.{ℕ}
 use Rattle.lent_work.specs.declared.Run.{Run}
 
 -- what an instruction has by value, with other counts of entries
--- the rest stays
 abbrev pub withEntries : ℕ → ℕ → Run → Run
 withEntries freeze entries r = record { session = r .session; flag = r .flag; marks = r .marks; listed = r .listed; freeze = freeze; entries = entries }

@@ -79,7 +79,6 @@ pub fn walk(values: &mut [u64], sets: &[u64], context: &[u32], run: Run, i: u32,
 }
 
 // A Freeze that acts is listed, and its values are walked where either option is on; one that does not act does nothing.
-// Freeze records no access.
 pub fn freezing(
     values: &mut [u64],
     sets: &[u64],

@@ -56,7 +56,6 @@ const ONE_RUN: Table = Table {
 };
 
 // The kind of a new function: Mutable if it captures what can be written, has a tracked side effect or a ref in its context, else Frozen.
-// Its value has no reasons.
 fn function_kind(written: bool, tracked: bool, refs: bool) -> ValueKind
     ensures { λ r. ⌜ r ≡ functionKind written tracked refs ⌝ }
 {

@@ -12,6 +12,5 @@ copiedPlaces c f k zero ws = ws
 copiedPlaces c f k (suc n) ws = copiedPlaces c f (suc k) n (set ws (1 + k) (field Layout.contexts c f k))
 
 -- the count, then all eighty words
--- a slice as captures stand in
 unfoldable pub copiedContext : List ℕ → ℕ → List ℕ → List ℕ
 copiedContext c f ws = copiedPlaces c f 0 80 (set ws 0 (field Layout.functions c f 1))

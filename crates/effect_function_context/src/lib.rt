@@ -24,7 +24,6 @@ use lent_tables::place_in;
 use state_ops::kind_of;
 
 // The context places of each function, sixteen of five words.
-// Each function has its own copy.
 const CONTEXTS: Table = Table {
     base: 12485,
     count: 64,
@@ -40,7 +39,6 @@ const ONE_RUN: Table = Table {
 };
 
 // Whether any context place of a function is a ref.
-// Such a function is Mutable.
 pub fn any_ref(context: &[u32], f: u32) -> bool
     ensures { λ r. ⌜
         ((vs ss os : List ℕ) (run : ARun)

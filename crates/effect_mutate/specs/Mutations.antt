@@ -4,6 +4,5 @@ use Rattle.def_effects.specs.declared.Span.{Span}
 use Rattle.def_effects.specs.Places.{noSpan, eqSpan}
 
 -- "the access span unless it equals the place's"
--- no label is FFFFFFFF twice
 abbrev pub accessLabel : Span → Span → Span
 accessLabel access own = elim (eqSpan access own) [ true ↦ noSpan | false ↦ access ]

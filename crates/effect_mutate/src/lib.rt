@@ -91,7 +91,6 @@ pub fn modified_diagnostic(p: Place, name: u32, a: AbstractValue) -> Diagnostic
 }
 
 // The access span as a label: none where it equals the place's own.
-// FFFFFFFF twice is no label.
 fn access_label(access: Span, own: Span) -> Span
     ensures { λ r. ⌜ r ≡ accessLabel access own ⌝ }
 {

@@ -10,7 +10,6 @@ use Rattle.lent_sets.specs.Rows.{setAt}
 use Rattle.lent_work.specs.declared.Run.{Run}
 
 -- what an instruction has by value, with another session
--- the rest stays
 abbrev pub withSession : Session → Run → Run
 withSession s r = record { session = s; flag = r .flag; marks = r .marks; listed = r .listed; freeze = r .freeze; entries = r .entries }
 

@@ -182,7 +182,6 @@ pub fn is_written(values: &[u64], sets: &[u64], i: u32) -> bool
 }
 
 // Whether any captured place is defined and can be written.
-// The first such place decides.
 pub fn any_written(values: &[u64], sets: &[u64], captures: &[u32]) -> bool
     ensures { λ r. ⌜
         ((cs os : List ℕ) (run : ARun)

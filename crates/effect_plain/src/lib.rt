@@ -38,7 +38,6 @@ fn listing(output: &mut [u32], run: Run, e: AliasingEffect, captures: &[u32]) ->
 }
 
 // The step of an effect that derives no other, once it was interned.
-// Other effects do not come here.
 pub fn plain(
     values: &mut [u64],
     sets: &mut [u64],

@@ -167,7 +167,6 @@ fn stray_in_function(im: &[u32], k: u32) -> bool
 }
 
 // Whether word j of candidate k is its code, or is used.
-// The code itself is used.
 fn code_or_used(im: &[u32], k: u32, j: u32) -> bool
     ensures { λ r. ⌜ r ≡ (eqb j 0 || uses (old im) k j) ⌝ }
 {

@@ -32,7 +32,6 @@ module _ (im : Image) where
   decodedValue k vs = putValue vs (valueNumber im k) (mk (kindAt (valueKind im k)) (valueReasons im k))
 
   -- the first n values
-  -- in their order
   unfoldable pub decodedValues : ℕ → List ℕ → List ℕ
   decodedValues n vs = after decodedValue n vs
 
@@ -42,7 +41,6 @@ module _ (im : Image) where
   decodedPair k ss = putSet ss (pairIdentifier im k) (union (bitsOf (setAt ss (pairIdentifier im k))) (memberOf (pairValue im k)))
 
   -- the first n pairs
-  -- in their order
   unfoldable pub decodedSets : ℕ → List ℕ → List ℕ
   decodedSets n ss = after decodedPair n ss
 
@@ -59,7 +57,6 @@ module _ (im : Image) where
       (accessEnd im k)
 
   -- the first n identifiers
-  -- in their order
   unfoldable pub decodedIdentifiers : ℕ → List ℕ → List ℕ
   decodedIdentifiers n c = after decodedIdentifier n c
 
@@ -81,12 +78,10 @@ module _ (im : Image) where
       (placesFrom im (contextFirst im k) (contextCount im k))
 
   -- the first n functions
-  -- in their order
   unfoldable pub decodedFunctions : ℕ → List ℕ → List ℕ
   decodedFunctions n c = after decodedFunction n c
 
   -- options and the counts of identifiers and of functions
-  -- the words before the tables
   unfoldable pub decodedHeader : List ℕ → List ℕ
   decodedHeader c = set (set (set c Lent.options (options im)) Lent.identifierCount (countOf im identifiers)) Lent.functionCount (countOf im functions)
 
@@ -103,12 +98,10 @@ module _ (im : Image) where
   decodedCandidate k xs = putEffect candidateTable xs k (effectAt im k)
 
   -- the first n candidates
-  -- in their order
   unfoldable pub decodedCandidates : ℕ → List ℕ → List ℕ
   decodedCandidates n xs = after decodedCandidate n xs
 
   -- the diagnostic of candidate k
-  -- no accepted image has one
   abbrev pub diagnosticAt : ℕ → AliasingDiagnostic
   diagnosticAt k = record { identity = detail im k; instance = detail im k }
 

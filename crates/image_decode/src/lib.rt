@@ -36,7 +36,6 @@ use lent_tables::put_place;
 use lent_values::put_value;
 
 // The identifiers of a context.
-// Four words each, as in an image.
 const IDENTIFIERS: Table = Table {
     base: 3,
     count: 512,
@@ -52,7 +51,6 @@ const FUNCTIONS: Table = Table {
 };
 
 // The context places of the functions.
-// Sixteen of five words.
 const CONTEXTS: Table = Table {
     base: 12485,
     count: 64,
@@ -251,7 +249,6 @@ fn decode_functions(im: &[u32], context: &mut [u32])
 }
 
 // Options and both counts are put into a context.
-// The words before its tables.
 fn decode_header(im: &[u32], context: &mut [u32])
     ensures { λ _. ⌜ new context ≡ decodedHeader (old im) (old context) ⌝ }
 {
@@ -273,7 +270,6 @@ pub fn decode_context(im: &[u32], context: &mut [u32])
 // ---- the candidates
 
 // The diagnostic of candidate k.
-// No accepted image has one.
 fn diagnostic_at(im: &[u32], k: u32) -> AliasingDiagnostic
     ensures { λ r. ⌜ r ≡ Decoded.diagnosticAt (old im) k ⌝ }
 {

@@ -70,7 +70,6 @@ written bytes words values sets context candidates output scratch64 scratch32 bu
     ite (memoryWrong output scratch64 scratch32 buffer || lentWrong words values sets context candidates) (refusalLine 1) (inferred bytes)
 
 -- the lent tables have room for a job: its rows, its records, its scratch; and its session's entries are a word
--- of an accepted image they do
 pub record Fits (ss xs s64 : List ℕ) (j : Job) : Type 0 where
   pub rows : setWords j ≤ length ss
   pub records : candidateWords j ≤ length xs

@@ -30,7 +30,6 @@ unfoldable pub putByte : ℕ → Cursor → Cursor
 putByte x c = ite (ltb (c .at) (length (c .bytes))) (cursor (suc (c .at)) (set (c .bytes) (c .at) x)) c
 
 -- a text, one byte after the other
--- what does not fit is left out
 unfoldable pub putAll : List ℕ → Cursor → Cursor
 putAll [] c = c
 putAll (x ∷ xs) c = putAll xs (putByte x c)

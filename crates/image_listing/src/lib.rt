@@ -97,7 +97,6 @@ fn put_column(buffer: &mut [u8], at: usize, x: Found) -> usize
 }
 
 // The end of a line.
-// Every line of a listing has one.
 fn put_newline(buffer: &mut [u8], at: usize) -> usize
     ensures { λ r. ⌜ cursor r (new buffer) ≡ putAll (newline ∷ []) (cursor at (old buffer)) ⌝ }
 {
@@ -211,7 +210,6 @@ fn put_source(
 }
 
 // The line of an effect that has one place and no more.
-// Its other columns are absent.
 fn put_single(buffer: &mut [u8], at: usize, code: u32, p: Place) -> usize
     ensures { λ r. ⌜
         cursor r (new buffer)
@@ -221,7 +219,6 @@ fn put_single(buffer: &mut [u8], at: usize, code: u32, p: Place) -> usize
 }
 
 // The line of an effect that has one place and a reason, which may be absent.
-// Freeze and Mutate.
 fn put_reasoned(buffer: &mut [u8], at: usize, code: u32, p: Place, reason: Found) -> usize
     ensures { λ r. ⌜
         cursor r (new buffer)
@@ -243,7 +240,6 @@ fn put_reported(buffer: &mut [u8], at: usize, code: u32, p: Place, d: AliasingDi
 }
 
 // The line of a Create.
-// Its place is a destination.
 fn put_create(buffer: &mut [u8], at: usize, p: Place, kind: ValueKind, reason: u32) -> usize
     ensures { λ r. ⌜
         cursor r (new buffer)
@@ -265,7 +261,6 @@ fn put_create(buffer: &mut [u8], at: usize, p: Place, kind: ValueKind, reason: u
 }
 
 // The line of a CreateFunction.
-// Its captures are not shown.
 fn put_function(buffer: &mut [u8], at: usize, function: u32, p: Place) -> usize
     ensures { λ r. ⌜
         cursor r (new buffer)
@@ -360,7 +355,6 @@ fn put_value(buffer: &mut [u8], at: usize, v: u32, a: AbstractValue) -> usize
 }
 
 // The line of a value number, if it has an entry.
-// One that has none is not shown.
 fn put_value_line(buffer: &mut [u8], at: usize, values: &[u64], v: u32) -> usize
     ensures { λ r. ⌜
         cursor r (new buffer) ≡ putAll (valueLine v (valueAt (old values) v)) (cursor at (old buffer)) ⌝ }
@@ -372,7 +366,6 @@ fn put_value_line(buffer: &mut [u8], at: usize, values: &[u64], v: u32) -> usize
 }
 
 // The lines of the values 1 to 1,023.
-// Ascending.
 fn value_lines(buffer: &mut [u8], at: usize, values: &[u64]) -> usize
     ensures { λ r. ⌜ cursor r (new buffer) ≡ putAll (valueLines (old values)) (cursor at (old buffer)) ⌝ }
 {
@@ -425,7 +418,6 @@ fn put_set_line(buffer: &mut [u8], at: usize, sets: &[u64], i: u32) -> usize
 }
 
 // The lines of the identifiers 0 to 511.
-// Ascending.
 fn set_lines(buffer: &mut [u8], at: usize, sets: &[u64]) -> usize
     ensures { λ r. ⌜ cursor r (new buffer) ≡ putAll (setLines (old sets)) (cursor at (old buffer)) ⌝ }
 {
@@ -441,7 +433,6 @@ fn set_lines(buffer: &mut [u8], at: usize, sets: &[u64]) -> usize
 // ---- the whole
 
 // The identifier of an access: "0, or 1 + identifier".
-// A session holds it so.
 fn undefined_identifier(access: u32) -> Found
     ensures { λ f. ⌜ optionOf f ≡ undefinedIdentifier access ⌝ }
 {

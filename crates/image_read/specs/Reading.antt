@@ -27,7 +27,6 @@ pub record Tables : Type 0 where
   pub candidates : List ℕ
 
 -- the same, in the order of the function's parameters
--- its contract is written with it
 abbrev pub tables : List ℕ → List ℕ → List ℕ → List ℕ → Tables
 tables vs ss cs xs = record { values = vs; sets = ss; context = cs; candidates = xs }
 
@@ -38,7 +37,6 @@ pub record Read : Type 0 where
   pub tables : Tables
 
 -- the same, in the order of the function's parameters
--- the answer first
 abbrev pub given : Job → List ℕ → List ℕ → List ℕ → List ℕ → Read
 given j vs ss cs xs = record { job = j; tables = tables vs ss cs xs }
 

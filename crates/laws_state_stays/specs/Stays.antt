@@ -4,6 +4,5 @@ use Rattle.refuse_state.specs.Words.{stateRefusal}
 use Rattle.state_calls.specs.Calls.{Outcome}
 
 -- what a call leaves is accepted
--- lists and session of its outcome
 abbrev pub Stays : {A : Type 0} → Outcome A → Type 0
 Stays o = stateRefusal (o .values) (o .sets) (o .session .next) (o .session .access) ≡ 0

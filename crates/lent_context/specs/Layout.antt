@@ -5,7 +5,6 @@ use Prim.Native.Nat.{ℕ}
 use Rattle.lent_tables.specs.declared.Table.{Table}
 
 -- the options: bit 0 `enable_preserve_existing_memoization_guarantees`, bit 1 `enable_transitively_freeze_function_expressions`
--- either makes a freeze transitive
 abbrev pub options : ℕ
 options = 0
 
@@ -20,7 +19,6 @@ abbrev pub functionCount : ℕ
 functionCount = 2
 
 -- identifiers: "flags (1 ref, 2 hoisted), name 1..512 or 0, access start, end"
--- four words, as in an image
 abbrev pub identifiers : Table
 identifiers = record { base = 3; count = 512; width = 4 }
 
@@ -35,7 +33,6 @@ abbrev pub internedCount : ℕ
 internedCount = 12483
 
 -- how many diagnostics there are
--- appended too
 abbrev pub diagnosticCount : ℕ
 diagnosticCount = 12484
 

@@ -73,7 +73,6 @@ unfoldable pub findNumber : List ℕ → EffectKey → Option ℕ
 findNumber c k = firstCached 511 1 (keyAt c) k
 
 -- a fresh number is cached under a key
--- it is handed out once
 unfoldable pub putKey : List ℕ → ℕ → EffectKey → List ℕ
 putKey c n k = Keys.putKey Layout.cached c n k
 
@@ -85,7 +84,6 @@ unfoldable pub linkOf : List ℕ → ℕ → Option ℕ
 linkOf c v = optionIn Layout.links c v 0
 
 -- a value stands for a function from now on
--- CreateFunction does so
 unfoldable pub putLink : List ℕ → ℕ → ℕ → List ℕ
 putLink c v f = putOption Layout.links c v 0 (some f)
 
@@ -107,13 +105,11 @@ unfoldable pub hasTrackedSideEffect : List ℕ → ℕ → Bool
 hasTrackedSideEffect c f = flagTwo (field Layout.functions c f 0)
 
 -- context place k of a function, made Read if it is a Capture of identifier i
--- one word is written
 unfoldable pub readPlace : ℕ → ℕ → ℕ → List ℕ → List ℕ
 readPlace f i k c =
     ite (eqb (field Layout.contexts c f (k * 5)) i && eqb (field Layout.contexts c f (k * 5 + 1)) Places.Capture) (putField Layout.contexts c f (k * 5 + 1) Places.Read) c
 
 -- so n context places from k on
--- in order
 unfoldable pub readPlaces : ℕ → ℕ → ℕ → ℕ → List ℕ → List ℕ
 readPlaces f i k zero c = c
 readPlaces f i k (suc n) c = readPlaces f i (suc k) n (readPlace f i k c)
@@ -153,7 +149,6 @@ isTransitive c = not (eqb (getD c Layout.options 0) 0)
 -- ---- diagnostics
 
 -- record k of the diagnostics, with its identity
--- nine words
 unfoldable pub diagnosticIn : List ℕ → ℕ → Interned
 diagnosticIn c k = record {
   identity = field Layout.diagnostics c k 0;
@@ -168,13 +163,11 @@ diagnosticIn c k = record {
 }
 
 -- n of them from record k on
--- in the order in which they came
 unfoldable pub diagnosticsIn : List ℕ → ℕ → ℕ → List Interned
 diagnosticsIn c k zero = []
 diagnosticsIn c k (suc n) = diagnosticIn c k ∷ diagnosticsIn c (suc k) n
 
 -- how many diagnostics there are
--- each record is an instance
 unfoldable pub instanceCount : List ℕ → ℕ
 instanceCount c = getD c Layout.diagnosticCount 0
 
@@ -194,12 +187,10 @@ unfoldable pub findIdentity : List ℕ → Diagnostic → Option ℕ
 findIdentity c d = Pure.findIdentity (diagnosticsOf c) d
 
 -- the record of that identity with the same spans, if there is one
--- its number is the instance
 unfoldable pub findInstance : List ℕ → ℕ → Diagnostic → Option ℕ
 findInstance c n d = Pure.findInstance 0 (diagnosticsOf c) n d
 
 -- the words of a diagnostic written as record k
--- in the order of the record
 unfoldable pub putDiagnostic : List ℕ → ℕ → ℕ → Diagnostic → List ℕ
 putDiagnostic c k n d =
     put (put (put (put (put (put (put (put (put c 0 n) 1 (d .identifier)) 2 (d .case)) 3 (d .sentence)) 4 (d .name)) 5 (d .access .start)) 6 (d .access .end)) 7 (d .own .start)) 8 (d .own .end)

@@ -32,7 +32,6 @@ use lent_tables::place_in;
 use lent_tables::put_field;
 
 // Identifiers: flags, name, access span.
-// Four words, as in an image.
 const IDENTIFIERS: Table = Table {
     base: 3,
     count: 512,
@@ -40,7 +39,6 @@ const IDENTIFIERS: Table = Table {
 };
 
 // Functions: flags, count of context places, count of places mutated inside, 32 such places.
-// An instruction only reads them.
 const FUNCTIONS: Table = Table {
     base: 2051,
     count: 64,
@@ -48,7 +46,6 @@ const FUNCTIONS: Table = Table {
 };
 
 // The context places of each function, sixteen of five words.
-// Each function has its own copy.
 const CONTEXTS: Table = Table {
     base: 12485,
     count: 64,
@@ -72,7 +69,6 @@ const CACHED: Table = Table {
 };
 
 // Interned effects: the first effect under a key.
-// The last table.
 const INTERNED: Table = Table {
     base: 35269,
     count: 2048,
@@ -180,7 +176,6 @@ pub fn context_count(context: &[u32], f: u32) -> u32
 }
 
 // Context place k of a function, from its own copy.
-// CreateFunction changes it.
 pub fn context_place(context: &[u32], f: u32, k: u32) -> Place
     ensures { λ r. ⌜ r ≡ placeIn Layout.contexts (old context) f (0 + k * 5) ⌝ }
 {
@@ -220,7 +215,6 @@ pub fn has_tracked_side_effect(context: &[u32], f: u32) -> bool
 }
 
 // Context place k of a function becomes Read if it is a Capture of identifier i.
-// One word is written.
 fn read_place(context: &mut [u32], f: u32, i: u32, k: u32)
     ensures { λ _. ⌜ new context ≡ readPlace f i k (old context) ⌝ }
 {
@@ -267,7 +261,6 @@ pub fn is_hoisted(context: &[u32], i: u32) -> bool
 }
 
 // The access span of an identifier.
-// FFFFFFFF twice is no span.
 pub fn access_span(context: &[u32], i: u32) -> Span
     ensures { λ r. ⌜ r ≡ Lent.accessSpan (old context) i ⌝ }
 {

@@ -10,7 +10,6 @@ zeros zero = []
 zeros (suc n) = 0 ∷ zeros n
 
 -- a list with n words of another, from `start` on, written from `at` on
--- one word after the other
 unfoldable pub copied : List ℕ → ℕ → ℕ → ℕ → List ℕ → List ℕ
 copied c start at zero ws = ws
 copied c start at (suc n) ws = copied c (suc start) (suc at) n (set ws at (getD c start 0))

@@ -3,6 +3,5 @@ use Rattle.def_transfer.specs.Pure.{Interned}
 use Rattle.lent_diagnostics.specs.declared.Numbered.{Numbered}
 
 -- the code's record as the definition's
--- the same two fields
 abbrev pub internedOf : Numbered → Interned
 internedOf x = record { identity = x .identity; diagnostic = x .diagnostic }

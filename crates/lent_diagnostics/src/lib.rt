@@ -19,7 +19,6 @@ use lent_tables::field;
 use lent_tables::put_field;
 
 // Diagnostics: identity, identifier, message case, sentence, name, access span, own span.
-// Nine words each.
 const DIAGNOSTICS: Table = Table {
     base: 32965,
     count: 256,
@@ -27,7 +26,6 @@ const DIAGNOSTICS: Table = Table {
 };
 
 // A record of the table: a diagnostic with its identity.
-// Its instance is its place.
 pub struct Numbered {
     pub identity: u32,
     pub diagnostic: Diagnostic,
@@ -98,7 +96,6 @@ pub fn instance_count(context: &[u32]) -> u32
 }
 
 // Record k of the diagnostics.
-// Nine words are read.
 pub fn diagnostic_in(context: &[u32], k: u32) -> Numbered
     ensures { λ r. ⌜ internedOf r ≡ Lent.diagnosticIn (old context) k ⌝ }
 {
@@ -177,7 +174,6 @@ pub fn find_identity(context: &[u32], d: Diagnostic) -> Found
 }
 
 // Whether a record has an identity and the labels of a diagnostic.
-// Then it is the instance.
 pub fn is_instance(x: Numbered, identity: u32, d: Diagnostic) -> bool
     ensures { λ r. ⌜ r ≡ eqb identity (x .identity) && sameLabels d (x .diagnostic) ⌝ }
 {

@@ -46,7 +46,6 @@ abbrev pub captures : ℕ
 captures = 17
 
 -- a count at word w and as many places after it
--- the captures of a CreateFunction
 unfoldable pub countedPlaces : Table → List ℕ → ℕ → ℕ → List Place
 countedPlaces t c i w = placesIn t c i (w + 1) 0 (field t c i w)
 
@@ -67,7 +66,6 @@ abbrev pub copiedCaptures : Table → List ℕ → ℕ → List ℕ → List ℕ
 copiedCaptures t c i ws = copiedFrom t c i 0 81 ws
 
 -- the places of such a slice
--- any words are read
 abbrev pub capturesOf : List ℕ → List Place
 capturesOf ws = countedPlaces oneRun ws 0 0
 
@@ -133,17 +131,14 @@ module _ (t : Table) (c : List ℕ) (i : ℕ) where
 
 module _ (t : Table) (c : List ℕ) (i : ℕ) where
   -- the list with a code written as record i
-  -- every effect begins so
   abbrev pub coded : ℕ → List ℕ
   coded n = putField t c i code n
 
   -- with a code and a place
-  -- a place that is no destination
   abbrev pub onePlace : ℕ → Place → List ℕ
   onePlace n p = putPlace t (coded n) i first p
 
   -- with a code and two places
-  -- a source and a destination
   abbrev pub twoPlaces : ℕ → Place → Place → List ℕ
   twoPlaces n f into = putPlace t (onePlace n f) i second into
 

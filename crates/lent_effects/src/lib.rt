@@ -225,7 +225,6 @@ fn put_one(t: Table, xs: &mut [u32], i: usize, code: u32, p: Place)
 }
 
 // A code and two places are written as record i.
-// The destination is the second.
 fn put_two(t: Table, xs: &mut [u32], i: usize, code: u32, from: Place, into: Place)
     ensures { λ _. ⌜ new xs ≡ Records.twoPlaces t (old xs) i code from into ⌝ }
 {

@@ -73,7 +73,6 @@ flagOf none = 0
 flagOf (some n) = 1
 
 -- its second word
--- an absent one leaves a zero
 abbrev numberOf : Option ℕ → ℕ
 numberOf none = 0
 numberOf (some n) = n
@@ -103,7 +102,6 @@ unfoldable pub keyIn : Table → List ℕ → ℕ → Option EffectKey
 keyIn t c i = ite (eqb (field t c i 0) 0) none (some (keyHeadIn t c i (numbersIn t c i 12 1 0 (field t c i 11))))
 
 -- the list with a key written as record i, but for its captures
--- word by word, in their order
 unfoldable pub putHead : Table → List ℕ → ℕ → EffectKey → List ℕ
 putHead t c i k =
     putField t (putOption t (putField t (putField t (putOption t (putOption t (putField t (putField t c i 0 1) i 1 (k .code)) i 2 (k .from)) i 4 (k .into)) i 6 (k .kind)) i 7 (k .reason)) i 8 (k .function)) i 10 (k .identity)

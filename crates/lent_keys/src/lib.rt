@@ -127,7 +127,6 @@ pub fn key_of(e: AliasingEffect) -> Key
 }
 
 // Whether two numbers that may be absent are equal.
-// Both absent is equal.
 fn same_option(a: Found, b: Found) -> bool
     ensures { λ r. ⌜ r ≡ eqOption (optionOf a) (optionOf b) ⌝ }
 {

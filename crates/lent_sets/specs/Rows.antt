@@ -28,7 +28,6 @@ seek f zero v = v
 seek f (suc n) v = pick (f v) v (seek f n (suc v))
 
 -- g is done to the state at each of n numbers from v on, in order
--- what a loop that counts up does
 unfoldable pub upto : {S : Type 0} → (ℕ → S → S) → ℕ → ℕ → S → S
 upto g zero v s = s
 upto g (suc n) v s = upto g n (suc v) (g v s)
@@ -41,7 +40,6 @@ unfoldable pub rowWord : List ℕ → ℕ → ℕ → ℕ
 rowWord rs i w = getD rs (i * 16 + w) 0
 
 -- word w of row i becomes x; past the end of the list nothing changes
--- total, as the read is
 unfoldable pub setWord : List ℕ → ℕ → ℕ → ℕ → List ℕ
 setWord rs i w x = set rs (i * 16 + w) x
 
@@ -81,7 +79,6 @@ isSome none = false
 isSome (some s) = true
 
 -- the bits of a set, none for one that is not there
--- what a place adds to a union
 abbrev pub bitsOf : Option ℕ → ℕ
 bitsOf none = 0
 bitsOf (some s) = s
@@ -150,7 +147,6 @@ left s v = digitsFrom (s / 2 ^ v) v (s / 2 ^ v)
 -- ---- sets in hand: 16 words that gather a union
 
 -- row i without the bit that says that it is defined
--- the set of a row that is defined
 unfoldable pub evenRow : List ℕ → ℕ → ℕ
 evenRow rs i = rowNumber rs i - rowNumber rs i % 2
 
@@ -161,7 +157,6 @@ memberWord rs i zero = rowWord rs i 0 - rowWord rs i 0 % 2
 memberWord rs i (suc w) = rowWord rs i (suc w)
 
 -- word w of a set in hand gets that of s too
--- a turn of the loop of a union
 unfoldable pub orWord : ℕ → ℕ → List ℕ → List ℕ
 orWord s w acc = set acc w (bitOr (getD acc w 0) (wordOf s w))
 

@@ -88,7 +88,6 @@ pub fn member_word(rows: &[u64], i: u32, w: u32) -> u64
 }
 
 // Word w of a set in hand gets the bits of x too; past its end nothing changes.
-// A turn of a union.
 fn or_word(acc: &mut [u64], w: u32, x: u64)
     ensures { λ _. ⌜ new acc ≡ set (old acc) w (bitOr (getD (old acc) w 0) x) ⌝ }
 {
@@ -120,7 +119,6 @@ pub fn add_set(acc: &mut [u64], rows: &[u64], i: u32)
 }
 
 // A set in hand gets the value v too; a v past 1,023 adds nothing.
-// A set of one value is made so.
 pub fn add_value(acc: &mut [u64], v: u32)
     ensures { λ _. ⌜ new acc ≡ addSet (old acc) (2 ^ v) ⌝ }
 {

@@ -34,14 +34,12 @@ unfoldable pub field : Table → List ℕ → ℕ → ℕ → ℕ
 field t c i w = ite (within t i w) (getD c (index t i w) 0) 0
 
 -- the list with word w of record i written; as it was where there is no such word
--- writing is total as well
 unfoldable pub putField : Table → List ℕ → ℕ → ℕ → ℕ → List ℕ
 putField t c i w x = ite (within t i w) (set c (index t i w) x) c
 
 -- ---- places: "identifier, `Effect` in declared order from 0, reactive 0 or 1, start, end"
 
 -- the place that begins at word w of record i
--- five words, as in an image
 unfoldable pub placeIn : Table → List ℕ → ℕ → ℕ → Place
 placeIn t c i w = record {
   identifier = field t c i w;
@@ -51,7 +49,6 @@ placeIn t c i w = record {
 }
 
 -- the list with a place written at word w of record i
--- the same five words
 unfoldable pub putPlace : Table → List ℕ → ℕ → ℕ → Place → List ℕ
 putPlace t c i w p =
     putField t (putField t (putField t (putField t (putField t c i w (p .identifier)) i (w + 1) (p .effect)) i (w + 2) (p .reactive)) i (w + 3) (p .span .start)) i (w + 4) (p .span .end)

@@ -33,7 +33,6 @@ pub fn field(t: Table, xs: &[u32], i: usize, w: usize) -> u32
 }
 
 // Word w of record i becomes x; nothing changes where the table has no such word.
-// Writing is total as well.
 pub fn put_field(t: Table, xs: &mut [u32], i: usize, w: usize, x: u32)
     ensures { λ _. ⌜ new xs ≡ putField t (old xs) i w x ⌝ }
 {

@@ -9,7 +9,6 @@ use Rattle.base_tests.specs.Tests.{ite}
 use Rattle.lent_work.specs.declared.Marks.{Marks}
 
 -- no identifier is marked
--- as an instruction begins
 abbrev pub noMarks : Marks
 noMarks = record { words = 0 ∷ 0 ∷ 0 ∷ 0 ∷ 0 ∷ 0 ∷ 0 ∷ 0 ∷ [] }
 

@@ -36,14 +36,12 @@ unfoldable pub diagnosticClass : ℕ → List ℕ → ℕ → ℕ
 diagnosticClass identifiers c k = lower (messageClass identifiers c k) (earns 4 (diagnosticTwice c k))
 
 -- an interned effect: right, and the first under its key
--- no Apply is interned
 unfoldable pub internedClass : ℕ → ℕ → List ℕ → ℕ → ℕ
 internedClass identifiers functions c k = lower (effectClass identifiers functions c 3 Layout.interned c k) (earns 4 (internedTwice c k))
 
 -- ---- the tables: the records in use, and the words after them
 
 -- the identifiers
--- those of the state
 unfoldable pub identifiersClass : ℕ → List ℕ → ℕ
 identifiersClass identifiers c = lower (lowestBelow identifiers (identifierClass c)) (strayAfter Layout.identifiers c identifiers)
 
@@ -69,12 +67,10 @@ unfoldable pub keysClass : ℕ → ℕ → List ℕ → ℕ → ℕ
 keysClass identifiers functions c next = lower (lowestBelow (handedOut next) (cachedClass identifiers functions c)) (strayAfter Layout.cached c (handedOut next))
 
 -- the diagnostics
--- as many as the context counts
 unfoldable pub diagnosticsClass : ℕ → List ℕ → ℕ
 diagnosticsClass identifiers c = lower (lowestBelow (instanceCount c) (diagnosticClass identifiers c)) (strayAfter Layout.diagnostics c (instanceCount c))
 
 -- the interned effects
--- as many as the context counts
 unfoldable pub effectsClass : ℕ → ℕ → List ℕ → ℕ
 effectsClass identifiers functions c = lower (lowestBelow (internedCount c) (internedClass identifiers functions c)) (strayAfter Layout.interned c (internedCount c))
 

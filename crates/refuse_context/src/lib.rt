@@ -27,7 +27,6 @@ use refuse_words::stray_after;
 use refuse_words::word_class;
 
 // Identifiers: flags, name, access span.
-// Four words, as in an image.
 const IDENTIFIERS: Table = Table {
     base: 3,
     count: 512,
@@ -35,7 +34,6 @@ const IDENTIFIERS: Table = Table {
 };
 
 // Functions: flags, count of context places, count of places mutated inside, 32 such places.
-// An instruction only reads them.
 const FUNCTIONS: Table = Table {
     base: 2051,
     count: 64,
@@ -43,7 +41,6 @@ const FUNCTIONS: Table = Table {
 };
 
 // The context places of each function, sixteen of five words.
-// Each function has its own copy.
 const CONTEXTS: Table = Table {
     base: 12485,
     count: 64,
@@ -67,7 +64,6 @@ const CACHED: Table = Table {
 };
 
 // Diagnostics: identity, identifier, message case, sentence, name, access span, own span.
-// Nine words each.
 const DIAGNOSTICS: Table = Table {
     base: 32965,
     count: 256,
@@ -75,7 +71,6 @@ const DIAGNOSTICS: Table = Table {
 };
 
 // Interned effects: the first effect under a key.
-// The last table.
 const INTERNED: Table = Table {
     base: 35269,
     count: 2048,
@@ -143,7 +138,6 @@ fn interned_class(context: &[u32], k: usize, identifiers: u32, functions: u32) -
 // ---- the records of each table
 
 // The lowest class of n identifiers.
-// Each is tested word by word.
 fn identifier_records(context: &[u32], n: usize) -> u32
     ensures { λ r. ⌜ r ≡ lowestBelow n (identifierClass (old context)) ⌝ }
 {
@@ -157,7 +151,6 @@ fn identifier_records(context: &[u32], n: usize) -> u32
 }
 
 // The lowest class of n functions.
-// Each with its context places.
 fn function_records(context: &[u32], n: usize, identifiers: u32) -> u32
     ensures { λ r. ⌜ r ≡ lowestBelow n (functionClass identifiers (old context)) ⌝ }
 {
@@ -199,7 +192,6 @@ fn key_records(context: &[u32], n: usize, identifiers: u32, functions: u32) -> u
 }
 
 // The lowest class of n diagnostics.
-// In the order in which they came.
 fn diagnostic_records(context: &[u32], n: u32, identifiers: u32) -> u32
     ensures { λ r. ⌜ r ≡ lowestBelow n (diagnosticClass identifiers (old context)) ⌝ }
 {
@@ -213,7 +205,6 @@ fn diagnostic_records(context: &[u32], n: u32, identifiers: u32) -> u32
 }
 
 // The lowest class of n interned effects.
-// In the order in which they came.
 fn effect_records(context: &[u32], n: usize, identifiers: u32, functions: u32) -> u32
     ensures { λ r. ⌜ r ≡ lowestBelow n (internedClass identifiers functions (old context)) ⌝ }
 {
@@ -229,7 +220,6 @@ fn effect_records(context: &[u32], n: usize, identifiers: u32, functions: u32) -
 // ---- the tables: the records in use, and the words after them
 
 // The class of the identifiers.
-// As many as the state has.
 fn identifiers_class(context: &[u32], identifiers: u32) -> u32
     ensures { λ r. ⌜ r ≡ identifiersClass identifiers (old context) ⌝ }
 {
@@ -281,7 +271,6 @@ fn keys_class(context: &[u32], identifiers: u32, functions: u32, next: u32) -> u
 }
 
 // The class of the diagnostics.
-// As many as the context counts.
 fn diagnostics_class(context: &[u32], identifiers: u32) -> u32
     ensures { λ r. ⌜ r ≡ diagnosticsClass identifiers (old context) ⌝ }
 {
@@ -291,7 +280,6 @@ fn diagnostics_class(context: &[u32], identifiers: u32) -> u32
 }
 
 // The class of the interned effects.
-// As many as the context counts.
 fn effects_class(context: &[u32], identifiers: u32, functions: u32) -> u32
     ensures { λ r. ⌜ r ≡ effectsClass identifiers functions (old context) ⌝ }
 {

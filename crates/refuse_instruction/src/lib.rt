@@ -28,7 +28,6 @@ const DIAGNOSTICS: Table = Table {
 };
 
 // Candidates are lent as 64 records of 98 words.
-// In a slice of their own.
 const CANDIDATES: Table = Table {
     base: 0,
     count: 64,
@@ -73,7 +72,6 @@ fn uses_destination(code: u32) -> u32
 }
 
 // 1 where an effect of a code uses a reason.
-// Freeze and Create.
 fn uses_reason(code: u32) -> u32
     ensures { λ r. ⌜ r ≡ uses code 3 ⌝ }
 {
@@ -277,7 +275,6 @@ fn candidates_class(
 }
 
 // 3 where a word of a place that is lent by value is out of range.
-// Its span may hold any two words.
 fn place_class(p: Place, identifiers: u32) -> u32
     ensures { λ r. ⌜ r ≡ placeClass identifiers p ⌝ }
 {

@@ -24,7 +24,6 @@ internedTwice c k = isSome (findEffect (effectsIn Layout.interned c 0 k) (effect
 -- ---- cached numbers
 
 -- the key that stands in the record of a number that has one
--- with the captures of the record
 unfoldable pub keyHere : List ℕ → ℕ → EffectKey
 keyHere c v = keyHeadIn Layout.cached c v (numbersIn Layout.cached c v 12 1 0 (field Layout.cached c v 11))
 

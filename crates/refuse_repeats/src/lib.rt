@@ -40,7 +40,6 @@ const CACHED: Table = Table {
 };
 
 // Diagnostics: identity and eight more words.
-// Nine words each.
 const DIAGNOSTICS: Table = Table {
     base: 32965,
     count: 256,
@@ -48,7 +47,6 @@ const DIAGNOSTICS: Table = Table {
 };
 
 // Interned effects: the first effect under a key.
-// The last table.
 const INTERNED: Table = Table {
     base: 35269,
     count: 2048,
@@ -112,7 +110,6 @@ pub fn interned_twice(context: &[u32], k: usize) -> bool
 // ---- cached numbers
 
 // Whether number j has a key, and it is that of number i.
-// Both stand in the table.
 fn same_key(context: &[u32], i: usize, j: usize) -> bool
     ensures { λ r. ⌜ r ≡ isKey (keyHere (old context) i) (keyIn Layout.cached (old context) j) ⌝ }
 {

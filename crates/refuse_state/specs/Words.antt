@@ -52,7 +52,6 @@ rowUnfit next ss i = ite (isSome (setAt ss i)) (rowTooNew next ss i) (rowInUse s
 -- ---- the session's two words
 
 -- 3: "next number 1..512", so that 512 says that all fresh numbers are handed out
--- an image and a session alike
 unfoldable pub nextOutOfRange : ℕ → Bool
 nextOutOfRange next = not (leb 1 next) || not (leb next 512)
 
@@ -79,7 +78,6 @@ unfoldable pub valuesOutOfRange : ℕ → List ℕ → Bool
 valuesOutOfRange n vs = anyBelow 1024 (λ v. wordOutOfRange n v (getD vs v 0))
 
 -- 3 of the row of any of n identifiers
--- those in the list
 unfoldable pub rowsOutOfRange : ℕ → List ℕ → Bool
 rowsOutOfRange n ss = anyBelow n (λ i. rowOutOfRange n ss i)
 

@@ -213,7 +213,6 @@ pub fn next_out_of_range(next: u32) -> bool
 }
 
 // Whether the session's first access is neither 0 nor 1 + an identifier in the list of n.
-// That is, above n.
 pub fn access_out_of_range(access: u32, n: u32) -> bool
     ensures { λ r. ⌜ r ≡ accessOutOfRange n access ⌝ }
 {

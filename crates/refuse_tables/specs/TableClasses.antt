@@ -23,14 +23,12 @@ unfoldable pub identifierLimit : ℕ → ℕ → Option ℕ
 identifierLimit flags w = getD (some 4 ∷ some 513 ∷ usedIf (flags / 2 % 2) any ∷ usedIf (flags / 2 % 2) any ∷ []) w none
 
 -- the class of an identifier
--- of its four words
 unfoldable pub identifierClass : List ℕ → ℕ → ℕ
 identifierClass c i = recordClass Layout.identifiers c (identifierLimit (field Layout.identifiers c i 0)) i
 
 -- ---- functions
 
 -- "functions: flags (1 effects known, 2 tracked side effect; ..), .. count of context places (16), .. count of places mutated inside (32)"
--- the counts are tested apart
 unfoldable pub functionLimit : ℕ → ℕ → ℕ → Option ℕ
 functionLimit identifiers inside w = ite (ltb w 3) (getD (some 4 ∷ any ∷ any ∷ []) w none) (runLimit identifiers inside (w - 3))
 
@@ -60,7 +58,6 @@ unfoldable pub linkLimit : ℕ → ℕ → ℕ → ℕ → Option ℕ
 linkLimit functions v flag w = ite (eqb v 0) none (getD (some 2 ∷ usedIf flag (some functions) ∷ []) w none)
 
 -- the class of the link of a number
--- of its two words
 unfoldable pub linkClass : ℕ → List ℕ → ℕ → ℕ
 linkClass functions c v = recordClass Layout.links c (linkLimit functions v (field Layout.links c v 0)) v
 
@@ -114,7 +111,6 @@ keyClass identifiers functions c v =
     (earns 3 (keyLacks (field Layout.cached c v 1) (field Layout.cached c v 2) (field Layout.cached c v 4) (field Layout.cached c v 8)))
 
 -- the class of a number without a key
--- no word is used
 unfoldable pub noKeyClass : List ℕ → ℕ → ℕ
 noKeyClass c v = recordClass Layout.cached c (λ w. none) v
 

@@ -16,7 +16,6 @@ use refuse_words::used_if;
 use refuse_words::word_class;
 
 // Identifiers: flags, name, access span.
-// Four words, as in an image.
 const IDENTIFIERS: Table = Table {
     base: 3,
     count: 512,
@@ -24,7 +23,6 @@ const IDENTIFIERS: Table = Table {
 };
 
 // Functions: flags, count of context places, count of places mutated inside, 32 such places.
-// An instruction only reads them.
 const FUNCTIONS: Table = Table {
     base: 2051,
     count: 64,
@@ -32,7 +30,6 @@ const FUNCTIONS: Table = Table {
 };
 
 // The context places of each function, sixteen of five words.
-// Each function has its own copy.
 const CONTEXTS: Table = Table {
     base: 12485,
     count: 64,
@@ -56,7 +53,6 @@ const CACHED: Table = Table {
 };
 
 // Diagnostics: identity, identifier, message case, sentence, name, access span, own span.
-// Nine words each.
 const DIAGNOSTICS: Table = Table {
     base: 32965,
     count: 256,
@@ -83,7 +79,6 @@ fn identifier_limit(flags: u32, w: usize) -> u64
 }
 
 // The class of an identifier.
-// Of its four words.
 pub fn identifier_class(context: &[u32], i: usize) -> u32
     ensures { λ r. ⌜ r ≡ identifierClass (old context) i ⌝ }
 {
@@ -218,7 +213,6 @@ fn link_limit(functions: u32, v: usize, flag: u32, w: usize) -> u64
 }
 
 // The class of the link of a number.
-// Of its two words.
 pub fn link_class(context: &[u32], v: usize, functions: u32) -> u32
     ensures { λ r. ⌜ r ≡ linkClass functions (old context) v ⌝ }
 {
@@ -258,7 +252,6 @@ fn key_uses_source(code: u32) -> u32
 }
 
 // 1 where a cached key of a code uses a destination.
-// All that are cached do.
 fn key_uses_destination(code: u32) -> u32
     ensures { λ r. ⌜ r ≡ keyUses code 1 ⌝ }
 {
@@ -342,7 +335,6 @@ fn key_words(context: &[u32], v: usize, identifiers: u32, functions: u32, code: 
 }
 
 // The class of a number without a key.
-// No word is used.
 pub fn no_key_class(context: &[u32], v: usize) -> u32
     ensures { λ r. ⌜ r ≡ noKeyClass (old context) v ⌝ }
 {
@@ -432,7 +424,6 @@ fn diagnostic_limit(identifiers: u32, case: u32, w: usize) -> u64
 }
 
 // The class of the words of a diagnostic.
-// Of all nine.
 fn diagnostic_words(context: &[u32], k: usize, identifiers: u32, case: u32) -> u32
     ensures { λ r. ⌜ r ≡ recordClass Layout.diagnostics (old context) (diagnosticLimit identifiers case) k ⌝ }
 {
@@ -452,7 +443,6 @@ fn diagnostic_words(context: &[u32], k: usize, identifiers: u32, case: u32) -> u
 }
 
 // 4 where a diagnostic of case 0 has an access label.
-// No span is FFFFFFFF twice.
 fn label_class(case: u32, start: u32, end: u32) -> u32
     ensures { λ r. ⌜ r ≡ labelClass case start end ⌝ }
 {

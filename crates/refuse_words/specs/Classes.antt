@@ -33,7 +33,6 @@ wordClass (some limit) x = earns 3 (not (ltb x limit))
 -- ---- limits
 
 -- a limit as the code has it: 0 for none, else 1 + the limit
--- the language has no option
 abbrev pub limitOf : ℕ → Option ℕ
 limitOf zero = none
 limitOf (suc n) = some n
@@ -77,11 +76,9 @@ unfoldable pub strayAfter : Table → List ℕ → ℕ → ℕ
 strayAfter t c n = strayFrom c (index t n 0) ((t .count - n) * t .width)
 
 -- the class of the first n words of a record, by a limit for each
--- a loop goes so through a record
 unfoldable pub wordsBelow : Table → List ℕ → (ℕ → Option ℕ) → ℕ → ℕ → ℕ
 wordsBelow t c limit i n = lowestBelow n (λ w. wordClass (limit w) (field t c i w))
 
 -- the class of a record: of each of its words
--- every table goes so
 unfoldable pub recordClass : Table → List ℕ → (ℕ → Option ℕ) → ℕ → ℕ
 recordClass t c limit i = wordsBelow t c limit i (t .width)

@@ -114,7 +114,6 @@ pub fn stray_from(xs: &[u32], from: usize, n: usize) -> u32
 }
 
 // The class of the words of a table after its first n records.
-// They have no use.
 pub fn stray_after(t: Table, xs: &[u32], n: usize) -> u32
     ensures { λ r. ⌜ r ≡ strayAfter t (old xs) n ⌝ }
 {

@@ -26,7 +26,6 @@ abbrev pub valueAdds : List ℕ → List ℕ → ℕ → Bool
 valueAdds vs ws v = addsValue (valueAt vs v) (valueAt ws v)
 
 -- whether it adds to the set of identifier i
--- the same for sets
 abbrev pub setAdds : List ℕ → List ℕ → ℕ → Bool
 setAdds ss ts i = addsSet (setAt ss i) (setAt ts i)
 
@@ -39,7 +38,6 @@ putEntry vs v none = vs
 putEntry vs v (some a) = putValue vs v a
 
 -- the entry of value v is joined with that of the second list, where that adds to it
--- as merge_from writes it
 unfoldable pub mergeValue : List ℕ → ℕ → List ℕ → List ℕ
 mergeValue ws v vs = ite (valueAdds vs ws v) (putEntry vs v (joinOption join (valueAt vs v) (valueAt ws v))) vs
 
@@ -51,13 +49,11 @@ mergeValues vs ws = upto (mergeValue ws) 1024 0 vs
 -- ---- sets
 
 -- identifier i gets a set; nothing changes for none
--- a join of two sets is stored so
 abbrev pub putSome : List ℕ → ℕ → Option ℕ → List ℕ
 putSome ss i none = ss
 putSome ss i (some s) = putSet ss i s
 
 -- the set of identifier i is joined with that of the second list, where that adds to it
--- as merge_from writes it
 unfoldable pub mergeSet : List ℕ → ℕ → List ℕ → List ℕ
 mergeSet ts i ss = ite (setAdds ss ts i) (putSome ss i (joinOption union (setAt ss i) (setAt ts i))) ss
 
@@ -74,7 +70,6 @@ rowsOf ss = min 512 (length ss / 16)
 -- ---- a third state
 
 -- word k becomes that of another list; past the end nothing changes
--- a turn of a copy
 unfoldable pub copyWord : List ℕ → ℕ → List ℕ → List ℕ
 copyWord from k into = set into k (getD from k 0)
 
@@ -84,18 +79,15 @@ unfoldable pub copyWords : List ℕ → List ℕ → List ℕ
 copyWords into from = upto (copyWord from) (length from) 0 into
 
 -- word k becomes 0
--- a turn of a clearing
 unfoldable pub clearWord : ℕ → List ℕ → List ℕ
 clearWord k l = set l k 0
 
 -- the values of a third state: those of the first with the second's, where the second adds to it; else none
--- the first argument says which
 abbrev pub mergedValues : Bool → List ℕ → List ℕ → List ℕ → List ℕ
 mergedValues true into vs ws = mergeValues (copyWords into vs) ws
 mergedValues false into vs ws = replicate (length into) 0
 
 -- the sets of a third state
--- the same for sets
 abbrev pub mergedSets : Bool → List ℕ → List ℕ → List ℕ → List ℕ
 mergedSets true into ss ts = mergeSets (rowsOf (copyWords into ss)) (copyWords into ss) ts
 mergedSets false into ss ts = replicate (length into) 0

@@ -128,7 +128,6 @@ pub fn is_above(values1: &[u64], sets1: &[u64], values2: &[u64], sets2: &[u64]) 
 }
 
 // Value v gets an entry; nothing changes for none.
-// What a merge stores.
 fn put_entry(values: &mut [u64], v: usize, e: Entry)
     ensures { λ _. ⌜ new values ≡ putEntry (old values) v (optionOf e) ⌝ }
 {
@@ -153,7 +152,6 @@ fn merge_value(values: &mut [u64], other: &[u64], v: usize)
 }
 
 // The entries of the second state are joined onto those of the first.
-// The values of merge_from.
 pub fn merge_values(values: &mut [u64], other: &[u64])
     ensures { λ _. ⌜ new values ≡ mergeValues (old values) (old other) ⌝ }
 {
@@ -178,7 +176,6 @@ fn merge_set(sets: &mut [u64], other: &[u64], i: u32)
 }
 
 // The sets of the second state are joined onto those of the first, in the rows that the first list has.
-// The variables of merge_from.
 pub fn merge_sets(sets: &mut [u64], other: &[u64])
     ensures { λ _. ⌜ new sets ≡ mergeSets (rowsOf (old sets)) (old sets) (old other) ⌝ }
 {

@@ -91,6 +91,5 @@ abbrev pub mergeAnswer : Bool → Bool → Outcome Bool → MergeAnswer
 mergeAnswer left right o = record { refusal = o .refusal; answer = o .answer; flag = mergedFlag (o .answer) left right }
 
 -- the answer of merge_from as a struct, by the flags of the two states: refused or not, the left flag is kept
--- its lists are the lent ones
 abbrev pub sessionAnswer : Bool → Bool → Outcome Done → SessionAnswer
 sessionAnswer left right o = record { refusal = o .refusal; session = o .session; flag = keptFlag left right }

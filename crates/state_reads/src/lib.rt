@@ -72,7 +72,6 @@ pub fn kind(values: &[u64], sets: &[u64], session: Session, i: u32) -> KindAnswe
 }
 
 // Whether a place may be written: its kind is Mutable or Context.
-// No access is recorded.
 pub fn may_write(values: &[u64], sets: &[u64], session: Session, i: u32) -> TestAnswer
     ensures { λ r. ⌜ r ≡ testAnswer (Calls.mayWrite (old values) (old sets) session i) ⌝ }
 {
@@ -90,7 +89,6 @@ pub fn may_write(values: &[u64], sets: &[u64], session: Session, i: u32) -> Test
 }
 
 // Whether a place is defined.
-// No access is recorded.
 pub fn is_defined(values: &[u64], sets: &[u64], session: Session, i: u32) -> TestAnswer
     ensures { λ r. ⌜ r ≡ testAnswer (Calls.isDefined (old values) (old sets) session i) ⌝ }
 {
@@ -197,7 +195,6 @@ fn values_refusal(values: &[u64], sets: &[u64], session: Session, i: u32, room: 
 }
 
 // The values of a place in ascending order, in a list of 1,024 words with zeros behind them, and how many there are.
-// No access is recorded.
 pub fn values_for(
     values: &[u64],
     sets: &[u64],

@@ -102,7 +102,6 @@ pub fn append_alias(
 }
 
 // A place is frozen with a reason, and the answer says whether that acted.
-// No access is recorded.
 pub fn freeze(values: &mut [u64], sets: &[u64], session: Session, i: u32, reason: u32) -> TestAnswer
     ensures { λ r. ⌜
         (r ≡ testAnswer (Calls.freeze (old values) (old sets) session i reason))
@@ -137,7 +136,6 @@ fn any_outside(sets: &[u64], operands: &[u32]) -> bool
 }
 
 // A place gets the union of its operands' sets, unless that is empty.
-// The place may be one of them.
 pub fn infer_phi(
     values: &[u64],
     sets: &mut [u64],

@@ -54,7 +54,6 @@ fn byte(bytes: &[u8], k: usize) -> u8 {
 }
 
 // A byte as a word.
-// It always fits.
 fn wide8(x: u8) -> u32
     ensures { λ r. ⌜ r < 256 ⌝ }
 {
@@ -71,13 +70,11 @@ fn word(bytes: &[u8], k: u32) -> u32 {
 }
 
 // One more, up to 2^32 - 1.
-// A file may say any count.
 fn more(x: u32) -> u32 {
     if x < 4294967295 { x + 1 } else { x }
 }
 
 // How many words hold a number of bytes.
-// The last may be filled up.
 fn words_of(length: u32) -> u32
     ensures { λ r. ⌜ (r ≤ 1073741824) × (length ≤ 4 * r) ⌝ }
 {
@@ -154,7 +151,6 @@ fn read_image(fd: i32, image: &mut [u8]) -> Image
 // ---- comparing a listing
 
 // The next word of a recorded listing is compared with word k of the one that was made.
-// A difference stays.
 fn same_word(fd: i32, shown: &[u8], k: u32, before: Seen) -> Seen {
     let next = read_word(fd);
     Seen {
@@ -199,7 +195,6 @@ fn same_buffer(fd: i32, whole: bool, buffer: &[u8], n: usize) -> Seen {
 // ---- what is printed
 
 // Writes the name of a list.
-// It is an argument.
 fn say_name(i: usize) {
     let mut path = io::buffer();
     let n = os::arg(i, &mut path);
@@ -207,7 +202,6 @@ fn say_name(i: usize) {
 }
 
 // Writes the name of a list and a text.
-// Every line begins so.
 fn say(i: usize, what: &[u8]) {
     say_name(i);
     io::write_all(STDOUT_FILENO, what);
@@ -230,7 +224,6 @@ fn say_failed(i: usize, k: u32, failed: u32) {
 }
 
 // Writes how a list went.
-// Its last line.
 fn say_score(i: usize, done: u32, failed: u32) {
     say(i, b" ");
     io::print_decimal(STDOUT_FILENO, done as u64);
@@ -242,7 +235,6 @@ fn say_score(i: usize, done: u32, failed: u32) {
 // ---- how a list goes
 
 // A list at its beginning, with a number of records to go.
-// None failed yet.
 fn start(fd: i32, left: u32) -> Run {
     Run {
         fd,
@@ -276,13 +268,11 @@ fn fewer(left: u32) -> u32
 }
 
 // One failure more where a listing is not the recorded one.
-// Else as many as before.
 fn failures(failed: u32, same: bool) -> u32 {
     if same { failed } else { more(failed) }
 }
 
 // A record was replayed, the listing the recorded one or not.
-// The list goes on.
 fn counted(run: Run, same: bool) -> Run
     ensures { λ r. ⌜ (0 < run .left → r .left < run .left) ⌝ }
 {
@@ -296,7 +286,6 @@ fn counted(run: Run, same: bool) -> Run
 }
 
 // How a list goes after a record.
-// One that is not whole ends it.
 fn after(i: usize, run: Run, seen: Seen) -> Run
     ensures { λ r. ⌜ (0 < run .left → r .left < run .left) ⌝ }
 {
@@ -372,7 +361,6 @@ fn ended(i: usize, run: Run) -> Run {
 }
 
 // Says how a list went.
-// Its file is closed.
 fn close_list(i: usize, run: Run) {
     let last = ended(i, run);
     say_score(i, last.done, last.failed);

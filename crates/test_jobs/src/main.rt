@@ -39,7 +39,6 @@ struct Going {
 }
 
 // How a list of jobs went.
-// Printed at its end.
 struct Score {
     instructions: u32,
     failed: u32,
@@ -54,7 +53,6 @@ fn byte(bytes: &[u8], k: usize) -> u8 {
 }
 
 // A byte as a word.
-// It always fits.
 fn wide8(x: u8) -> u32
     ensures { λ r. ⌜ r < 256 ⌝ }
 {
@@ -71,7 +69,6 @@ fn word(bytes: &[u8], k: u32) -> u32 {
 }
 
 // A sum that stops at 2^32 - 1.
-// A file may hold any numbers.
 fn plus(a: u32, b: u32) -> u32 {
     if a <= 4294967295 - b {
         return a + b;
@@ -80,7 +77,6 @@ fn plus(a: u32, b: u32) -> u32 {
 }
 
 // A u32 as a word of 64 bits.
-// It always fits.
 fn wide64(x: u32) -> u64
     ensures { λ r. ⌜ r < 4294967296 ⌝ }
 {
@@ -94,13 +90,11 @@ fn word64(bytes: &[u8], k: u32) -> u64 {
 }
 
 // 1 where a test fails, else 0.
-// Differences are counted.
 fn fault(ok: bool) -> u32 {
     if ok { 0 } else { 1 }
 }
 
 // A yes or no by its number.
-// As it stands in a job.
 fn flag_code(b: bool) -> u32 {
     if b { 1 } else { 0 }
 }
@@ -127,7 +121,6 @@ fn load_words32(bytes: &[u8], at: u32, list: &mut [u32], first: u32, n: u32) {
 }
 
 // The same with words of 64 bits, two words of the job each.
-// For values and sets.
 fn load_words64(bytes: &[u8], at: u32, list: &mut [u64], first: u32, n: u32) {
     let mut k: u32 = 0;
     while k < n {
@@ -146,7 +139,6 @@ fn load_run32(bytes: &[u8], at: u32, list: &mut [u32]) -> u32 {
 }
 
 // The same with words of 64 bits.
-// Each is two words of the job.
 fn load_run64(bytes: &[u8], at: u32, list: &mut [u64]) -> u32 {
     let n = word(bytes, plus(at, 1));
     load_words64(bytes, plus(at, 2), list, word(bytes, at), n);
@@ -154,7 +146,6 @@ fn load_run64(bytes: &[u8], at: u32, list: &mut [u64]) -> u32 {
 }
 
 // A table: the count of its runs, and the runs. Answers where the reading stands after them.
-// The list was zero before.
 fn load32(bytes: &[u8], at: u32, list: &mut [u32]) -> u32 {
     let n = word(bytes, at);
     let mut next = plus(at, 1);
@@ -167,7 +158,6 @@ fn load32(bytes: &[u8], at: u32, list: &mut [u32]) -> u32 {
 }
 
 // The same with words of 64 bits.
-// For values and sets.
 fn load64(bytes: &[u8], at: u32, list: &mut [u64]) -> u32 {
     let n = word(bytes, at);
     let mut next = plus(at, 1);
@@ -221,7 +211,6 @@ fn same_words32(bytes: &[u8], at: u32, list: &[u32], first: u32, n: u32) -> bool
 }
 
 // The same with words of 64 bits, two words of the job each.
-// For values and sets.
 fn same_words64(bytes: &[u8], at: u32, list: &[u64], first: u32, n: u32) -> bool {
     let mut k: u32 = 0;
     while k < n {
@@ -250,7 +239,6 @@ fn same_run32(bytes: &[u8], s: Seen, list: &[u32]) -> Seen {
 }
 
 // The same with words of 64 bits.
-// For values and sets.
 fn same_run64(bytes: &[u8], s: Seen, list: &[u64]) -> Seen {
     let first = word(bytes, s.at);
     let n = word(bytes, plus(s.at, 1));
@@ -285,7 +273,6 @@ fn same32(bytes: &[u8], c: Cursor, list: &[u32], limit: u32) -> Cursor {
 }
 
 // The same with words of 64 bits.
-// For values and sets.
 fn same64(bytes: &[u8], c: Cursor, list: &[u64], limit: u32) -> Cursor {
     let n = word(bytes, c.at);
     let mut s = Seen {
@@ -334,7 +321,6 @@ fn stands(context: &[u32], n: u32, record: &[u32]) -> bool {
 }
 
 // The next record of a job is looked up among the first n interned effects.
-// Its runs are put together first.
 fn same_record(bytes: &[u8], c: Cursor, context: &[u32], n: u32) -> Cursor {
     let mut record = [0u32; 98];
     let at = load32(bytes, c.at, &mut record);
@@ -415,7 +401,6 @@ fn spoil32(list: &mut [u32]) {
 }
 
 // The same with words of 64 bits.
-// Scratch for a state.
 fn spoil64(list: &mut [u64]) {
     let mut k: usize = 0;
     while k < list.len() {
@@ -425,7 +410,6 @@ fn spoil64(list: &mut [u64]) {
 }
 
 // Output list and scratch get numbers that are not zero.
-// Before each call.
 fn spoil(output: &mut [u32], scratch64: &mut [u64], scratch32: &mut [u32]) {
     spoil32(output);
     spoil64(scratch64);
@@ -647,7 +631,6 @@ fn replay_instructions(
 // ---- a job
 
 // The flag and the session are compared with what a job expects.
-// Six words.
 fn check_session(bytes: &[u8], c: Cursor, flag: bool, s: Session) -> Cursor {
     let span = s.span;
     let first = expect(bytes, c, flag_code(flag));
@@ -710,7 +693,6 @@ fn load_tables(bytes: &[u8], values: &mut [u64], sets: &mut [u64], context: &mut
 }
 
 // A job on lent lists: its tables are loaded, its instructions replayed, and what stands at the end is compared.
-// Whether all is as expected.
 fn replay_lent(
     bytes: &[u8],
     size: u32,
@@ -746,7 +728,6 @@ fn replay_lent(
 // ---- lists of the lengths that a job says, zero at first, with room for a few words more
 
 // Scratch for the words of a context, 22,786 of them.
-// The sixth length.
 fn with_scratch32(
     bytes: &[u8],
     size: u32,
@@ -771,7 +752,6 @@ fn with_scratch32(
 }
 
 // Scratch for the words of a state, 1,024 and as many as the sets have.
-// The fifth length.
 fn with_scratch64(
     bytes: &[u8],
     size: u32,
@@ -794,7 +774,6 @@ fn with_scratch64(
 }
 
 // The output list, 1,120 records of 98 words.
-// The fourth length.
 fn with_output(
     bytes: &[u8],
     size: u32,
@@ -808,7 +787,6 @@ fn with_output(
 }
 
 // The context, 235,973 words.
-// The third length.
 fn with_context(bytes: &[u8], size: u32, values: &mut [u64], sets: &mut [u64]) -> bool {
     let mut context = [0u32; 236000];
     let n = most32(word(bytes, 2), &context);
@@ -816,7 +794,6 @@ fn with_context(bytes: &[u8], size: u32, values: &mut [u64], sets: &mut [u64]) -
 }
 
 // The sets of a state, sixteen words for each identifier.
-// The second length.
 fn with_sets(bytes: &[u8], size: u32, values: &mut [u64]) -> bool {
     let mut sets = [0u64; 8224];
     let n = most64(word(bytes, 1), &sets);
@@ -824,7 +801,6 @@ fn with_sets(bytes: &[u8], size: u32, values: &mut [u64]) -> bool {
 }
 
 // The values of a state, 1,024 words.
-// The first length.
 fn replay_job(bytes: &[u8], size: u32) -> bool {
     let mut values = [0u64; 1040];
     let n = most64(word(bytes, 0), &values);
@@ -842,7 +818,6 @@ fn say_failed(k: u32) {
 }
 
 // One job; 1 where it failed, else 0.
-// A job that failed is named.
 fn replay_named(bytes: &[u8], size: u32, k: u32) -> u32 {
     if replay_job(bytes, size) {
         return 0;
@@ -852,7 +827,6 @@ fn replay_named(bytes: &[u8], size: u32, k: u32) -> u32 {
 }
 
 // The next word of a file.
-// Counts of jobs and of words.
 fn read_word(fd: i32) -> u32 {
     let mut bytes = [0u8; 4];
     io::read_full(fd, &mut bytes);
@@ -867,7 +841,6 @@ fn read_job(fd: i32, bytes: &mut [u8], size: u32) {
 }
 
 // How many bytes the words of a job have, and no more than a list has.
-// Four each.
 fn most8(size: u32, bytes: &[u8]) -> usize
     ensures { λ r. ⌜ r ≤ length (old bytes) ⌝ }
 {
@@ -889,7 +862,6 @@ fn replay_next(fd: i32, k: u32, before: Score) -> Score {
 }
 
 // All jobs of a file.
-// Read one by one.
 fn replay_all(fd: i32, n: u32) -> Score {
     let mut score = Score {
         instructions: 0,
@@ -904,7 +876,6 @@ fn replay_all(fd: i32, n: u32) -> Score {
 }
 
 // Replays a list and says how it went.
-// The last line of each list.
 fn replay_list(fd: i32) {
     let n = read_word(fd);
     let score = replay_all(fd, n);
@@ -931,7 +902,6 @@ fn replay_file(i: usize) {
 }
 
 // The recorded jobs, then the damaged ones.
-// Two lists of one format.
 fn main() {
     replay_file(1);
     replay_file(2);

@@ -12,7 +12,6 @@ use Rattle.base_tests.specs.Laws.Bool.{never, or-neither, or-no-first, o
 use Rattle.base_tests.specs.Laws.Order.{lt-or-ge}
 
 -- one that passes is found
--- the loop returns at it
 pub any-yes : (n : ℕ) (f : ℕ → Bool) (k : ℕ) → k < n → f k ≡ true → anyBelow n f ≡ true
 unfolding anyBelow
 any-yes zero f k h e = absurd (not-suc-le-zero h)
@@ -23,14 +22,12 @@ any-yes (suc n) f k h e = go (any-yes n f k) (f n) refl
     go ih false q = ⊎-elim (λ l. ih l e) (λ l. let p : k ≡ n = omega arith in never (f n) (ap f (sym p) ∙ e) q) (lt-or-ge k n)
 
 -- none is found where none passes
--- the loop has been through all
 pub any-no : (n : ℕ) (f : ℕ → Bool) → ((k : ℕ) → k < n → f k ≡ false) → anyBelow n f ≡ false
 unfolding anyBelow
 any-no zero f h = refl
 any-no (suc n) f h = ap (λ (b : Bool). elim b as (λ x. Bool) [ true ↦ true | false ↦ anyBelow n f ]) (h n (le-refl (suc n))) ∙ any-no n f (λ k l. h k (omega arith))
 
 -- where none is found none passes
--- what an accepted state says of each of its words
 pub any-at : (n : ℕ) (f : ℕ → Bool) → anyBelow n f ≡ false → (k : ℕ) → k < n → f k ≡ false
 any-at n f h k l = go (f k) refl
   where

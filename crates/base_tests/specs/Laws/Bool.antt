@@ -37,12 +37,10 @@ and-true true b e f = f
 and-true false b e f = e
 
 -- a test that passed and did not: anything follows
--- where a branch of the code cannot be taken
 pub never : {A : Type 0} (b : Bool) → b ≡ true → b ≡ false → A
 never b p q = let z : _≡_ {A = ℕ} 0 1 = cc in absurd (omega arith)
 
 -- the first passed, or it did not and the second decides
--- the code returns at the first
 pub or-first : (a b : Bool) → a ≡ true → (a || b) ≡ true
 or-first a b e = ap (λ (x : Bool). x || b) e
 
@@ -50,7 +48,6 @@ pub or-second : (a b : Bool) → a ≡ false → (a || b) ≡ b
 or-second a b e = ap (λ (x : Bool). x || b) e
 
 -- neither passed, where one of two did not
--- what an accepted state says of its parts
 pub or-no-first : (a b : Bool) → (a || b) ≡ false → a ≡ false
 or-no-first true b e = e
 or-no-first false b e = refl
@@ -63,7 +60,6 @@ pub or-neither : (a b : Bool) → a ≡ false → b ≡ false → (a || b) ≡ f
 or-neither a b e f = or-second a b e ∙ f
 
 -- both have to pass
--- an entry has to be there to be out of range
 pub and-first : (a b : Bool) → a ≡ true → (a && b) ≡ b
 and-first a b e = ap (λ (x : Bool). x && b) e
 
@@ -71,7 +67,6 @@ pub and-no : (a b : Bool) → a ≡ false → (a && b) ≡ false
 and-no a b e = ap (λ (x : Bool). x && b) e
 
 -- a test turned round
--- for comparisons that the code has the other way
 pub not-of-true : (a : Bool) → a ≡ true → not a ≡ false
 not-of-true a e = ap not e
 

@@ -20,7 +20,6 @@ module _ {ℓ} {A : Type ℓ} where
   ite-ne m n a b h = ap (λ (t : Bool). ite t a b) (ne-eqb m n h)
 
 -- a choice by a test whose answer is known
--- definitions branch as the code does
 pub ite-yes : {A : Type 0} (t : Bool) (a b : A) → t ≡ true → ite t a b ≡ a
 ite-yes t a b e = ap (λ (x : Bool). ite x a b) e
 

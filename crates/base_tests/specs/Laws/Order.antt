@@ -8,14 +8,12 @@ use mathlib.Core.Bool.{not}
 use borrow.Author.Tests.{lt-ltb, le-ltb, le-leb, lt-leb}
 
 -- a is below b, or not
--- for definitions by ranges of words and bits
 pub lt-or-ge : (a b : ℕ) → (a < b) ⊎ (b ≤ a)
 lt-or-ge a zero = inr zero-le
 lt-or-ge zero (suc b) = inl (suc-le-suc zero-le)
 lt-or-ge (suc a) (suc b) = ⊎-elim (λ p. inl (suc-le-suc p)) (λ q. inr (suc-le-suc q)) (lt-or-ge a b)
 
 -- a equals b, or not
--- for a write at one place and a read at another
 pub same-or-not : (a b : ℕ) → (a ≡ b) ⊎ (a ≡ b → ⊥)
 same-or-not zero zero = inl refl
 same-or-not zero (suc b) = inr (λ e. omega arith)

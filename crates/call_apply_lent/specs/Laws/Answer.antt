@@ -9,7 +9,6 @@ use Rattle.call_apply_lent.specs.declared.Answer.{Answer}
 use Rattle.call_apply_lent.specs.Answers.{answerOf, appliedWith}
 
 -- an answer and the session that was written back are the answer of the call below
--- so what it promises holds of them
 pub answered : (a : Applied) (b : Answer) (c : Call) (vs ss cs os s64 s32 : List ℕ) → b ≡ answerOf a → (given a vs ss cs os s64 s32 ≡ outcome c) × Isolation c (given a vs ss cs os s64 s32)
     → (given (appliedWith b (a .session)) vs ss cs os s64 s32 ≡ outcome c) × Isolation c (given (appliedWith b (a .session)) vs ss cs os s64 s32)
 answered a b c vs ss cs os s64 s32 e h =

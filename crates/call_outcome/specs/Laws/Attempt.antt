@@ -42,7 +42,6 @@ after-answer (suc q) w = refl
 -- ---- an attempt
 
 -- lists that are ready, and the run of an instruction
--- each law is one way through the code
 module _ (vs ss cs os xs s64 s32 : List ℕ) (ready : Ready vs ss cs os xs s64 s32) (p : Place) (own : ℕ) (s : Session) (flag : Bool) where
   abbrev ins : Instruction
   ins = instructionOf xs (candidateCount xs) p own
@@ -58,12 +57,10 @@ module _ (vs ss cs os xs s64 s32 : List ℕ) (ready : Ready vs ss cs os xs s64 s
   module _ (n q : ℕ) (r : Run) (us ts ds ps : List ℕ) (b : Run) (hn : n ≡ atMost 64 (candidateCount xs)) (hr : r ≡ startRun s flag)
       (h : run (instructionOf xs n p own) (world vs ss cs os r) ≡ answer q tt (world us ts ds ps b)) where
     -- the run as the definition has it
-    -- with the instruction that is lent
     ran : run ins start ≡ answer q tt (world us ts ds ps b)
     ran = ap₂ (λ (i : Instruction) (x : Run). run i (world vs ss cs os x)) (sym (counts n hn)) (sym hr) ∙ h
 
     -- it is not refused
-    -- the tables stay as it leaves them
     pub attempt-ends : q ≡ 0 → applySignature ins start ≡ answer q tt (world us ts ds ps b)
     unfolding restore
     attempt-ends z =
@@ -72,12 +69,10 @@ module _ (vs ss cs os xs s64 s32 : List ℕ) (ready : Ready vs ss cs os xs s64 s
         ∙ sym (answer-ok q tt (world us ts ds ps b) z)
 
     -- how it ends: lists of the same lengths, a context made of the one that was lent
-    -- refused or not
     ended : LentEnded (ready .count) cs (answer q tt (world us ts ds ps b))
     ended = subst (LentEnded (ready .count) cs) ran (lent-ends (ready .count) ins start (record { values = ready .values; sets = ready .sets; context = let z = ready .context in omega arith }))
 
     -- it is refused
-    -- all is put back
     pub attempt-refused : (m : ℕ) (t64 t32 us′ ts′ ds′ ps′ : List ℕ) → (q ≡ 0 → ⊥) → m ≡ atMost 8192 (length ss) → t64 ≡ savedState vs ss m s64 → t32 ≡ savedContext cs s32
         → us′ ≡ copied t64 0 0 1024 us → ts′ ≡ copied t64 1024 0 m ts → ds′ ≡ restoredContext t32 ds → ps′ ≡ zeros (length ps) → length ps ≡ length os
         → applySignature ins start ≡ answer q tt (world us′ ts′ ds′ ps′ r)

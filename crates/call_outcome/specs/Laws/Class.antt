@@ -31,12 +31,10 @@ use Rattle.call_outcome.specs.Attempts.{atMost}
 -- ---- lengths
 
 -- five tests, of which each is a length
--- the first that fails decides
 abbrev five : Bool → Bool → Bool → Bool → Bool → Bool
 five a b c d e = not a || (not b || (not c || (not d || not e)))
 
 -- the lengths of six lists
--- each law is one way through the code
 module _ (sets context candidates output scratch64 scratch32 : ℕ) where
   -- a context of another length
   -- nothing else is looked at
@@ -45,7 +43,6 @@ module _ (sets context candidates output scratch64 scratch32 : ℕ) where
   length-context n = sym (ap (λ (a : Bool). five a (eqb (candidates % 98) 0) (eqb output 109760) (eqb scratch32 22786) (eqb scratch64 (1024 + sets))) (ne-eqb context 235973 n))
 
   -- the context is right
-  -- the next test decides
   module _ (h : context ≡ 235973) where
     -- no whole number of candidates
     -- records of 98 words
@@ -54,10 +51,8 @@ module _ (sets context candidates output scratch64 scratch32 : ℕ) where
     length-candidates n = sym (ap₂ (λ (a b : Bool). five a b (eqb output 109760) (eqb scratch32 22786) (eqb scratch64 (1024 + sets))) (eq-eqb context 235973 h) (ne-eqb (candidates % 98) 0 n))
 
     -- the candidates are right
-    -- the next test decides
     module _ (g : candidates % 98 ≡ 0) where
       -- what is left to test
-      -- output list and scratch
       rest : (c : Bool) → c ≡ eqb output 109760 → (not c || (not (eqb scratch32 22786) || not (eqb scratch64 (1024 + sets)))) ≡ lengthsWrong sets context candidates output scratch64 scratch32
       unfolding lengthsWrong
       rest c e =
@@ -70,26 +65,21 @@ module _ (sets context candidates output scratch64 scratch32 : ℕ) where
       length-output n = rest false (sym (ne-eqb output 109760 n))
 
       -- the output list is right
-      -- scratch decides
       module _ (f : output ≡ 109760) where
         -- scratch for a context, of another length
-        -- the words that change
         pub length-32 : (scratch32 ≡ 22786 → ⊥) → true ≡ lengthsWrong sets context candidates output scratch64 scratch32
         length-32 n = sym (ap (λ (a : Bool). not a || not (eqb scratch64 (1024 + sets))) (ne-eqb scratch32 22786 n)) ∙ rest true (sym (eq-eqb output 109760 f))
 
         -- scratch for a state, of another length
-        -- values and sets
         pub length-64 : (b : Bool) → scratch32 ≡ 22786 → b ≡ eqb scratch64 (1024 + sets) → not b ≡ lengthsWrong sets context candidates output scratch64 scratch32
         length-64 b e k =
             ap not k ∙ sym (ap (λ (a : Bool). not a || not (eqb scratch64 (1024 + sets))) (eq-eqb scratch32 22786 e)) ∙ rest true (sym (eq-eqb output 109760 f))
 
         -- it is shorter than the values alone
-        -- the fifth way
         pub length-short : scratch32 ≡ 22786 → scratch64 < 1024 → true ≡ lengthsWrong sets context candidates output scratch64 scratch32
         length-short e l = length-64 false e (sym (ne-eqb scratch64 (1024 + sets) (λ z. omega arith)))
 
         -- it is longer, and the rest is compared with the sets
-        -- the sixth way
         pub length-rest : scratch32 ≡ 22786 → 1024 ≤ scratch64 → not (eqb (scratch64 - 1024) sets) ≡ lengthsWrong sets context candidates output scratch64 scratch32
         length-rest e l = length-64 (eqb (scratch64 - 1024) sets) e
             (⊎-elim
@@ -98,7 +88,6 @@ module _ (sets context candidates output scratch64 scratch32 : ℕ) where
             (same-or-not (scratch64 - 1024) sets))
 
   -- all lengths are right
-  -- where no test fails
   pub lengths-right : lengthsWrong sets context candidates output scratch64 scratch32 ≡ false
       → (context ≡ 235973) × (candidates % 98 ≡ 0) × (output ≡ 109760) × (scratch32 ≡ 22786) × (scratch64 ≡ 1024 + sets)
   unfolding lengthsWrong
@@ -132,7 +121,6 @@ module _ (sets context candidates output scratch64 scratch32 : ℕ) where
       e5 = or-no-second (not (eqb scratch32 22786)) _ r3
 
 -- a length within its limit, and one past it
--- the two ways
 pub most-past : (limit n : ℕ) → limit < n → limit ≡ atMost limit n
 most-past limit n l = sym (ite-lt limit n limit n l)
 
@@ -160,7 +148,6 @@ identifiers-fit vs ss next access r e n = go (wrongLengths vs ss) refl
 -- each law is one way through the code
 module _ (vs ss : List ℕ) (flag : Bool) (cs : List ℕ) (s : Session) (xs : List ℕ) (p : Place) (own : ℕ) (os s64 s32 : List ℕ) where
   -- the lengths, the state, the context, the instruction
-  -- as the definition has them
   abbrev lengths : Bool
   lengths = lengthsWrong (length ss) (length cs) (length xs) (length os) (length s64) (length s32)
 
@@ -192,7 +179,6 @@ module _ (vs ss : List ℕ) (flag : Bool) (cs : List ℕ) (s : Session) (xs : Li
   class-state b r e h g q = lower-1 (lower tables instruction) ∙ sym (ap (λ (x : ℕ). lower x (lower tables instruction)) (sym g ∙ q)) ∙ class-rest b e h
 
   -- all are tested
-  -- the lowest class of three
   pub class-lowest : (b : Bool) (r n f t u v q : ℕ) → b ≡ lengths → b ≡ false → r ≡ stateRefusal vs ss (s .next) (s .access) → n ≡ length ss / 16 → f ≡ getD cs 2 0
       → t ≡ contextClass n f cs (s .next) → u ≡ instructionClass n f cs xs (length xs / 98) p own → v ≡ lower t u → q ≡ lower r v
       → q ≡ callClass (call vs ss flag cs s xs p own os s64 s32)
@@ -209,7 +195,6 @@ module _ (vs ss : List ℕ) (flag : Bool) (cs : List ℕ) (s : Session) (xs : Li
   -- ---- what no class refuses
 
   -- none of the tests earns a class
-  -- where the whole earns none
   pub class-0 : callClass (call vs ss flag cs s xs p own os s64 s32) ≡ 0 → (lengths ≡ false) × (stateRefusal vs ss (s .next) (s .access) ≡ 0) × (tables ≡ 0) × (instruction ≡ 0)
   unfolding callClass
   class-0 e =
@@ -223,7 +208,6 @@ module _ (vs ss : List ℕ) (flag : Bool) (cs : List ℕ) (s : Session) (xs : Li
       earns-none false h = refl
 
 -- the lowest of some classes is none only if each is
--- none of n words earns a class
 lowest-0 : (n : ℕ) (f : ℕ → ℕ) → lowestBelow n f ≡ 0 → (k : ℕ) → k < n → f k ≡ 0
 unfolding lowestBelow
 lowest-0 zero f e k l = absurd (omega arith)

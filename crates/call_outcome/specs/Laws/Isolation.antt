@@ -52,7 +52,6 @@ module _ (c d : Call) (t : Twins c d) where
       same-instruction = λ j. instructionClass (length (d .sets) / 16) (getD (d .context) Layout.functionCount 0) (d .context) (t .candidates j) (candidateCount (t .candidates j)) (t .lvalue j) (t .own j)
 
   -- both are refused with the same number
-  -- each leaves everything as it found it
   refused-alike : (m n : ℕ) → m ≡ n → Alike c d (refusedWith m c) (refusedWith n d)
   refused-alike m n e = record {
     applied = λ j. record { refusal = e j; count = 0; entries = 0; session = t .session j; flag = t .agree .flags j };
@@ -64,7 +63,6 @@ module _ (c d : Call) (t : Twins c d) where
   }
 
   -- both end
-  -- the same effects, counts, context and session
   ends-alike : (w u : World lent) → Ends lent (reach c) (stateOf c) (stateOf d) w u → Alike c d (endsIn w c) (endsIn u d)
   ends-alike w u h = record {
     applied = λ j. record {
@@ -82,7 +80,6 @@ module _ (c d : Call) (t : Twins c d) where
   }
 
   -- however the transfer ends
-  -- from what is known of the definition
   concluded-alike : (x y : Res (World lent) Done) → Reach.Alike lent (reach c) (stateOf c) (stateOf d) x y → Alike c d (concluded c x) (concluded d y)
   concluded-alike (ok a w) (ok b u) h = ends-alike w u h
   concluded-alike (ok a w) (refused n u) h = absurd h
@@ -90,7 +87,6 @@ module _ (c d : Call) (t : Twins c d) where
   concluded-alike (refused m w) (refused n u) h = refused-alike m n (h .0)
 
   -- no class refuses them
-  -- isolation of the definition decides
   runs-alike : callClass c ≡ 0 → Alike c d (concluded c (applySignature (lentInstruction c) (lentWorld c))) (concluded d (applySignature (lentInstruction d) (lentWorld d)))
   unfolding identifiers
   runs-alike z =
@@ -122,7 +118,6 @@ module _ (c d : Call) (t : Twins c d) where
           }
 
   -- they end alike
-  -- by whether a class refuses them
   pub alike : Alike c d (outcome c) (outcome d)
   unfolding outcome
   alike = ⊎-elim runs stops (same-or-not (callClass c) 0)

@@ -71,7 +71,6 @@ module _ (vs ss : List ℕ) (flag : Bool) (cs : List ℕ) (s : Session) (xs : Li
       }
 
   -- a class refuses
-  -- nothing was changed
   pub outcome-refused : (class : ℕ) (zs t64 t32 : List ℕ) → class ≡ callClass c → (class ≡ 0 → ⊥) → zs ≡ zeros (length os) → t64 ≡ zeros (length s64) → t32 ≡ zeros (length s32)
       → given (record { refusal = class; count = 0; entries = 0; session = s; flag = flag }) vs ss cs zs t64 t32 ≡ outcome c
   unfolding outcome
@@ -81,13 +80,11 @@ module _ (vs ss : List ℕ) (flag : Bool) (cs : List ℕ) (s : Session) (xs : Li
       ∙ sym (ite-ne (callClass c) 0 (concluded c (applySignature (lentInstruction c) (lentWorld c))) (refusedWith (callClass c) c) (λ q. n (e ∙ q)))
 
   -- the output list is set to zero before the instruction runs
-  -- the transfer does so itself
   cleared : (zs : List ℕ) → applySignature (lentInstruction c) (world vs ss cs zs (startRun s flag)) ≡ applySignature (lentInstruction c) (lentWorld c)
   unfolding applySignature startInstruction change _>>_ _>>=_ andThen atomically
   cleared zs = refl
 
   -- no class refuses: the transfer decides
-  -- what it ends with is what the code has
   pub outcome-runs : (class : ℕ) (zs us ts ds ps t64 t32 : List ℕ) (n64 n32 q : ℕ) (r : Run) → class ≡ callClass c → class ≡ 0 → zs ≡ zeros (length os)
       → (Ready vs ss cs zs xs s64 s32 → applySignature (instructionOf xs (candidateCount xs) p own) (world vs ss cs zs (startRun s flag)) ≡ answer q tt (world us ts ds ps r))
       → n64 ≡ length s64 → n32 ≡ length s32 → t64 ≡ zeros n64 → t32 ≡ zeros n32
@@ -132,7 +129,6 @@ module _ (vs ss : List ℕ) (flag : Bool) (cs : List ℕ) (s : Session) (xs : Li
 -- ---- what a refusal leaves
 
 -- after a refusal state, context and session are as before, output list and scratch zero, effects and count zero
--- whatever was lent
 pub refused-as-before : (c : Call) → (outcome c .applied .refusal ≡ 0 → ⊥) → outcome c ≡ refusedWith (outcome c .applied .refusal) c
 unfolding outcome
 refused-as-before c n = ⊎-elim runs (λ h. by-class (ite-ne (callClass c) 0 (concluded c (applySignature (lentInstruction c) (lentWorld c))) (refusedWith (callClass c) c) h)) (same-or-not (callClass c) 0)

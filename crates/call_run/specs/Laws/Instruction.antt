@@ -48,10 +48,8 @@ use Rattle.call_run.specs.Instructions.{candidateTable, ownOf, instructi
 -- ---- an identifier among the context places of a function
 
 -- a function with n context places, of which k are asked
--- each law is one way through the loop
 module _ (c : List ℕ) (f i n k : ℕ) where
   -- a place is asked for its own identifier, then the rest
-  -- as the definition does
   near-asks : (j : ℕ) → k < n → j ≡ field Layout.contexts c f (k * 5)
       → Instruction.has i (identifiers (placesIn Layout.contexts c f 0 k (n - k))) ≡ (eqb i j || Instruction.has i (identifiers (placesIn Layout.contexts c f 0 (k + 1) (n - (k + 1)))))
   unfolding Instruction.has placeIn
@@ -61,30 +59,25 @@ module _ (c : List ℕ) (f i n k : ℕ) where
       ∙ ap (λ (x : ℕ). eqb i x || Instruction.has i (identifiers (placesIn Layout.contexts c f 0 (k + 1) (n - (k + 1))))) (ap (field Layout.contexts c f) z ∙ sym g)
 
   -- a place of another identifier
-  -- the rest decides
   pub near-more : (j : ℕ) → k < n → j ≡ field Layout.contexts c f (k * 5) → (i ≡ j → ⊥)
       → Instruction.has i (identifiers (placesIn Layout.contexts c f 0 k (n - k))) ≡ Instruction.has i (identifiers (placesIn Layout.contexts c f 0 (k + 1) (n - (k + 1))))
   near-more j h g d =
       near-asks j h g ∙ ap (λ (x : Bool). x || Instruction.has i (identifiers (placesIn Layout.contexts c f 0 (k + 1) (n - (k + 1))))) (ne-eqb i j d)
 
   -- from what the loop holds
-  -- the two ends of it
   module _ (e : n ≡ field Layout.functions c f 1) (a : Instruction.has i (identifiers (placesIn Layout.contexts c f 0 0 (n - 0))) ≡ Instruction.has i (identifiers (placesIn Layout.contexts c f 0 k (n - k)))) where
     -- all places of a function are its context
-    -- the loop began with all of them
     near-left : Instruction.has i (identifiers (placesIn Layout.contexts c f 0 k (n - k))) ≡ Instruction.has i (identifiers (Lent.contextOf c f))
     unfolding Lent.contextOf
     near-left = let z : n - 0 ≡ n = omega arith in sym a ∙ ap (λ (m : ℕ). Instruction.has i (identifiers (placesIn Layout.contexts c f 0 0 m))) (z ∙ e)
 
     -- the identifier is found
-    -- the rest is not asked
     pub near-yes : (j : ℕ) → k < n → j ≡ field Layout.contexts c f (k * 5) → i ≡ j → true ≡ Instruction.has i (identifiers (Lent.contextOf c f))
     near-yes j h g d =
         sym (ap (λ (x : Bool). x || Instruction.has i (identifiers (placesIn Layout.contexts c f 0 (k + 1) (n - (k + 1))))) (eq-eqb i j d))
         ∙ sym (near-asks j h g) ∙ near-left
 
     -- no place is left
-    -- none has the identifier
     pub near-no : n ≤ k → false ≡ Instruction.has i (identifiers (Lent.contextOf c f))
     unfolding Instruction.has
     near-no h = sym (ap (λ (l : List Place). Instruction.has i (identifiers l)) (places-none Layout.contexts c f 0 k n h)) ∙ near-left
@@ -95,7 +88,6 @@ module _ (c : List ℕ) (f i n k : ℕ) where
 -- the definition tests all at once, the code one after the other
 module _ (vs ss c os : List ℕ) (r : Run) (p : Place) where
   -- the definition looks at the place and its name, and tests
-  -- the looks leave the world
   report-tests : (a : AbstractValue) (name : ℕ) → a ≡ kindOf (valueAt vs) (setAt ss (p .identifier)) → name ≡ Lent.nameOf c (p .identifier)
       → Instruction.reportEarly p (world vs ss c os r) ≡ (if isSome (setAt ss (p .identifier)) && isFrozen (a .kind) then (Context.internDiagnostic (Step.modified p name a) >>= λ d. Context.emit (MutateFrozen p d)) else done) (world vs ss c os r)
   unfolding Instruction.reportEarly State.setOf State.peek State.ask _>>=_ andThen
@@ -103,64 +95,52 @@ module _ (vs ss c os : List ℕ) (r : Run) (p : Place) where
       ap₂ (λ (x : AbstractValue) (y : ℕ). (if isSome (setAt ss (p .identifier)) && isFrozen (x .kind) then (Context.internDiagnostic (Step.modified p y x) >>= λ d. Context.emit (MutateFrozen p d)) else done) (world vs ss c os r)) (sym e) (sym g)
 
   -- what the set of the place says
-  -- the first test
   module _ (b : Bool) (s : b ≡ isSome (setAt ss (p .identifier))) where
     -- an undefined place
-    -- nothing is done
     pub report-undefined : b ≡ false → Instruction.reportEarly p (world vs ss c os r) ≡ answer 0 tt (world vs ss c os r)
     report-undefined h =
         report-tests (kindOf (valueAt vs) (setAt ss (p .identifier))) (Lent.nameOf c (p .identifier)) refl refl
         ∙ if-false _ _ _ _ _ (ap (λ (x : Bool). x && isFrozen (kindOf (valueAt vs) (setAt ss (p .identifier)) .kind)) (sym s ∙ h)) (done-ok (world vs ss c os r))
 
     -- a defined place
-    -- what its kind says
     module _ (h : b ≡ true) (a : AbstractValue) (g : a ≡ kindOf (valueAt vs) (setAt ss (p .identifier))) (y : Bool) (v : y ≡ isFrozen (a .kind)) where
       -- a place that is not Frozen
-      -- nothing is done
       pub report-other : y ≡ false → Instruction.reportEarly p (world vs ss c os r) ≡ answer 0 tt (world vs ss c os r)
       report-other q =
           report-tests a (Lent.nameOf c (p .identifier)) g refl
           ∙ if-false _ _ _ _ _ (and-false (isSome (setAt ss (p .identifier))) (isFrozen (a .kind)) (sym v ∙ q)) (done-ok (world vs ss c os r))
 
       -- a Frozen place is reported
-      -- a diagnostic gets its numbers first
       module _ (q : y ≡ true) (name : ℕ) (m : name ≡ Lent.nameOf c (p .identifier)) (x : Diagnostic) (k : x ≡ Step.modified p name a) (z : ℕ) (d : AliasingDiagnostic) (c₁ : List ℕ)
           (w : Context.internDiagnostic x (world vs ss c os r) ≡ answer z d (world vs ss c₁ os r)) where
         -- what the tests leave to do
-        -- both passed
         report-rest : (t : Res (World lent) Done) → (Context.internDiagnostic (Step.modified p name a) >>= λ d. Context.emit (MutateFrozen p d)) (world vs ss c os r) ≡ t → Instruction.reportEarly p (world vs ss c os r) ≡ t
         report-rest t j =
             report-tests a name g m
             ∙ if-true _ _ _ _ _ (and-true (isSome (setAt ss (p .identifier))) (isFrozen (a .kind)) (sym s ∙ h) (sym v ∙ q)) j
 
         -- the numbers of the diagnostic of this place
-        -- as the code asks for them
         report-numbers : Context.internDiagnostic (Step.modified p name a) (world vs ss c os r) ≡ answer z d (world vs ss c₁ os r)
         report-numbers = ap (λ (y : Diagnostic). Context.internDiagnostic y (world vs ss c os r)) (sym k) ∙ w
 
         -- no number is left
-        -- so it is refused
         pub report-refused : (z ≡ 0 → ⊥) → Instruction.reportEarly p (world vs ss c os r) ≡ answer z tt (world vs ss c₁ os r)
         report-refused n = report-rest _ (bind-refused _ _ z _ _ d tt report-numbers n)
 
         -- a MutateFrozen is listed
-        -- it has no captures, whatever stands beside it
         pub report-lists : (cs : List Place) (os₁ : List ℕ) (r₁ : Run) → z ≡ 0 → Context.emit (effectWith (Head.MutateFrozen p d) cs) (world vs ss c₁ os r) ≡ ok tt (world vs ss c₁ os₁ r₁)
             → Instruction.reportEarly p (world vs ss c os r) ≡ answer 0 tt (world vs ss c₁ os₁ r₁)
         unfolding effectWith answer
         report-lists cs os₁ r₁ n j = report-rest _ (bind-goes _ _ z _ _ d _ report-numbers n j)
 
   -- whether the place is of the own function's context
-  -- the test before all others
   module _ (f : ℕ) (b : Bool) (e : b ≡ Instruction.has (p .identifier) (identifiers (Lent.contextOf c f))) where
     -- a place of the function itself
-    -- nothing is done
     pub early-far : b ≡ false → Instruction.earlyError f p (world vs ss c os r) ≡ answer 0 tt (world vs ss c os r)
     unfolding Instruction.earlyError State.ask Context.functionContext
     early-far h = bind-ok _ _ _ _ _ _ refl (if-false _ _ _ _ _ (sym e ∙ h) (done-ok (world vs ss c os r)))
 
     -- a place from outside
-    -- it is reported
     pub early-near : (y : Res (World lent) Done) → b ≡ true → Instruction.reportEarly p (world vs ss c os r) ≡ y → Instruction.earlyError f p (world vs ss c os r) ≡ y
     unfolding Instruction.earlyError State.ask Context.functionContext
     early-near y h g = bind-ok _ _ _ _ _ _ refl (if-true _ _ _ _ _ (sym e ∙ h) g)
@@ -173,16 +153,13 @@ lower-or-not : (a b : ℕ) → (a < b) ⊎ (b ≤ a)
 lower-or-not a b = told (ltb a b) (λ e. ltb-true a b e) (λ e. ltb-false a b e)
   where
     -- what the test says, either way
-    -- it computes
     told : (d : Bool) → (d ≡ true → a < b) → (d ≡ false → b ≤ a) → (a < b) ⊎ (b ≤ a)
     told true p q = inl (p refl)
     told false p q = inr (q refl)
 
 -- into a slice, behind the count
--- one word a turn
 module _ (c : List ℕ) (f : ℕ) where
   -- a turn of the loop that copies them writes one word
-  -- what is left is what was left after it
   pub inside-more : (k i : ℕ) (ws us : List ℕ) (x : ℕ) → k < 160 → i ≡ f → x ≡ field Layout.functions c i (3 + k) → us ≡ set ws (1 + k) x → copiedInsideFrom c f (k + 1) (160 - (k + 1)) us ≡ copiedInsideFrom c f k (160 - k) ws
   unfolding copiedInsideFrom
   inside-more k i ws us x l m e g =
@@ -192,7 +169,6 @@ module _ (c : List ℕ) (f : ℕ) where
       ∙ ap (λ (y : ℕ). copiedInsideFrom c f k y ws) n
 
   -- at the end none is left, and the first word was the count
-  -- the slice is the whole
   pub inside-done : (k : ℕ) (ws us vs : List ℕ) (x : ℕ) → 160 ≤ k → x ≡ field Layout.functions c f 2 → us ≡ set ws 0 x → copiedInsideFrom c f k (160 - k) vs ≡ copiedInsideFrom c f 0 160 us → vs ≡ copiedInside c f ws
   unfolding copiedInsideFrom copiedInside
   inside-done k ws us vs x l e g h =
@@ -200,7 +176,6 @@ module _ (c : List ℕ) (f : ℕ) where
       ap (λ (y : ℕ). copiedInsideFrom c f k y vs) m ∙ h ∙ ap (copiedInsideFrom c f 0 160) (g ∙ ap (set ws 0) e)
 
   -- a word before those that are copied stays
-  -- each word is written once
   inside-before : (k n : ℕ) (ws : List ℕ) (v : ℕ) → v < 1 + k → getD (copiedInsideFrom c f k n ws) v 0 ≡ getD ws v 0
   unfolding copiedInsideFrom
   inside-before k zero ws v l = refl
@@ -209,7 +184,6 @@ module _ (c : List ℕ) (f : ℕ) where
       ∙ getD-set-other ws (1 + k) v (field Layout.functions c f (3 + k)) 0 (λ e. omega arith)
 
   -- a word that is copied is the record's
-  -- where the slice has room for it
   inside-at : (k n : ℕ) (ws : List ℕ) (v : ℕ) → 1 + (k + n) ≤ length ws → k ≤ v → v < k + n → getD (copiedInsideFrom c f k n ws) (1 + v) 0 ≡ field Layout.functions c f (3 + v)
   unfolding copiedInsideFrom
   inside-at k zero ws v r l u = absurd (let z : v < k + 0 = u in omega arith)
@@ -251,7 +225,6 @@ module _ (c : List ℕ) (f : ℕ) where
       ∙ getD-set-same ws 0 (field Layout.functions c f 2) 0 (omega arith)
 
   -- a place of the slice is the record's, two words later
-  -- five words
   inside-place : (d : List ℕ) → ((v : ℕ) → field insideRun d 0 (1 + v) ≡ field Layout.functions c f (3 + v)) → (w x u : ℕ) → w ≡ 1 + u → x ≡ 3 + u → placeIn insideRun d 0 w ≡ placeIn Layout.functions c f x
   unfolding placeIn
   inside-place d h w x u e g =
@@ -263,7 +236,6 @@ module _ (c : List ℕ) (f : ℕ) where
       (ap (field insideRun d 0) (let z : w + 4 ≡ 1 + (u + 4) = omega arith in z) ∙ h (u + 4) ∙ ap (field Layout.functions c f) (let z : 3 + (u + 4) ≡ x + 4 = omega arith in z))
 
   -- and so is a run of places
-  -- one after the other
   inside-places : (d : List ℕ) → ((v : ℕ) → field insideRun d 0 (1 + v) ≡ field Layout.functions c f (3 + v)) → (k n : ℕ) → placesIn insideRun d 0 1 k n ≡ placesIn Layout.functions c f 3 k n
   unfolding placesIn
   inside-places d h k zero = refl
@@ -271,7 +243,6 @@ module _ (c : List ℕ) (f : ℕ) where
       ap₂ (λ (p : Place) (ps : List Place). p ∷ ps) (inside-place d h (1 + k * 5) (3 + k * 5) (k * 5) refl refl) (inside-places d h (suc k) n)
 
   -- the places of a slice that they were copied to are those that the function mutates inside
-  -- the context may change afterwards
   pub inside-copied : (ws : List ℕ) → length ws ≡ 161 → insidePlaces (copiedInside c f ws) ≡ Lent.mutatedInside c f
   unfolding countedPlaces Lent.mutatedInside
   inside-copied ws b =
@@ -284,26 +255,21 @@ module _ (c : List ℕ) (f : ℕ) where
 -- from the loop's own start
 module _ (act : Place → M (World lent) Done) (ws : List ℕ) where
   -- all places of the slice
-  -- the loop begins with them
   pub places-start : (n : ℕ) (w : World lent) → n ≡ field insideRun ws 0 0 → each (insidePlaces ws) act w ≡ each (placesIn insideRun ws 0 1 0 (n - 0)) act w
   unfolding countedPlaces
   places-start n w e = let z : n - 0 ≡ n = omega arith in ap (λ (m : ℕ). each (placesIn insideRun ws 0 1 0 m) act w) (sym e ∙ sym z)
 
   -- one place
-  -- it goes on, or it is refused
   module _ (n k : ℕ) (p : Place) (r : ℕ) (w u : World lent) (h : k < n) (e : p ≡ placeIn insideRun ws 0 (1 + k * 5)) (s : act p w ≡ answer r tt u) where
     -- the place that the definition takes
-    -- as the code reads it
     place-acts : act (placeIn insideRun ws 0 (1 + k * 5)) w ≡ answer r tt u
     place-acts = ap (λ (q : Place). act q w) (sym e) ∙ s
 
     -- it goes on
-    -- the next turn does the rest
     pub places-next : r ≡ 0 → each (placesIn insideRun ws 0 1 k (n - k)) act w ≡ each (placesIn insideRun ws 0 1 (k + 1) (n - (k + 1))) act u
     places-next z = each-goes act _ _ _ r w u (places-more insideRun ws 0 1 k n h) place-acts z
 
     -- it is refused
-    -- so is the whole
     pub places-stop : ¬ (r ≡ 0) → each (placesIn insideRun ws 0 1 k (n - k)) act w ≡ answer r tt u
     places-stop z = each-refused act _ _ _ r w u (places-more insideRun ws 0 1 k n h) place-acts z
 
@@ -315,7 +281,6 @@ module _ (act : Place → M (World lent) Done) (ws : List ℕ) where
 -- ---- the early errors of the own function
 
 -- no own function
--- nothing is done
 pub own-none : (own : ℕ) (w : World lent) → own ≡ 0 → Instruction.earlyErrors (ownOf own) w ≡ answer 0 tt w
 unfolding Instruction.earlyErrors
 own-none zero w h = done-ok w
@@ -339,7 +304,6 @@ own-some (suc g) f vs ss c os r ws us y n m b e h =
 -- it is the step at depth 4
 module _ (act : AliasingEffect → M (World lent) Done) (xs : List ℕ) where
   -- a candidate is its head and its captures, which were copied
-  -- as the step takes them
   pub candidate-is : (k i j : ℕ) (e : Head) (ws us : List ℕ) (w : World lent) (y : Res (World lent) Done) → i ≡ k → e ≡ headIn candidateTable xs i → j ≡ k → us ≡ copiedCaptures candidateTable xs j ws → length ws ≡ 81
       → act (effectWith e (capturesOf us)) w ≡ y → act (effectIn candidateTable xs k) w ≡ y
   unfolding effectIn
@@ -350,20 +314,16 @@ module _ (act : AliasingEffect → M (World lent) Done) (xs : List ℕ) where
       ∙ h
 
   -- all candidates
-  -- the loop begins with them
   pub candidates-start : (n : ℕ) (w : World lent) → each (effectsIn candidateTable xs 0 n) act w ≡ each (effectsIn candidateTable xs 0 (n - 0)) act w
   candidates-start n w = let z : n ≡ n - 0 = omega arith in ap (λ (m : ℕ). each (effectsIn candidateTable xs 0 m) act w) z
 
   -- one candidate
-  -- it goes on, or it is refused
   module _ (n k : ℕ) (r : ℕ) (w u : World lent) (h : k < n) (s : act (effectIn candidateTable xs k) w ≡ answer r tt u) where
     -- it goes on
-    -- the next turn does the rest
     pub candidates-next : r ≡ 0 → each (effectsIn candidateTable xs k (n - k)) act w ≡ each (effectsIn candidateTable xs (k + 1) (n - (k + 1))) act u
     candidates-next z = each-goes act _ _ _ r w u (effects-more candidateTable xs k n h) s z
 
     -- it is refused
-    -- so is the whole
     pub candidates-stop : ¬ (r ≡ 0) → each (effectsIn candidateTable xs k (n - k)) act w ≡ answer r tt u
     candidates-stop z = each-refused act _ _ _ r w u (effects-more candidateTable xs k n h) s z
 
@@ -375,16 +335,13 @@ module _ (act : AliasingEffect → M (World lent) Done) (xs : List ℕ) where
 -- ---- the lvalue
 
 -- what the set of the lvalue says
--- the only test
 module _ (vs ss : List ℕ) (i : ℕ) (b : Bool) (e : b ≡ isSome (setAt ss i)) where
   -- a defined lvalue
-  -- nothing is done
   pub lvalue-stays : b ≡ true → (cs os : List ℕ) (r : Run) → Instruction.defineLvalue i (world vs ss cs os r) ≡ answer 0 tt (world vs ss cs os r)
   unfolding Instruction.defineLvalue State.setOf
   lvalue-stays h cs os r = bind-ok _ _ _ _ _ _ refl (if-true _ _ _ _ _ (sym e ∙ h) (done-ok (world vs ss cs os r)))
 
   -- an undefined lvalue gets its own value
-  -- an entry that stands there is overwritten
   pub lvalue-own : (x : ℕ) (a : AbstractValue) (us ts : List ℕ) → b ≡ false → x ≡ i → a ≡ default → us ≡ putValue vs (512 + x) a → ts ≡ ownSets ss i i
       → (cs os : List ℕ) (r : Run) → Instruction.defineLvalue i (world vs ss cs os r) ≡ answer 0 tt (world us ts cs os r)
   unfolding Instruction.defineLvalue State.setOf State.initialize State.define State.point ownSets answer _>>_ _>>=_ andThen
@@ -393,7 +350,6 @@ module _ (vs ss : List ℕ) (i : ℕ) (b : Bool) (e : b ≡ isSome (setAt ss i))
       (ap₂ (λ (y z : List ℕ). ok tt (world y z cs os r)) (sym (g ∙ ap₂ (λ (n : ℕ) (v : AbstractValue). putValue vs (512 + n) v) p d)) (sym t))
 
 -- the set of an own value, below 1,024
--- past that, all are the same empty set
 pub own-below : (ss us : List ℕ) (i : ℕ) → us ≡ putSet ss i (2 ^ (512 + i)) → us ≡ ownSets ss i i
 unfolding ownSets
 own-below ss us i e = e
@@ -401,25 +357,20 @@ own-below ss us i e = e
 -- ---- the whole run
 
 -- an instruction as it is lent, and its early errors
--- each law is one way through
 module _ (xs : List ℕ) (n : ℕ) (p : Place) (own : ℕ) (w : World lent) (r : ℕ) (u : World lent) (e : Instruction.earlyErrors (ownOf own) w ≡ answer r tt u) where
   -- an early error is refused
-  -- so is the whole
   pub run-early : ¬ (r ≡ 0) → Instruction.run (instructionOf xs n p own) w ≡ answer r tt u
   unfolding Instruction.run instructionOf
   run-early h = then-refused _ _ r _ _ tt tt e h
 
   -- the early errors are done
-  -- the candidates come next
   module _ (h : r ≡ 0) (q : ℕ) (vs ss cs os : List ℕ) (a : Run) (g : each (effectsIn candidateTable xs 0 n) (Step.applyEffect 4) u ≡ answer q tt (world vs ss cs os a)) where
     -- a candidate is refused
-    -- so is the whole
     pub run-stops : ¬ (q ≡ 0) → Instruction.run (instructionOf xs n p own) w ≡ answer q tt (world vs ss cs os a)
     unfolding Instruction.run instructionOf
     run-stops k = then-goes _ _ r _ _ tt _ e h (then-refused _ _ q _ _ tt tt g k)
 
     -- the lvalue is defined and the entries are kept
-    -- nothing is refused any more
     pub run-ends : (us ts : List ℕ) (b : Run) → q ≡ 0 → ((cs os : List ℕ) (r : Run) → Instruction.defineLvalue (p .identifier) (world vs ss cs os r) ≡ answer 0 tt (world us ts cs os r)) → b ≡ keptEntries a
         → Instruction.run (instructionOf xs n p own) w ≡ answer 0 tt (world us ts cs os b)
     unfolding Instruction.run instructionOf State.change answer

@@ -16,7 +16,6 @@ use Rattle.call_undo.specs.Saves.{savedState, savedContext, forgotten, r
 -- ---- what a copy holds
 
 -- a word outside of the run that is written stays
--- before it or after it
 pub copied-outside : (c : List ℕ) (start at n : ℕ) (ws : List ℕ) (k : ℕ) → (k < at) ⊎ (at + n ≤ k) → getD (copied c start at n ws) k 0 ≡ getD ws k 0
 unfolding copied
 copied-outside c start at zero ws k o = refl
@@ -25,7 +24,6 @@ copied-outside c start at (suc n) ws k o =
     ∙ getD-set-other ws at k (getD c start 0) 0 (λ e. ⊎-elim {C = ⊥} (λ l. omega arith) (λ l. omega arith) o)
 
 -- a word of the run is the one that was copied
--- where the list has it
 pub copied-inside : (c : List ℕ) (start at n : ℕ) (ws : List ℕ) (j : ℕ) → j < n → at + j < length ws → getD (copied c start at n ws) (at + j) 0 ≡ getD c (start + j) 0
 unfolding copied
 copied-inside c start at zero ws j l h = absurd (omega arith)
@@ -45,7 +43,6 @@ copied-inside c start at (suc n) ws (suc j) l h =
     ∙ ap (λ (k : ℕ). getD c k 0) y
 
 -- the same, by the place of the word in the list
--- as a proof over all words asks
 copied-at : (c : List ℕ) (start at n : ℕ) (ws : List ℕ) (k m : ℕ) → at ≤ k → k < at + n → k < length ws → m ≡ start + (k - at) → getD (copied c start at n ws) k 0 ≡ getD c m 0
 copied-at c start at n ws k m a b l e =
     let z : k ≡ at + (k - at) = omega arith in
@@ -56,7 +53,6 @@ copied-at c start at n ws k m a b l e =
 -- ---- the loop over effects that go
 
 -- no effect goes
--- the first way through the code
 pub forgets-none : (c : List ℕ) (from to : ℕ) → to ≤ from → c ≡ forgotten from to c
 unfolding forgotten copied
 forgets-none c from to l =
@@ -64,7 +60,6 @@ forgets-none c from to l =
     ap (λ (n : ℕ). copied [] 0 (35269 + from * 98) n c) z
 
 -- one more word becomes zero
--- as a loop counts
 pub forgets-more : (c d : List ℕ) (at n k : ℕ) → k < n → d ≡ set c (at + k) 0 → copied [] k (at + k) (n - k) c ≡ copied [] (k + 1) (at + (k + 1)) (n - (k + 1)) d
 unfolding copied
 forgets-more c d at n k l e =
@@ -88,10 +83,8 @@ forgets-end c d from to at n k a b h e =
 -- ---- a state put back
 
 -- what was saved of a state, of which the lists have the right lengths
--- whatever has become of them since
 module _ (vs ss : List ℕ) (n : ℕ) (ws : List ℕ) (hv : length vs ≡ 1024) (hs : length ss ≡ n) (hw : length ws ≡ 1024 + n) where
   -- values return
-  -- the first words of scratch
   pub values-restored : (us : List ℕ) → length us ≡ 1024 → copied (savedState vs ss n ws) 0 0 1024 us ≡ vs
   unfolding savedState
   values-restored us hu =
@@ -105,7 +98,6 @@ module _ (vs ss : List ℕ) (n : ℕ) (ws : List ℕ) (hv : length vs ≡ 1024) 
       s = copied ss 0 1024 n (copied vs 0 0 1024 ws)
 
   -- sets return
-  -- the words after them
   pub sets-restored : (us : List ℕ) → length us ≡ n → copied (savedState vs ss n ws) 1024 0 n us ≡ ss
   unfolding savedState
   sets-restored us hu =
@@ -121,10 +113,8 @@ module _ (vs ss : List ℕ) (n : ℕ) (ws : List ℕ) (hv : length vs ≡ 1024) 
 -- ---- a context put back
 
 -- an instruction made c of a context of the right length, after whose last interned effect every word was zero
--- it is put back, word for word
 module _ (c₀ c ws : List ℕ) (long : length c₀ ≡ 235973) (hw : length ws ≡ 22786) (kept : KeptFrom c₀ c) (zero-after : (k : ℕ) → 35269 + internedCount c₀ * 98 ≤ k → getD c₀ k 0 ≡ 0) where
   -- what was saved
-  -- the words between
   abbrev pub saved : List ℕ
   saved = savedContext c₀ ws
 
@@ -133,7 +123,6 @@ module _ (c₀ c ws : List ℕ) (long : length c₀ ≡ 235973) (hw : length ws 
   saved-at k m l e = copied-at c₀ 12483 0 22786 ws k m (omega arith) (omega arith) (omega arith) (omega arith)
 
   -- the count of interned effects is its first word
-  -- so many stay
   saved-count : getD saved 0 0 ≡ internedCount c₀
   unfolding internedCount
   saved-count = saved-at 0 12483 (omega arith) (omega arith)
@@ -168,7 +157,6 @@ module _ (c₀ c ws : List ℕ) (long : length c₀ ≡ 235973) (hw : length ws 
       later h = ⊎-elim (stayed h) (λ g. ⊎-elim (appended g) past (lt-or-ge k (35269 + internedCount c * 98))) (lt-or-ge k (35269 + n * 98))
 
   -- all words
-  -- saved or not
   pub context-restored : restoredContext saved c ≡ c₀
   unfolding restoredContext forgotten
   context-restored = ext-getD 0 (copied saved 0 12483 22786 d) c₀ (same ∙ sym z) word

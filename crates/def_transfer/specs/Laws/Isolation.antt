@@ -177,7 +177,6 @@ module _ {T : Tables} (L : Lawful T) where
   after (refused n w) = w
 
   -- what the run of an instruction ends with, from whatever world: refused with 6 to 11 or not at all, tables of the right size, and what every
-  -- change of a context keeps
   pub record Ended (x : Res (World T) Done) : Type 0 where
     pub range : InRange x
     pub fit : Fit (after x .state)

@@ -9,7 +9,6 @@ use Rattle.effect_acts.specs.Acts.{sequel}
 
 module _ (r : ℕ) (w : World lent) (m : M (World lent) Done) where
   -- what follows a refusal is not done
-  -- both ways, for the caller and for what is called
   pub sequel-refused : ¬ (r ≡ 0) → sequel r w m ≡ answer r tt w
   unfolding answer andThen
   sequel-refused h = go r h
@@ -19,7 +18,6 @@ module _ (r : ℕ) (w : World lent) (m : M (World lent) Done) where
       go (suc n) h = refl
 
   -- what follows an answer of 0 is done in its world
-  -- both ways as well
   pub sequel-goes : r ≡ 0 → sequel r w m ≡ m w
   unfolding answer andThen
   sequel-goes h = ap (λ (n : ℕ). sequel n w m) h

@@ -36,7 +36,6 @@ use Rattle.effect_apply.specs.Steps.{does, creates}
 -- ---- the step: interned, then acted on
 
 -- no depth is left
--- it never comes to this
 pub step-none : (d : ℕ) (e : AliasingEffect) (w : World lent) → d ≡ 0 → applyEffect d e w ≡ answer 99 tt w
 unfolding applyEffect refuse answer
 step-none zero e w h = refl
@@ -54,14 +53,12 @@ module _ (d : ℕ) (e y : AliasingEffect) (r : ℕ) (w u : World lent) (h : ¬ (
   step-refused n = opened d e w h ∙ bind-refused _ _ r w u y tt i n
 
   -- what stands for the effect acts
-  -- the depth falls
   pub step-acts : (x : Res (World lent) Done) → r ≡ 0 → act (applyEffect (d - 1)) y u ≡ x → applyEffect d e w ≡ x
   step-acts x z g = opened d e w h ∙ bind-goes _ _ r w u y x i z g
 
 -- ---- what an effect does, by its kind
 
 -- the definition's cases, put together
--- one for each effect
 acts-does : (again : AliasingEffect → M (World lent) Done) (x : Head) (ds : List Place) (w : World lent) → act again (effectWith x ds) w ≡ does again (effectWith x ds) ds (actOf x) w
 unfolding act effectWith actOf does flows
 acts-does again (Head.Freeze p r) ds w = refl
@@ -83,7 +80,6 @@ acts-does again (Head.Impure p d) ds w = refl
 acts-does again (Head.Render p) ds w = refl
 
 -- captures matter only to what creates a function
--- all other effects have none
 same-effect : (x : Head) (ds cs : List Place) → creates (actOf x) ≡ false → effectWith x ds ≡ effectWith x cs
 unfolding effectWith actOf
 same-effect (Head.Freeze p r) ds cs h = refl
@@ -111,7 +107,6 @@ module _ (again : AliasingEffect → M (World lent) Done) (x : Head) (ds cs : Li
       ∙ ap (λ (z : Act). does again (effectWith x cs) cs z w) (sym e ∙ h) ∙ g
 
   -- an arm for each kind
-  -- the code goes the same way
   pub arm-plain : a ≡ Plain → (Plain ≡ actOf x → (f : AliasingEffect → M (World lent) Done) → act f (effectWith x cs) w ≡ y) → act again (effectWith x ds) w ≡ y
   unfolding does
   arm-plain h g = kind-of-act Plain h refl (g (sym h ∙ e) again)
@@ -161,7 +156,6 @@ module _ (x : Res (World lent) Done) (r : ℕ) (w : World lent) (m : M (World le
   part-goes y h k = g ∙ sequel-goes r w m h ∙ k
 
 -- what a CreateFrom lists is itself
--- it has no captures
 pub created-follows : (again : AliasingEffect → M (World lent) Done) (f i : Place) (cs : List Place) (n : Next) (w : World lent) (y : Res (World lent) Done) → follow again (effectWith (Head.CreateFrom f i) cs) cs n w ≡ y → follow again (CreateFrom f i) cs n w ≡ y
 unfolding effectWith
 created-follows again f i cs n w y h = h
@@ -209,6 +203,5 @@ module _ (again : AliasingEffect → M (World lent) Done) (into : Place) (ws : L
   captures-end n k w h = each-ends derives _ w (places-none oneRun ws 0 1 k n h)
 
 -- the captures that were chosen
--- copied to a slice
 pub chosen-copied : (again : AliasingEffect → M (World lent) Done) (ws : List ℕ) (cs : List Place) (f : ℕ) (i : Place) (w : World lent) (y : Res (World lent) Done) → capturesOf ws ≡ cs → creatingFunction again (capturesOf ws) f i w ≡ y → creatingFunction again cs f i w ≡ y
 chosen-copied again ws cs f i w y e h = ap (λ (l : List Place). creatingFunction again l f i w) (sym e) ∙ h

@@ -44,7 +44,6 @@ upFrom k zero = []
 upFrom k (suc n) = k ∷ upFrom (suc k) n
 
 -- the first of the reasons from n on that a set has, Other for none
--- what the loop has still to look at
 unfoldable pub primaryFrom : ℕ → ℕ → ℕ
 primaryFrom s n = getD (upFrom n (11 - n)) (firstIn (upFrom n (11 - n)) s) 11
 
@@ -55,7 +54,6 @@ unfolding primaryFrom upFrom primaryReason
 primary-start s = refl
 
 -- one more reason is at hand
--- it is the first of those that are left
 primary-next : (s n : ℕ) → n < 11 → primaryFrom s n ≡ elim (hasReason s n) as (λ b. ℕ) [ true ↦ n | false ↦ primaryFrom s (suc n) ]
 unfolding primaryFrom upFrom firstIn
 primary-next s n l =
@@ -63,25 +61,21 @@ primary-next s n l =
     ap (λ (y : ℕ). getD (upFrom n y) (firstIn (upFrom n y) s) 11) m ∙ by (hasReason s n)
   where
     -- the test, either way
-    -- it computes
     by : (b : Bool) → getD (n ∷ upFrom (suc n) (11 - suc n)) (elim b as (λ b. ℕ) [ true ↦ 0 | false ↦ suc (firstIn (upFrom (suc n) (11 - suc n)) s) ]) 11 ≡ elim b as (λ b. ℕ) [ true ↦ n | false ↦ getD (upFrom (suc n) (11 - suc n)) (firstIn (upFrom (suc n) (11 - suc n)) s) 11 ]
     by true = refl
     by false = refl
 
 -- the set has it
--- it is the answer
 pub primary-found : (s n : ℕ) (b : Bool) → primaryFrom s n ≡ primaryReason s → n < 11 → b ≡ hasReason s n → b ≡ true → n ≡ primaryReason s
 primary-found s n b a l e h = sym (ap (λ (x : Bool). elim x as (λ b. ℕ) [ true ↦ n | false ↦ primaryFrom s (suc n) ]) (sym e ∙ h)) ∙ sym (primary-next s n l) ∙ a
 
 -- the set does not have it
--- the next one is looked at
 pub primary-more : (s n : ℕ) (b : Bool) → primaryFrom s n ≡ primaryReason s → n < 11 → b ≡ hasReason s n → b ≡ false → primaryFrom s (n + 1) ≡ primaryReason s
 primary-more s n b a l e h =
     ap (primaryFrom s) (let z : n + 1 ≡ suc n = omega arith in z)
     ∙ sym (ap (λ (x : Bool). elim x as (λ b. ℕ) [ true ↦ n | false ↦ primaryFrom s (suc n) ]) (sym e ∙ h)) ∙ sym (primary-next s n l) ∙ a
 
 -- none is left
--- Other
 pub primary-none : (s n : ℕ) → primaryFrom s n ≡ primaryReason s → 11 ≤ n → 11 ≡ primaryReason s
 unfolding primaryFrom upFrom firstIn
 primary-none s n a l =
@@ -101,7 +95,6 @@ module _ (vs ss cs os : List ℕ) (r u : Run) (p : Place) (k : ValueKind) (q x :
   module _ (h : x ≡ 0) (key : Key) (ws : List ℕ) (y v : ℕ) (ds : List ℕ) (t : Run) (z : (ps : List Place) → keyWith key (identifiers ps) ≡ effectKey (effectWith (Head.Create p k q) ps))
       (n : getOrCreateValueId (keyWith key (identifiers (capturesOf ws))) (world vs ss cs os u) ≡ answer y v (world vs ss ds os t)) where
     -- its number is that under the effect's key
-    -- the key does not hold captures
     create-number : getOrCreateValueId (effectKey (Create p k q)) (world vs ss cs os u) ≡ answer y v (world vs ss ds os t)
     unfolding effectWith
     create-number = ap (λ (i : EffectKey). getOrCreateValueId i (world vs ss cs os u)) (sym (z (capturesOf ws))) ∙ n
@@ -113,7 +106,6 @@ module _ (vs ss cs os : List ℕ) (r u : Run) (p : Place) (k : ValueKind) (q x :
     creating-full g = then-goes _ _ _ _ _ _ _ e h (bind-refused _ _ _ _ _ _ _ create-number g)
 
     -- the place gets its number, with the kind and that one reason
-    -- and the effect is listed
     pub creating-done : (b : ℕ) (us ts is : List ℕ) (l : Run) → y ≡ 0 → b ≡ single q → create p v (mk k b) (world vs ss ds os t) ≡ ok tt (world us ts ds os t)
         → emit (effectWith (Head.Create p k q) (capturesOf ws)) (world us ts ds os t) ≡ ok tt (world us ts ds is l)
         → Step.creating again p k q (world vs ss cs os r) ≡ answer 0 tt (world us ts ds is l)
@@ -127,13 +119,11 @@ module _ (vs ss cs os : List ℕ) (r u : Run) (p : Place) (k : ValueKind) (q x :
 module _ (vs ss cs os : List ℕ) (r u : Run) (from into : Place) (a : AbstractValue) (again : AliasingEffect → M (World lent) Done) (b : Bool)
     (e : State.kind (from .identifier) (world vs ss cs os r) ≡ ok a (world vs ss cs os u)) (g : b ≡ copied (a .kind)) where
   -- its source is Primitive or Global
-  -- nothing is listed
   pub capturing-copied : b ≡ true → Step.capturingImmutably again from into (world vs ss cs os r) ≡ answer 0 tt (world vs ss cs os u)
   unfolding Step.capturingImmutably
   capturing-copied h = bind-ok _ _ _ _ _ _ e (if-true _ _ _ _ _ (sym g ∙ h) (done-ok _))
 
   -- any other source
-  -- the effect is listed
   pub capturing-listed : (hs : List Place) (is : List ℕ) (l : Run) → b ≡ false → emit (effectWith (Head.ImmutableCapture from into) hs) (world vs ss cs os u) ≡ ok tt (world vs ss cs is l)
       → Step.capturingImmutably again from into (world vs ss cs os r) ≡ answer 0 tt (world vs ss cs is l)
   unfolding Step.capturingImmutably effectWith answer
@@ -144,7 +134,6 @@ module _ (vs ss cs os : List ℕ) (r u : Run) (from into : Place) (a : AbstractV
 module _ (vs ss cs os : List ℕ) (r : Run) (code : ℕ) (from into : Place) (a : AbstractValue) (key : Key) (ks : List ℕ) (y v : ℕ) (ds : List ℕ) (t : Run)
     (z : (is : List ℕ) → keyWith key is ≡ two code from into) (n : getOrCreateValueId (keyWith key ks) (world vs ss cs os r) ≡ answer y v (world vs ss ds os t)) where
   -- its number is that under the two places
-  -- whatever captures stand beside the key
   two-number : getOrCreateValueId (two code from into) (world vs ss cs os r) ≡ answer y v (world vs ss ds os t)
   two-number = ap (λ (i : EffectKey). getOrCreateValueId i (world vs ss cs os r)) (sym (z ks)) ∙ n
 
@@ -155,7 +144,6 @@ module _ (vs ss cs os : List ℕ) (r : Run) (code : ℕ) (from into : Place) (a 
   numbered-full g = bind-refused _ _ _ _ _ _ _ two-number g
 
   -- the place gets it
-  -- with the value
   pub numbered-done : (us ts : List ℕ) → y ≡ 0 → create into v a (world vs ss ds os t) ≡ ok tt (world us ts ds os t) → numbered code from into a (world vs ss cs os r) ≡ answer 0 tt (world us ts ds os t)
   unfolding numbered answer
   numbered-done us ts g c = bind-goes _ _ _ _ _ _ _ two-number g c
@@ -163,10 +151,8 @@ module _ (vs ss cs os : List ℕ) (r : Run) (code : ℕ) (from into : Place) (a 
 -- ---- an Assign
 
 -- of what is not frozen
--- what is copied gets a number of its own
 module _ (vs ss cs os : List ℕ) (r : Run) (from into : Place) (a : AbstractValue) (b : Bool) (e : b ≡ copied (a .kind)) where
   -- it is copied
-  -- nothing is listed
   pub assigned-copied : (y : ℕ) (w : World lent) → b ≡ true → numbered 19 from into a (world vs ss cs os r) ≡ answer y tt w → assigned from into a (world vs ss cs os r) ≡ answer y tt w
   unfolding assigned
   assigned-copied y w h n = if-true _ _ _ _ _ (sym e ∙ h) n
@@ -183,11 +169,9 @@ module _ (vs ss cs os : List ℕ) (r : Run) (from into : Place) (a : AbstractVal
       w)
 
 -- any Assign, as it begins
--- the rest is what follows
 module _ (vs ss cs os : List ℕ) (r u : Run) (from into : Place) (x : ℕ) (again : AliasingEffect → M (World lent) Done)
     (e : begin (into .identifier) (world vs ss cs os r) ≡ answer x tt (world vs ss cs os u)) where
   -- the destination already began
-  -- nothing follows, whatever the value
   pub assign-refused : (a : AbstractValue) → ¬ (x ≡ 0) → Step.assigning again from into (world vs ss cs os r) ≡ sequel x (world vs ss cs os u) (assigning again from into a)
   unfolding Step.assigning
   assign-refused a h = then-refused _ _ _ _ _ _ _ e h ∙ sym (sequel-refused x _ _ h)
@@ -203,7 +187,6 @@ module _ (vs ss cs os : List ℕ) (r u : Run) (from into : Place) (x : ℕ) (aga
 
 module _ (vs ss cs os : List ℕ) (r : Run) (from into : Place) (a : AbstractValue) (again : AliasingEffect → M (World lent) Done) (ps : List Place) (b : Bool) (e : b ≡ copied (a .kind)) where
   -- the source is copied
-  -- a Create is listed, and nothing follows
   pub listed-copied : (q : ℕ) (hs : List Place) (is : List ℕ) (l : Run) → b ≡ true → q ≡ primaryReason (a .reason) → emit (effectWith (Head.Create into (a .kind) q) hs) (world vs ss cs os r) ≡ ok tt (world vs ss cs is l)
       → Step.listCreated again from into a (world vs ss cs os r) ≡ sequel 0 (world vs ss cs is l) (follow again (CreateFrom from into) ps Next.Nothing)
   unfolding Step.listCreated effectWith follow done return answer andThen
@@ -221,7 +204,6 @@ module _ (vs ss cs os : List ℕ) (r : Run) (from into : Place) (a : AbstractVal
         (then-ok _ _ _ _ _ _ (ap (λ (i : ℕ). emit (Create into (a .kind) i) (world vs ss cs os r)) (sym s) ∙ w) refl))
 
     -- any other source
-    -- the effect itself is listed
     pub listed-itself : d ≡ false → Step.listCreated again from into a (world vs ss cs os r) ≡ sequel 0 (world vs ss cs os r) (follow again (CreateFrom from into) ps Next.Itself)
     unfolding Step.listCreated follow answer andThen
     listed-itself k = if-false _ _ _ _ _ (sym e ∙ h) (if-false _ _ _ _ _ (sym g ∙ k) refl)
@@ -231,7 +213,6 @@ module _ (vs ss cs os : List ℕ) (r : Run) (from into : Place) (a : AbstractVal
 module _ (vs ss cs os : List ℕ) (r u : Run) (from into : Place) (x : ℕ) (again : AliasingEffect → M (World lent) Done)
     (e : begin (into .identifier) (world vs ss cs os r) ≡ answer x tt (world vs ss cs os u)) where
   -- the place already began
-  -- nothing follows
   pub from-refused : (m : M (World lent) Done) → ¬ (x ≡ 0) → Step.creatingFrom again from into (world vs ss cs os r) ≡ sequel x (world vs ss cs os u) m
   unfolding Step.creatingFrom
   from-refused m h = then-refused _ _ _ _ _ _ _ e h ∙ sym (sequel-refused x _ _ h)
@@ -247,7 +228,6 @@ module _ (vs ss cs os : List ℕ) (r u : Run) (from into : Place) (x : ℕ) (aga
         ∙ sym (sequel-refused y _ _ g)
 
     -- the place gets its number, with the source's kind and reasons
-    -- and what is listed follows
     pub from-listed : (us ts : List ℕ) (i : Res (World lent) Done) → y ≡ 0 → create into v a (world vs ss ds os t) ≡ ok tt (world us ts ds os t)
         → Step.listCreated again from into a (world us ts ds os t) ≡ i → Step.creatingFrom again from into (world vs ss cs os r) ≡ i
     unfolding Step.creatingFrom

@@ -19,7 +19,6 @@ use Rattle.lent_world.specs.World.{world}
 -- ---- the identity
 
 -- what was found, and the ways through
--- nothing is written
 module _ (c : List ℕ) (d : Diagnostic) (x : Option ℕ) (e : x ≡ Lent.findIdentity c d) where
   -- an equal message has its identity
   -- nothing else is asked
@@ -29,7 +28,6 @@ module _ (c : List ℕ) (d : Diagnostic) (x : Option ℕ) (e : x ≡ Lent.findId
 
   module _ (h : x ≡ none) (m : ℕ) (g : m ≡ Lent.identityCount c) where
     -- without one the number of identities decides
-    -- it is asked of the context
     identity-new : (vs ss os : List ℕ) (r : Run) → Context.newIdentity (Lent.findIdentity c d) (world vs ss c os r) ≡ (if leb 256 m then refuse 10 else return m) (world vs ss c os r)
     unfolding Context.newIdentity ask _>>=_ andThen
     identity-new vs ss os r =
@@ -43,7 +41,6 @@ module _ (c : List ℕ) (d : Diagnostic) (x : Option ℕ) (e : x ≡ Lent.findId
     identity-full l vs ss os r = identity-new vs ss os r ∙ if-le 256 m _ _ _ _ l refl
 
     -- there are fewer
-    -- the next one
     pub identity-next : m < 256 → (vs ss os : List ℕ) (r : Run) → Context.newIdentity (Lent.findIdentity c d) (world vs ss c os r) ≡ answer 0 m (world vs ss c os r)
     unfolding return answer
     identity-next l vs ss os r = identity-new vs ss os r ∙ if-gt 256 m _ _ _ _ l refl
@@ -51,7 +48,6 @@ module _ (c : List ℕ) (d : Diagnostic) (x : Option ℕ) (e : x ≡ Lent.findId
 -- ---- the instance
 
 -- the same of records: their place is the instance
--- a new record is appended
 module _ (c : List ℕ) (i : ℕ) (d : Diagnostic) (x : Option ℕ) (e : x ≡ Lent.findInstance c i d) where
   -- an equal record has its place
   -- nothing else is asked
@@ -61,7 +57,6 @@ module _ (c : List ℕ) (i : ℕ) (d : Diagnostic) (x : Option ℕ) (e : x ≡ L
 
   module _ (h : x ≡ none) (m : ℕ) (g : m ≡ Lent.instanceCount c) where
     -- without one the number of records decides
-    -- it is asked of the context
     instance-new : (vs ss os : List ℕ) (r : Run) → Context.newInstance i d (Lent.findInstance c i d) (world vs ss c os r) ≡ (if leb 256 m then refuse 10 else (Context.putDiagnostic i d >> return m)) (world vs ss c os r)
     unfolding Context.newInstance ask _>>=_ andThen
     instance-new vs ss os r =
@@ -87,14 +82,12 @@ module _ (c : List ℕ) (i : ℕ) (d : Diagnostic) (x : Option ℕ) (e : x ≡ L
 -- ---- both numbers
 
 -- an answer that only goes into a value
--- a refusal stays one, whatever the value
 bind-into : {W A B : Type 0} (m : M W A) (f : A → B) (n : ℕ) (w u : W) (a : A) → m w ≡ answer n a u → (m >>= λ x. return (f x)) w ≡ answer n (f a) u
 unfolding _>>=_ andThen return answer
 bind-into m f zero w u a e = ap (λ y. andThen y (λ x. return (f x))) e
 bind-into m f (suc n) w u a e = ap (λ y. andThen y (λ x. return (f x))) e
 
 -- the code's two calls, one after the other
--- as the definition asks
 module _ (c : List ℕ) (d : Diagnostic) (n a : ℕ) (h : (vs ss os : List ℕ) (r : Run) → Context.newIdentity (Lent.findIdentity c d) (world vs ss c os r) ≡ answer n a (world vs ss c os r)) where
   -- the identity is refused
   -- so is the whole, whatever diagnostic the code answers with

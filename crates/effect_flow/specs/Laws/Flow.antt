@@ -32,7 +32,6 @@ use Rattle.effect_flow.specs.Flows.{flows, refuses}
 -- ---- what comes next, by the kinds
 
 -- what a flow comes to is what comes next, whatever step a derived effect takes, and in any world
--- the contract of flow_next
 abbrev pub Comes : Bool → ValueKind → ValueKind → Place → Place → Next → Type 0
 Comes maybe i f from into n =
     (again : AliasingEffect → M (World lent) Done) (e : AliasingEffect) (cs : List Place) (w : World lent)
@@ -40,7 +39,6 @@ Comes maybe i f from into n =
 
 module _ (maybe : Bool) (i f : ValueKind) (from into : Place) where
   -- kinds and flag may be taken for what they are known to be
-  -- each law below computes at those
   comes-at : (b : Bool) (j g : ValueKind) (n : Next) → maybe ≡ b → i ≡ j → f ≡ g → Comes b j g from into n → Comes maybe i f from into n
   comes-at b j g n p q r c again e cs w =
       ap (λ (x : Bool). byFlow (flowOf x (destinationOf i) (sourceOf f)) (again (ImmutableCapture from into)) (emit e) (again (MaybeAlias from into)) w) p
@@ -49,37 +47,31 @@ module _ (maybe : Bool) (i f : ValueKind) (from into : Place) where
       ∙ c again e cs w
 
   -- a Frozen source
-  -- an ImmutableCapture, whatever the destination
   pub from-frozen : f ≡ Frozen → Comes maybe i f from into (Derived (Head.ImmutableCapture from into))
   unfolding byFlow flowOf follow effectWith
   from-frozen r = comes-at maybe i Frozen (Derived (Head.ImmutableCapture from into)) refl refl r (λ again e cs w. refl)
 
   -- a source that is perhaps frozen
-  -- counts as frozen
   pub from-maybeFrozen : f ≡ MaybeFrozen → Comes maybe i f from into (Derived (Head.ImmutableCapture from into))
   unfolding byFlow flowOf follow effectWith
   from-maybeFrozen r = comes-at maybe i MaybeFrozen (Derived (Head.ImmutableCapture from into)) refl refl r (λ again e cs w. refl)
 
   -- a MaybeAlias of a Mutable source
-  -- goes as itself, whatever the destination
   pub maybe-mutable : f ≡ Mutable → maybe ≡ true → Comes maybe i f from into Itself
   unfolding byFlow flowOf follow effectWith
   maybe-mutable r p = comes-at true i Mutable Itself p refl r (λ again e cs w. refl)
 
   -- a MaybeAlias of a Context source
-  -- goes as itself, whatever the destination
   pub maybe-context : f ≡ Context → maybe ≡ true → Comes maybe i f from into Itself
   unfolding byFlow flowOf follow effectWith
   maybe-context r p = comes-at true i Context Itself p refl r (λ again e cs w. refl)
 
   -- a MaybeAlias of a Primitive source
-  -- goes as itself, whatever the destination
   pub maybe-primitive : f ≡ Primitive → maybe ≡ true → Comes maybe i f from into Itself
   unfolding byFlow flowOf follow effectWith
   maybe-primitive r p = comes-at true i Primitive Itself p refl r (λ again e cs w. refl)
 
   -- a MaybeAlias of a Global source
-  -- goes as itself, whatever the destination
   pub maybe-global : f ≡ Global → maybe ≡ true → Comes maybe i f from into Itself
   unfolding byFlow flowOf follow effectWith
   maybe-global r p = comes-at true i Global Itself p refl r (λ again e cs w. refl)
@@ -115,19 +107,16 @@ module _ (maybe : Bool) (i f : ValueKind) (from into : Place) where
   mutable-into-context r p q = comes-at false Context Mutable (Derived (Head.MaybeAlias from into)) p q r (λ again e cs w. refl)
 
   -- a Mutable source into a Frozen place
-  -- what cannot be written takes nothing
   pub mutable-into-frozen : f ≡ Mutable → maybe ≡ false → i ≡ Frozen → Comes maybe i f from into Nothing
   unfolding byFlow flowOf follow effectWith
   mutable-into-frozen r p q = comes-at false Frozen Mutable Nothing p q r (λ again e cs w. refl)
 
   -- a Mutable source into a Primitive place
-  -- what cannot be written takes nothing
   pub mutable-into-primitive : f ≡ Mutable → maybe ≡ false → i ≡ Primitive → Comes maybe i f from into Nothing
   unfolding byFlow flowOf follow effectWith
   mutable-into-primitive r p q = comes-at false Primitive Mutable Nothing p q r (λ again e cs w. refl)
 
   -- a Mutable source into a Global place
-  -- what cannot be written takes nothing
   pub mutable-into-global : f ≡ Mutable → maybe ≡ false → i ≡ Global → Comes maybe i f from into Nothing
   unfolding byFlow flowOf follow effectWith
   mutable-into-global r p q = comes-at false Global Mutable Nothing p q r (λ again e cs w. refl)
@@ -151,19 +140,16 @@ module _ (maybe : Bool) (i f : ValueKind) (from into : Place) where
   context-into-context r p q = comes-at false Context Context (Derived (Head.MaybeAlias from into)) p q r (λ again e cs w. refl)
 
   -- a Context source into a Frozen place
-  -- what cannot be written takes nothing
   pub context-into-frozen : f ≡ Context → maybe ≡ false → i ≡ Frozen → Comes maybe i f from into Nothing
   unfolding byFlow flowOf follow effectWith
   context-into-frozen r p q = comes-at false Frozen Context Nothing p q r (λ again e cs w. refl)
 
   -- a Context source into a Primitive place
-  -- what cannot be written takes nothing
   pub context-into-primitive : f ≡ Context → maybe ≡ false → i ≡ Primitive → Comes maybe i f from into Nothing
   unfolding byFlow flowOf follow effectWith
   context-into-primitive r p q = comes-at false Primitive Context Nothing p q r (λ again e cs w. refl)
 
   -- a Context source into a Global place
-  -- what cannot be written takes nothing
   pub context-into-global : f ≡ Context → maybe ≡ false → i ≡ Global → Comes maybe i f from into Nothing
   unfolding byFlow flowOf follow effectWith
   context-into-global r p q = comes-at false Global Context Nothing p q r (λ again e cs w. refl)
@@ -172,20 +158,17 @@ module _ (maybe : Bool) (i f : ValueKind) (from into : Place) where
 
 module _ (alias : Bool) (m : Marks) (i : ℕ) where
   -- no Alias
-  -- nothing is asked
   pub refuses-not : alias ≡ false → false ≡ refuses alias m i
   unfolding refuses
   refuses-not h = sym (ap (λ (x : Bool). refuses x m i) h)
 
   module _ (b : Bool) (e : b ≡ isMarked m i) (h : alias ≡ true) where
     -- the destination was initialized
-    -- the Alias goes on
     pub refuses-marked : b ≡ true → false ≡ refuses alias m i
     unfolding refuses
     refuses-marked g = sym (ap (λ (x : Bool). refuses x m i) h ∙ ap not (sym e ∙ g))
 
     -- it was not
-    -- the Alias is refused
     pub refuses-unmarked : b ≡ false → true ≡ refuses alias m i
     unfolding refuses
     refuses-unmarked g = sym (ap (λ (x : Bool). refuses x m i) h ∙ ap not (sym e ∙ g))
@@ -194,14 +177,12 @@ module _ (alias : Bool) (m : Marks) (i : ℕ) where
 
 module _ (again : AliasingEffect → M (World lent) Done) (maybe : Bool) (e : AliasingEffect) (from into : Place) (vs ss xs os : List ℕ) (r : Run) where
   -- a flow that is refused ends at once
-  -- only an Alias is
   refused-at : (alias : Bool) → refuses alias (r .marks) (into .identifier) ≡ true → flows again alias maybe e from into (world vs ss xs os r) ≡ answer 7 tt (world vs ss xs os r)
   unfolding flows refuses isInitialized ask refuse answer
   refused-at false h = cc
   refused-at true h = bind-ok _ _ _ _ _ _ refl (if-false _ _ _ _ _ (not-true _ h) refl)
 
   -- a flow that is not refused is that of its kinds
-  -- an Alias too
   goes-at : (alias : Bool) → refuses alias (r .marks) (into .identifier) ≡ false → flows again alias maybe e from into (world vs ss xs os r) ≡ flowing again maybe e from into (world vs ss xs os r)
   unfolding flows refuses isInitialized ask
   goes-at false h = refl
@@ -209,12 +190,10 @@ module _ (again : AliasingEffect → M (World lent) Done) (maybe : Bool) (e : Al
 
   module _ (alias b : Bool) (q : b ≡ refuses alias (r .marks) (into .identifier)) where
     -- "7 Alias into one not initialized in it"
-    -- what comes next is not looked at
     pub flow-refused : (cs : List Place) → b ≡ true → flows again alias maybe e from into (world vs ss xs os r) ≡ sequel 7 (world vs ss xs os r) (follow again e cs Nothing)
     flow-refused cs h = refused-at alias (sym q ∙ h) ∙ sym (sequel-refused 7 _ _ (λ z. absurd (omega arith)))
 
     -- the destination's kind, then the source's
-    -- what comes next goes by both
     pub flow-goes : (i f : AbstractValue) (u v : Run) (n : Next) → b ≡ false
         → ((cs os : List ℕ) → kindWithSpan (into .identifier) (into .span) (world vs ss cs os r) ≡ ok i (world vs ss cs os u))
         → ((cs os : List ℕ) → kindWithSpan (from .identifier) (from .span) (world vs ss cs os u) ≡ ok f (world vs ss cs os v))

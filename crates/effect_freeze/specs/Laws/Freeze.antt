@@ -34,13 +34,11 @@ abbrev still : List ℕ → Run → Still
 still os r = record { flag = r .flag; session = r .session; marks = r .marks; listed = record { words = os; count = r .listed } }
 
 -- each Freeze starts from zero
--- the count of all Freezes goes on
 starts : (vs ss cs os : List ℕ) (r : Run) (i reason : ℕ) (x : Res (World lent) Done) → each (valuesOf (setAt ss i)) (freezeFunctionCapturesTransitive 4097 reason) (walking vs ss cs (still os r) 0 (r .entries)) ≡ x → walk (valuesOf (setAt ss i)) reason (world vs ss cs os r) ≡ x
 unfolding walk startFreeze change
 starts vs ss cs os r i reason x h = then-ok _ _ _ _ _ _ refl h
 
 -- a place that is not defined has no values
--- nothing is entered
 pub walk-none : (vs ss cs : List ℕ) (r u : Run) (i reason : ℕ) (b : Bool) → b ≡ isSome (setAt ss i) → b ≡ false → u ≡ withEntries 0 (r .entries) r
     → (os : List ℕ) → walk (valuesOf (setAt ss i)) reason (world vs ss cs os r) ≡ answer 0 tt (world vs ss cs os u)
 walk-none vs ss cs r u i reason b e h g os =
@@ -61,7 +59,6 @@ module _ (vs₀ ss cs : List ℕ) (i reason all₀ m : ℕ) where
 
   module _ (vs : List ℕ) (made all : ℕ) (a : Walks vs₀ ss cs i reason all₀ m vs made all) where
     -- the next value is entered
-    -- the counts go on
     pub walks-next : (us : List ℕ) (x made′ all′ n : ℕ) → m < 1024 → Enters vs ss cs reason m made all us x made′ all′ → x ≡ 0 → n ≡ nextMember ss i (m + 1) → Walks vs₀ ss cs i reason all₀ n us made′ all′
     walks-next us x made′ all′ n h w z e = record {
       here = walk-step ss i _ m n (a .here) h e .0;
@@ -69,7 +66,6 @@ module _ (vs₀ ss cs : List ℕ) (i reason all₀ m : ℕ) where
     }
 
     -- an entry is refused
-    -- so is the walk
     pub walks-refused : (us : List ℕ) (x made′ all′ : ℕ) (r u : Run) → m < 1024 → Enters vs ss cs reason m made all us x made′ all′ → ¬ (x ≡ 0) → all₀ ≡ r .entries → u ≡ withEntries made′ all′ r
         → (os : List ℕ) → walk (valuesOf (setAt ss i)) reason (world vs₀ ss cs os r) ≡ answer x tt (world us ss cs os u)
     walks-refused us x made′ all′ r u h w z q g os =
@@ -78,7 +74,6 @@ module _ (vs₀ ss cs : List ℕ) (i reason all₀ m : ℕ) where
         ∙ ap (λ (y : Run). answer x tt (world us ss cs os y)) (sym g))
 
     -- all values are entered
-    -- the walk is done
     pub walks-end : (r u : Run) → 1024 ≤ m → all₀ ≡ r .entries → u ≡ withEntries made all r → (os : List ℕ) → walk (valuesOf (setAt ss i)) reason (world vs₀ ss cs os r) ≡ answer 0 tt (world vs ss cs os u)
     walks-end r u h q g os =
         starts vs₀ ss cs os r i reason _ (ap (λ (n : ℕ). each (valuesOf (setAt ss i)) (freezeFunctionCapturesTransitive 4097 reason) (walking vs₀ ss cs (still os r) 0 n)) (sym q) ∙ a .equal (still os r)
@@ -92,14 +87,12 @@ module _ (vs us ss cs os : List ℕ) (r : Run) (p : Place) (reason : ℕ) (b : B
   frozen-to = freeze-lists lent (r .flag) (world vs ss cs os r .rest) vs ss (p .identifier) reason ∙ ap₂ (λ (x : Bool) (l : List ℕ). ok x (world l ss cs os r)) (sym e) (sym g)
 
   -- it does not act
-  -- nothing is listed
   pub freezing-not : b ≡ false → freezing again p reason (world vs ss cs os r) ≡ answer 0 tt (world us ss cs os r)
   unfolding freezing
   freezing-not h = bind-ok _ _ _ _ _ _ frozen-to (if-false _ _ _ _ _ h (done-ok _))
 
   module _ (hs : List Place) (ts : List ℕ) (u : Run) (t : Bool) (h : b ≡ true) (q : emit (effectWith (Head.Freeze p reason) hs) (world us ss cs os r) ≡ ok tt (world us ss cs ts u)) (w : t ≡ isTransitive cs) where
     -- it acts, and both options are off
-    -- only the Freeze is listed
     pub freezing-plain : t ≡ false → freezing again p reason (world vs ss cs os r) ≡ answer 0 tt (world us ss cs ts u)
     unfolding freezing ask effectWith
     freezing-plain z =

@@ -45,12 +45,10 @@ use Rattle.effect_function.specs.NewFunctions.{functionKind, linked}
 -- ---- a new function
 
 -- its number, its link and its place
--- the second half
 module _ (vs ss cs os : List ℕ) (r : Run) (f : ℕ) (into : Place) (k : ValueKind) (key : Key) (ws : List ℕ) (y v : ℕ) (ds : List ℕ) (t : Run)
     (z : (ps : List Place) → keyWith key (identifiers ps) ≡ effectKey (effectWith (Head.CreateFunction f into) ps))
     (n : getOrCreateValueId (keyWith key (identifiers (capturesOf ws))) (world vs ss cs os r) ≡ answer y v (world vs ss ds os t)) where
   -- its number is that under the effect's key
-  -- the key holds the identifiers of its captures
   function-number : getOrCreateValueId (effectKey (CreateFunction (capturesOf ws) f into)) (world vs ss cs os r) ≡ answer y v (world vs ss ds os t)
   unfolding effectWith
   function-number = ap (λ (i : EffectKey). getOrCreateValueId i (world vs ss cs os r)) (sym (z (capturesOf ws))) ∙ n
@@ -62,7 +60,6 @@ module _ (vs ss cs os : List ℕ) (r : Run) (f : ℕ) (into : Place) (k : ValueK
   linked-full g = bind-refused _ _ _ _ _ _ _ function-number g
 
   -- the number is linked to the function
-  -- and the place gets it
   pub linked-done : (es us ts : List ℕ) → y ≡ 0 → es ≡ Lent.putLink ds v f → create into v (mk k 0) (world vs ss es os t) ≡ ok tt (world us ts es os t)
       → linked (capturesOf ws) f into k (world vs ss cs os r) ≡ answer 0 tt (world us ts es os t)
   unfolding linked linkTo change answer
@@ -70,24 +67,20 @@ module _ (vs ss cs os : List ℕ) (r : Run) (f : ℕ) (into : Place) (k : ValueK
       bind-goes _ _ _ _ _ _ _ function-number g (then-ok _ _ _ _ _ _ (ap (λ (i : List ℕ). ok tt (world vs ss i os t)) (sym l)) c)
 
 -- what comes after a link comes after the whole half
--- neither the link nor the place is ever refused
 links-then : (ps : List Place) (f : ℕ) (into : Place) (k : ValueKind) (m : M (World lent) Done) (w : World lent)
     → (getOrCreateValueId (effectKey (CreateFunction ps f into)) >>= (λ v. linkTo v f >> (create into v (mk k 0) >> m))) w ≡ andThen {A = Done} {B = Done} (linked ps f into k w) (λ _. m)
 unfolding linked linkTo change create State.initialize State.define State.point _>>_ _>>=_ andThen
 links-then ps f into k m w = by (getOrCreateValueId (effectKey (CreateFunction ps f into)) w)
   where
     -- the number, or its refusal
-    -- both compute
     by : (i : Res (World lent) ℕ) → andThen {A = ℕ} {B = Done} i (λ v. linkTo v f >> (create into v (mk k 0) >> m)) ≡ andThen {A = Done} {B = Done} (andThen {A = ℕ} {B = Done} i (λ v. linkTo v f >> create into v (mk k 0))) (λ _. m)
     by (ok v u) = refl
     by (refused i u) = refl
 
 -- a CreateFunction, before its captures are derived
--- they are what follows
 module _ (vs ss cs os : List ℕ) (r u : Run) (ps : List Place) (f : ℕ) (into : Place) (x : ℕ) (again : AliasingEffect → M (World lent) Done)
     (e : begin (into .identifier) (world vs ss cs os r) ≡ answer x tt (world vs ss cs os u)) where
   -- the place already began
-  -- nothing follows
   pub function-refused : ¬ (x ≡ 0) → Step.creatingFunction again ps f into (world vs ss cs os r) ≡ sequel x (world vs ss cs os u) (each ps (λ c. again (Capture c into)))
   unfolding Step.creatingFunction
   function-refused h = then-refused _ _ _ _ _ _ _ e h ∙ sym (sequel-refused x _ _ h)
@@ -119,28 +112,23 @@ lower-or-not : (a b : ℕ) → (a < b) ⊎ (b ≤ a)
 lower-or-not a b = told (ltb a b) (λ e. ltb-true a b e) (λ e. ltb-false a b e)
   where
     -- what the test says, either way
-    -- it computes
     told : (d : Bool) → (d ≡ true → a < b) → (d ≡ false → b ≤ a) → (a < b) ⊎ (b ≤ a)
     told true p q = inl (p refl)
     told false p q = inr (q refl)
 
 -- the words before word k are those of another slice
--- as far as the slice has room for them
 pub record Copied (ws us : List ℕ) (k : ℕ) : Type 0 where
   pub word : (v : ℕ) → v < k → v < length us → getD us v 0 ≡ field oneRun ws 0 v
 
 -- nothing is copied yet
--- there is no word before the first
 pub copied-start : (ws us : List ℕ) → Copied ws us 0
 copied-start ws us = record { word = λ v l m. absurd (omega arith) }
 
 -- one more word is copied
--- those before it stay
 pub copied-turn : (ws us ts : List ℕ) (k x : ℕ) → Copied ws us k → x ≡ field oneRun ws 0 k → ts ≡ set us k x → Copied ws ts (k + 1)
 copied-turn ws us ts k x a e g = record { word = λ v l m. ap (λ (d : List ℕ). getD d v 0) g ∙ at v l (let z : length ts ≡ length us = ap length g ∙ length-set us k x in omega arith) }
   where
     -- the word that is written, or one before it
-    -- a write changes one word
     at : (v : ℕ) → v < k + 1 → v < length us → getD (set us k x) v 0 ≡ field oneRun ws 0 v
     at v l m =
         ⊎-elim
@@ -150,12 +138,10 @@ copied-turn ws us ts k x a e g = record { word = λ v l m. ap (λ (d : List ℕ)
         (lower-or-not v k)
 
 -- a write keeps the slice's length
--- a lent slice keeps its own
 pub copied-kept : (us ts : List ℕ) (k x : ℕ) → ts ≡ set us k x → length ts ≡ length us
 copied-kept us ts k x e = ap length e ∙ length-set us k x
 
 -- all 81 words are copied
--- so the places are the same
 pub copied-run : (ws us : List ℕ) (k : ℕ) → Copied ws us k → 81 ≤ k → length us ≡ 81 → capturesOf us ≡ capturesOf ws
 unfolding countedPlaces index
 copied-run ws us k a l b = ap (placesIn oneRun us 0 1 0) (at 0) ∙ places-cong oneRun ws us 0 1 0 (field oneRun ws 0 0) at
@@ -176,6 +162,5 @@ chosen-found c ws us ps f j i h e g b =
     ap capturesOf g ∙ captures-copied Layout.interned c i ws refl b ∙ ap (λ (n : ℕ). countedPlaces Layout.interned c n 17) e ∙ sym (ap (λ (o : Found). chosen c o ps) h)
 
 -- a new key
--- its captures are those that were given
 pub chosen-given : (c us : List ℕ) (ps : List Place) (f : Found) → f ≡ Nowhere → capturesOf us ≡ ps → capturesOf us ≡ chosen c f ps
 chosen-given c us ps f h e = e ∙ sym (ap (λ (o : Found). chosen c o ps) h)

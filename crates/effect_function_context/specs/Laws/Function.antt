@@ -34,21 +34,17 @@ use Rattle.effect_function_context.specs.Functions.{copiedPlaces, copied
 -- ---- context places that are refs
 
 -- what a loop over the context places has still to ask
--- the answer is that of the rest
 pub record Seeks (c : List ℕ) (f n k : ℕ) : Type 0 where
   pub equal : (vs ss os : List ℕ) (r : Run) → Step.anyRef (placesIn Layout.contexts c f 0 0 (n - 0)) (world vs ss c os r .rest) ≡ Step.anyRef (placesIn Layout.contexts c f 0 k (n - k)) (world vs ss c os r .rest)
 
 -- a function with n context places, of which k are asked
--- each law is one way through the loop
 module _ (c : List ℕ) (f n k : ℕ) where
   -- all places of a function are its context
-  -- the loop begins with all of them
   all-places : n ≡ field Layout.functions c f 1 → placesIn Layout.contexts c f 0 0 (n - 0) ≡ Lent.contextOf c f
   unfolding Lent.contextOf
   all-places e = let z : n - 0 ≡ n = omega arith in ap (placesIn Layout.contexts c f 0 0) (z ∙ e)
 
   -- a place asks for its own identifier, then for the rest
-  -- as the definition does
   asks-ref : (vs ss os : List ℕ) (r : Run) (i : ℕ) (b : Bool) → k < n → i ≡ field Layout.contexts c f (k * 5) → b ≡ Lent.isRef c i
       → Step.anyRef (placesIn Layout.contexts c f 0 k (n - k)) (world vs ss c os r .rest) ≡ (b || Step.anyRef (placesIn Layout.contexts c f 0 (k + 1) (n - (k + 1))) (world vs ss c os r .rest))
   unfolding Step.anyRef placeIn
@@ -58,15 +54,12 @@ module _ (c : List ℕ) (f n k : ℕ) where
       ∙ ap (λ (x : Bool). x || Step.anyRef (placesIn Layout.contexts c f 0 (k + 1) (n - (k + 1))) (world vs ss c os r .rest)) (sym (w ∙ ap (Lent.isRef c) (g ∙ ap (field Layout.contexts c f) z)))
 
   -- nothing is asked yet
-  -- the whole is left
   pub seeks-start : Seeks c f n 0
   seeks-start = record { equal = λ vs ss os r. refl }
 
   -- from what the loop holds
-  -- a turn, or its end
   module _ (a : Seeks c f n k) where
     -- a ref is found
-    -- the rest is not asked
     pub seeks-yes : (i : ℕ) (b : Bool) → n ≡ field Layout.functions c f 1 → k < n → i ≡ field Layout.contexts c f (k * 5) → b ≡ Lent.isRef c i → b ≡ true
         → (vs ss os : List ℕ) (r : Run) → Step.anyRef (Lent.contextOf c f) (world vs ss c os r .rest) ≡ true
     seeks-yes i b e h g w t vs ss os r =
@@ -74,7 +67,6 @@ module _ (c : List ℕ) (f n k : ℕ) where
         ∙ ap (λ (x : Bool). x || Step.anyRef (placesIn Layout.contexts c f 0 (k + 1) (n - (k + 1))) (world vs ss c os r .rest)) t
 
     -- a place is no ref
-    -- the rest decides
     pub seeks-more : (i : ℕ) (b : Bool) → k < n → i ≡ field Layout.contexts c f (k * 5) → b ≡ Lent.isRef c i → b ≡ false → Seeks c f n (k + 1)
     seeks-more i b h g w t = record {
       equal = λ vs ss os r. a .equal vs ss os r ∙ asks-ref vs ss os r i b h g w
@@ -82,7 +74,6 @@ module _ (c : List ℕ) (f n k : ℕ) where
     }
 
     -- no place is left
-    -- none is a ref
     pub seeks-no : n ≡ field Layout.functions c f 1 → n ≤ k → (vs ss os : List ℕ) (r : Run) → Step.anyRef (Lent.contextOf c f) (world vs ss c os r .rest) ≡ false
     unfolding Step.anyRef
     seeks-no e h vs ss os r =
@@ -91,10 +82,8 @@ module _ (c : List ℕ) (f n k : ℕ) where
 -- ---- context places are copied
 
 -- into a slice, behind the count
--- one word a turn
 module _ (c : List ℕ) (f : ℕ) where
   -- a turn of the loop that copies them writes one word
-  -- what is left is what was left after it
   pub copied-more : (k i : ℕ) (ws us : List ℕ) (x : ℕ) → k < 80 → i ≡ f → x ≡ field Layout.contexts c i k → us ≡ set ws (1 + k) x → copiedPlaces c f (k + 1) (80 - (k + 1)) us ≡ copiedPlaces c f k (80 - k) ws
   unfolding copiedPlaces
   copied-more k i ws us x l m e g =
@@ -104,7 +93,6 @@ module _ (c : List ℕ) (f : ℕ) where
       ∙ ap (λ (y : ℕ). copiedPlaces c f k y ws) n
 
   -- at the end none is left, and the first word was the count
-  -- the slice is the whole
   pub copied-done : (k : ℕ) (ws us vs : List ℕ) (x : ℕ) → 80 ≤ k → x ≡ field Layout.functions c f 1 → us ≡ set ws 0 x → copiedPlaces c f k (80 - k) vs ≡ copiedPlaces c f 0 80 us → vs ≡ copiedContext c f ws
   unfolding copiedPlaces copiedContext
   copied-done k ws us vs x l e g h =
@@ -119,7 +107,6 @@ lower-or-not : (a b : ℕ) → (a < b) ⊎ (b ≤ a)
 lower-or-not a b = told (ltb a b) (λ e. ltb-true a b e) (λ e. ltb-false a b e)
   where
     -- what the test says, either way
-    -- it computes
     told : (d : Bool) → (d ≡ true → a < b) → (d ≡ false → b ≤ a) → (a < b) ⊎ (b ≤ a)
     told true p q = inl (p refl)
     told false p q = inr (q refl)
@@ -128,7 +115,6 @@ lower-or-not a b = told (ltb a b) (λ e. ltb-true a b e) (λ e. ltb-false a b e)
 -- word by word
 module _ (c : List ℕ) (f : ℕ) where
   -- a word before those that are copied stays
-  -- each word is written once
   copied-before : (k n : ℕ) (ws : List ℕ) (v : ℕ) → v < 1 + k → getD (copiedPlaces c f k n ws) v 0 ≡ getD ws v 0
   unfolding copiedPlaces
   copied-before k zero ws v l = refl
@@ -137,7 +123,6 @@ module _ (c : List ℕ) (f : ℕ) where
       ∙ getD-set-other ws (1 + k) v (field Layout.contexts c f k) 0 (λ e. omega arith)
 
   -- a word that is copied is the record's
-  -- where the slice has room for it
   copied-at : (k n : ℕ) (ws : List ℕ) (v : ℕ) → 1 + (k + n) ≤ length ws → k ≤ v → v < k + n → getD (copiedPlaces c f k n ws) (1 + v) 0 ≡ field Layout.contexts c f v
   unfolding copiedPlaces
   copied-at k zero ws v r l u = absurd (let z : v < k + 0 = u in omega arith)
@@ -179,7 +164,6 @@ module _ (c : List ℕ) (f : ℕ) where
       ∙ getD-set-same ws 0 (field Layout.functions c f 1) 0 (omega arith)
 
   -- a place of the slice is the record's, one word before
-  -- five words
   copied-place : (d : List ℕ) → ((v : ℕ) → field oneRun d 0 (1 + v) ≡ field Layout.contexts c f v) → (w u : ℕ) → w ≡ 1 + u → placeIn oneRun d 0 w ≡ placeIn Layout.contexts c f u
   unfolding placeIn
   copied-place d h w u e =
@@ -191,7 +175,6 @@ module _ (c : List ℕ) (f : ℕ) where
       (ap (field oneRun d 0) (let z : w + 4 ≡ 1 + (u + 4) = omega arith in z) ∙ h (u + 4))
 
   -- and so is a run of places
-  -- one after the other
   copied-places : (d : List ℕ) → ((v : ℕ) → field oneRun d 0 (1 + v) ≡ field Layout.contexts c f v) → (k n : ℕ) → placesIn oneRun d 0 1 k n ≡ placesIn Layout.contexts c f 0 k n
   unfolding placesIn
   copied-places d h k zero = refl
@@ -199,7 +182,6 @@ module _ (c : List ℕ) (f : ℕ) where
       ap₂ (λ (p : Place) (ps : List Place). p ∷ ps) (copied-place d h (1 + k * 5) (0 + k * 5) (omega arith)) (copied-places d h (suc k) n)
 
   -- the places of a slice that a function's context was copied to are that context
-  -- the context may change afterwards
   pub context-copied : (ws : List ℕ) → length ws ≡ 81 → capturesOf (copiedContext c f ws) ≡ Lent.contextOf c f
   unfolding countedPlaces Lent.contextOf
   context-copied ws b =
@@ -212,7 +194,6 @@ module _ (c : List ℕ) (f : ℕ) where
 -- the definition tests all at once, the code one after the other
 module _ (vs ss c : List ℕ) (f : ℕ) (p : Place) where
   -- the definition looks at the place and tests, and no more
-  -- both looks leave the world
   update-tests : (os : List ℕ) (r : Run) (a : AbstractValue) → a ≡ kindOf (valueAt vs) (setAt ss (p .identifier))
       → Step.updateContext f p (world vs ss c os r) ≡ (if eqb (p .effect) 3 && (isSome (setAt ss (p .identifier)) && (copied (a .kind) || isFrozen (a .kind))) then Context.makeRead f (p .identifier) else done) (world vs ss c os r)
   unfolding Step.updateContext State.setOf State.peek _>>=_ andThen
@@ -220,54 +201,44 @@ module _ (vs ss c : List ℕ) (f : ℕ) (p : Place) where
       ap (λ (x : AbstractValue). (if eqb (p .effect) 3 && (isSome (setAt ss (p .identifier)) && (copied (x .kind) || isFrozen (x .kind))) then Context.makeRead f (p .identifier) else done) (world vs ss c os r)) (sym e)
 
   -- a test failed
-  -- nothing is done
   update-stays : (a : AbstractValue) → a ≡ kindOf (valueAt vs) (setAt ss (p .identifier)) → (eqb (p .effect) 3 && (isSome (setAt ss (p .identifier)) && (copied (a .kind) || isFrozen (a .kind)))) ≡ false
       → (os : List ℕ) (r : Run) → Step.updateContext f p (world vs ss c os r) ≡ ok tt (world vs ss c os r)
   unfolding done return
   update-stays a e h os r = update-tests os r a e ∙ if-false _ _ _ _ _ h refl
 
   -- all tests passed
-  -- the place becomes Read
   update-reads : (a : AbstractValue) (d : List ℕ) → a ≡ kindOf (valueAt vs) (setAt ss (p .identifier)) → (eqb (p .effect) 3 && (isSome (setAt ss (p .identifier)) && (copied (a .kind) || isFrozen (a .kind)))) ≡ true → d ≡ Lent.makeRead c f (p .identifier)
       → (os : List ℕ) (r : Run) → Step.updateContext f p (world vs ss c os r) ≡ ok tt (world vs ss d os r)
   unfolding Context.makeRead change
   update-reads a d e h g os r = update-tests os r a e ∙ if-true _ _ _ _ _ h (ap (λ (x : List ℕ). ok tt (world vs ss x os r)) (sym g))
 
   -- a place that is no Capture
-  -- the first way through
   pub update-other : (p .effect ≡ 3 → ⊥) → (os : List ℕ) (r : Run) → Step.updateContext f p (world vs ss c os r) ≡ ok tt (world vs ss c os r)
   update-other n = update-stays _ refl (ap (λ (x : Bool). x && (isSome (setAt ss (p .identifier)) && (copied (kindOf (valueAt vs) (setAt ss (p .identifier)) .kind) || isFrozen (kindOf (valueAt vs) (setAt ss (p .identifier)) .kind)))) (ne-eqb (p .effect) 3 n))
 
   -- a Capture
-  -- what the set of its identifier says
   module _ (e : p .effect ≡ 3) (b : Bool) (s : b ≡ isSome (setAt ss (p .identifier))) where
     -- an undefined place
-    -- the second way
     pub update-undefined : b ≡ false → (os : List ℕ) (r : Run) → Step.updateContext f p (world vs ss c os r) ≡ ok tt (world vs ss c os r)
     update-undefined h =
         update-stays _ refl (and-false (eqb (p .effect) 3) _
         (ap (λ (x : Bool). x && (copied (kindOf (valueAt vs) (setAt ss (p .identifier)) .kind) || isFrozen (kindOf (valueAt vs) (setAt ss (p .identifier)) .kind))) (sym s ∙ h)))
 
     -- that is defined
-    -- what its kind says
     module _ (h : b ≡ true) (a : AbstractValue) (g : a ≡ kindOf (valueAt vs) (setAt ss (p .identifier))) (x : Bool) (u : x ≡ copied (a .kind)) where
       -- Primitive or Global
-      -- the third way
       pub update-copied : (d : List ℕ) → x ≡ true → d ≡ Lent.makeRead c f (p .identifier) → (os : List ℕ) (r : Run) → Step.updateContext f p (world vs ss c os r) ≡ ok tt (world vs ss d os r)
       update-copied d t m =
           update-reads a d g (and-true (eqb (p .effect) 3) _ (eq-eqb (p .effect) 3 e) (and-true (isSome (setAt ss (p .identifier))) _ (sym s ∙ h) (ap (λ (z : Bool). z || isFrozen (a .kind)) (sym u ∙ t)))) m
 
       -- and neither Primitive nor Global
-      -- whether it is Frozen
       module _ (t : x ≡ false) (y : Bool) (v : y ≡ isFrozen (a .kind)) where
         -- Frozen
-        -- the fourth way
         pub update-frozen : (d : List ℕ) → y ≡ true → d ≡ Lent.makeRead c f (p .identifier) → (os : List ℕ) (r : Run) → Step.updateContext f p (world vs ss c os r) ≡ ok tt (world vs ss d os r)
         update-frozen d q m =
             update-reads a d g (and-true (eqb (p .effect) 3) _ (eq-eqb (p .effect) 3 e) (and-true (isSome (setAt ss (p .identifier))) _ (sym s ∙ h) (ap₂ (λ (z w : Bool). z || w) (sym u ∙ t) (sym v ∙ q)))) m
 
         -- any other kind
-        -- the last way
         pub update-kept : y ≡ false → (os : List ℕ) (r : Run) → Step.updateContext f p (world vs ss c os r) ≡ ok tt (world vs ss c os r)
         update-kept q =
             update-stays a g (and-false (eqb (p .effect) 3) _ (and-false (isSome (setAt ss (p .identifier))) _ (ap₂ (λ (z w : Bool). z || w) (sym u ∙ t) (sym v ∙ q))))
@@ -280,15 +251,12 @@ pub record Updates (vs ss c₀ : List ℕ) (f : ℕ) (ws : List ℕ) (n k : ℕ)
   pub equal : (os : List ℕ) (r : Run) → each (placesIn oneRun ws 0 1 0 (n - 0)) (Step.updateContext f) (world vs ss c₀ os r) ≡ each (placesIn oneRun ws 0 1 k (n - k)) (Step.updateContext f) (world vs ss c os r)
 
 -- nothing is done yet
--- the whole is left
 pub updates-start : (vs ss c : List ℕ) (f : ℕ) (ws : List ℕ) (n : ℕ) → Updates vs ss c f ws n 0 c
 updates-start vs ss c f ws n = record { equal = λ os r. refl }
 
 -- from what the loop holds
--- a turn, or its end
 module _ (vs ss c₀ : List ℕ) (f : ℕ) (ws : List ℕ) (n k : ℕ) (c : List ℕ) (a : Updates vs ss c₀ f ws n k c) where
   -- one place is done
-  -- the next turn does the rest
   pub updates-more : (p : Place) (d : List ℕ) → k < n → p ≡ placeIn oneRun ws 0 (1 + k * 5) → ((os : List ℕ) (r : Run) → Step.updateContext f p (world vs ss c os r) ≡ ok tt (world vs ss d os r)) → Updates vs ss c₀ f ws n (k + 1) d
   updates-more p d h g w = record {
     equal = λ os r. a .equal os r

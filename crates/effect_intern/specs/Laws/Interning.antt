@@ -51,7 +51,6 @@ module _ (vs ss cs os : List ℕ) (r : Run) (e : Head) (ps : List Place) (f : Fo
       (bind-ok _ _ _ _ _ _ (ap (λ (k : ℕ). ok k (world vs ss cs os r)) (sym m)) (if-le 2048 n _ _ _ _ l refl))
 
   -- a new key
-  -- the effect is appended, and used as it is
   pub intern-new : (n k : ℕ) (ds us : List ℕ) → f ≡ Nowhere → n ≡ Lent.internedCount cs → n < 2048 → k ≡ n → ds ≡ Records.putEffect Layout.interned cs k (effectWith e ps) → us ≡ set ds 12483 (n + 1)
       → internEffect (effectWith e ps) (world vs ss cs os r) ≡ answer 0 (effectWith e (chosen cs Nowhere ps)) (world vs ss us os r)
   unfolding internEffect internNew putEffect ask change return answer Lent.addEffect
@@ -72,7 +71,6 @@ module _ (vs ss cs os : List ℕ) (r : Run) (k : EffectKey) (f : Found) (h : opt
   asks o q x g = bind-ok _ _ _ _ _ _ (ap (λ (p : Option ℕ). ok p (world vs ss cs os r)) (sym h ∙ q)) g
 
   -- the number is cached
-  -- it is used again
   pub number-found : (n : ℕ) → f ≡ At n → getOrCreateValueId k (world vs ss cs os r) ≡ answer 0 n (world vs ss cs os r)
   unfolding orFresh return answer
   number-found n q = asks (some n) (ap optionOf q) _ refl

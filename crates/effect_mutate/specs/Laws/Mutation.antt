@@ -45,14 +45,12 @@ pub record Left (s k : ℕ) (rs : List ℕ) : Type 0 where
 
 module _ (s : ℕ) where
   -- no reason was asked for yet
-  -- the whole list is left
   pub left-all : Left s 0 inSentenceOrder
   unfolding getWriteErrorReason
   left-all = let g : getWriteErrorReason s ≡ firstIn inSentenceOrder s = refl in record { equal = omega arith }
 
   module _ (k r : ℕ) (rs : List ℕ) (l : Left s k (r ∷ rs)) (b : Bool) (e : b ≡ hasReason s r) where
     -- the set has the reason that is asked for
-    -- its place is the sentence
     pub left-here : b ≡ true → k ≡ getWriteErrorReason s
     unfolding firstIn
     left-here h =
@@ -61,7 +59,6 @@ module _ (s : ℕ) where
         omega arith
 
     -- it has not
-    -- the next is asked for
     pub left-next : b ≡ false → Left s (suc k) rs
     unfolding firstIn
     left-next h =
@@ -81,7 +78,6 @@ module _ (s : ℕ) where
 -- ---- the diagnostics
 
 -- a value that cannot be modified
--- the sentence goes by its reasons
 pub modified-is : (p : Place) (name k : ℕ) (a : AbstractValue) → k ≡ getWriteErrorReason (a .reason)
     → record { identifier = p .identifier; case = 0; sentence = k; name = name; access = record { start = 4294967295; end = 4294967295 }; own = p .span } ≡ modified p name a
 modified-is p name k a h = ap (λ (n : ℕ). record { identifier = p .identifier; case = 0; sentence = n; name = name; access = noSpan; own = p .span }) h
@@ -94,12 +90,10 @@ module _ (access own : Span) where
   labelIf false = access
 
   -- spans of different starts
-  -- the access has a label
   pub label-starts : (access .start ≡ own .start → ⊥) → access ≡ accessLabel access own
   label-starts n = ap labelIf (span-differs access own n)
 
   -- spans of different ends
-  -- the access has a label
   pub label-ends : access .start ≡ own .start → (access .end ≡ own .end → ⊥) → access ≡ accessLabel access own
   label-ends e n = ap labelIf (sym (ne-eqb (access .end) (own .end) n) ∙ span-ends access own e)
 
@@ -117,19 +111,16 @@ hoisted-is p name access label h = ap (λ (x : Span). record { identifier = p .i
 -- ---- a mutation that is an error is reported
 
 -- what the code has of a report: the diagnostic's numbers, or a refusal, and the context after
--- for any state, output list and run
 abbrev pub Numbered : List ℕ → List ℕ → Diagnostic → ℕ → AliasingDiagnostic → Type 0
 Numbered cs us d n x = (vs ss os : List ℕ) (r : Run) → internDiagnostic d (world vs ss cs os r) ≡ answer n x (world vs ss us os r)
 
 module _ (cs us : List ℕ) (r : Run) (p : Place) (name : ℕ) (d : Diagnostic) (n : ℕ) (x : AliasingDiagnostic) (w : name ≡ Lent.nameOf cs (p .identifier)) where
   module _ (a : AbstractValue) (q : d ≡ modified p name a) (g : Numbered cs us d n x) where
     -- the diagnostic of the definition is the code's
-    -- so it has the same numbers
     same-modified : (vs ss os : List ℕ) → internDiagnostic (modified p name a) (world vs ss cs os r) ≡ answer n x (world vs ss us os r)
     same-modified vs ss os = ap (λ (y : Diagnostic). internDiagnostic y (world vs ss cs os r)) (sym q) ∙ g vs ss os r
 
     -- a 257th diagnostic or instance
-    -- nothing is derived
     pub modified-refused : ¬ (n ≡ 0) → (again : AliasingEffect → M (World lent) Done) (e : AliasingEffect) (ps : List Place) (vs ss os : List ℕ)
         → reportModified again p a (world vs ss cs os r) ≡ sequel n (world vs ss us os r) (follow again e ps Nothing)
     unfolding reportModified ask
@@ -139,7 +130,6 @@ module _ (cs us : List ℕ) (r : Run) (p : Place) (name : ℕ) (d : Diagnostic) 
 
     module _ (b : Bool) (f : b ≡ isFrozen (a .kind)) where
       -- a value that is surely Frozen
-      -- a MutateFrozen is derived
       pub modified-frozen : n ≡ 0 → b ≡ true → (again : AliasingEffect → M (World lent) Done) (e : AliasingEffect) (ps : List Place) (vs ss os : List ℕ)
           → reportModified again p a (world vs ss cs os r) ≡ sequel 0 (world vs ss us os r) (follow again e ps (Derived (Head.MutateFrozen p x)))
       unfolding reportModified ask follow effectWith
@@ -148,7 +138,6 @@ module _ (cs us : List ℕ) (r : Run) (p : Place) (name : ℕ) (d : Diagnostic) 
           ∙ sym (sequel-goes 0 _ _ refl)
 
       -- any other
-      -- a MutateGlobal is derived
       pub modified-global : n ≡ 0 → b ≡ false → (again : AliasingEffect → M (World lent) Done) (e : AliasingEffect) (ps : List Place) (vs ss os : List ℕ)
           → reportModified again p a (world vs ss cs os r) ≡ sequel 0 (world vs ss us os r) (follow again e ps (Derived (Head.MutateGlobal p x)))
       unfolding reportModified ask follow effectWith
@@ -158,12 +147,10 @@ module _ (cs us : List ℕ) (r : Run) (p : Place) (name : ℕ) (d : Diagnostic) 
 
   module _ (access : Span) (v : access ≡ Lent.accessSpan cs (p .identifier)) (q : d ≡ hoistedAccess p name access) (g : Numbered cs us d n x) where
     -- the diagnostic of the definition is the code's
-    -- so it has the same numbers
     same-hoisted : (vs ss os : List ℕ) → internDiagnostic (hoistedAccess p name access) (world vs ss cs os r) ≡ answer n x (world vs ss us os r)
     same-hoisted vs ss os = ap (λ (y : Diagnostic). internDiagnostic y (world vs ss cs os r)) (sym q) ∙ g vs ss os r
 
     -- a 257th diagnostic or instance
-    -- nothing is derived
     pub hoisted-refused : ¬ (n ≡ 0) → (again : AliasingEffect → M (World lent) Done) (e : AliasingEffect) (ps : List Place) (vs ss os : List ℕ)
         → reportHoisted again p (world vs ss cs os r) ≡ sequel n (world vs ss us os r) (follow again e ps Nothing)
     unfolding reportHoisted ask
@@ -173,7 +160,6 @@ module _ (cs us : List ℕ) (r : Run) (p : Place) (name : ℕ) (d : Diagnostic) 
         ∙ sym (sequel-refused n _ _ z)
 
     -- an access before the declaration
-    -- a MutateFrozen is derived
     pub hoisted-goes : n ≡ 0 → (again : AliasingEffect → M (World lent) Done) (e : AliasingEffect) (ps : List Place) (vs ss os : List ℕ)
         → reportHoisted again p (world vs ss cs os r) ≡ sequel 0 (world vs ss us os r) (follow again e ps (Derived (Head.MutateFrozen p x)))
     unfolding reportHoisted ask follow effectWith
@@ -186,33 +172,28 @@ module _ (cs us : List ℕ) (r : Run) (p : Place) (name : ℕ) (d : Diagnostic) 
 
 module _ (vs ss cs : List ℕ) (r : Run) (p : Place) (y : MutationResult) (again : AliasingEffect → M (World lent) Done) (e : AliasingEffect) (ps : List Place) (os : List ℕ) where
   -- no mutation
-  -- nothing is listed
   pub result-none : y ≡ Result.None → report again e p y (world vs ss cs os r) ≡ sequel 0 (world vs ss cs os r) (follow again e ps Nothing)
   unfolding report follow
   result-none h = ap (λ (k : MutationResult). report again e p k (world vs ss cs os r)) h ∙ sym (sequel-goes 0 _ _ refl)
 
   -- a mutation of a ref
-  -- nothing is listed
   pub result-ref : y ≡ Result.MutateRef → report again e p y (world vs ss cs os r) ≡ sequel 0 (world vs ss cs os r) (follow again e ps Nothing)
   unfolding report follow
   result-ref h = ap (λ (k : MutationResult). report again e p k (world vs ss cs os r)) h ∙ sym (sequel-goes 0 _ _ refl)
 
   -- a mutation that may be
-  -- the effect itself is listed
   pub result-mutate : y ≡ Result.Mutate → report again e p y (world vs ss cs os r) ≡ sequel 0 (world vs ss cs os r) (follow again e ps Itself)
   unfolding report follow
   result-mutate h = ap (λ (k : MutationResult). report again e p k (world vs ss cs os r)) h ∙ sym (sequel-goes 0 _ _ refl)
 
   module _ (a : AbstractValue) (u : Run) (k : (cs os : List ℕ) → kind (p .identifier) (world vs ss cs os r) ≡ ok a (world vs ss cs os u)) (m : Res (World lent) Done) where
     -- a mutation of a Global
-    -- it is reported, whatever that answers
     pub result-global : y ≡ Result.MutateGlobal → reportModified again p a (world vs ss cs os u) ≡ m → report again e p y (world vs ss cs os r) ≡ m
     unfolding report
     result-global h g = ap (λ (x : MutationResult). report again e p x (world vs ss cs os r)) h ∙ bind-ok _ _ _ _ _ _ (k cs os) g
 
     module _ (b : Bool) (q : b ≡ Lent.isHoisted cs (p .identifier)) (h : y ≡ Result.MutateFrozen) where
       -- a mutation of a frozen place that is hoisted
-      -- an access before the declaration is reported
       pub result-hoisted : b ≡ true → reportHoisted again p (world vs ss cs os u) ≡ m → report again e p y (world vs ss cs os r) ≡ m
       unfolding report ask
       result-hoisted t g =
@@ -220,7 +201,6 @@ module _ (vs ss cs : List ℕ) (r : Run) (p : Place) (y : MutationResult) (again
           ∙ bind-ok _ _ _ _ _ _ (k cs os) (bind-ok _ _ _ _ _ _ refl (if-true _ _ _ _ _ (sym q ∙ t) g))
 
       -- of one that is not
-      -- a value that cannot be modified is reported
       pub result-frozen : b ≡ false → reportModified again p a (world vs ss cs os u) ≡ m → report again e p y (world vs ss cs os r) ≡ m
       unfolding report ask
       result-frozen t g =
@@ -231,7 +211,6 @@ module _ (vs ss cs : List ℕ) (r : Run) (p : Place) (y : MutationResult) (again
 
 module _ (vs ss cs : List ℕ) (r : Run) (variant : MutateVariant) (p : Place) (b : Bool) (q : b ≡ Lent.isRef cs (p .identifier)) (again : AliasingEffect → M (World lent) Done) (e : AliasingEffect) (ps : List Place) (os : List ℕ) where
   -- a ref
-  -- its kind is not asked for, and nothing is listed
   pub mutation-ref : b ≡ true → mutating again variant e p (world vs ss cs os r) ≡ sequel 0 (world vs ss cs os r) (follow again e ps Nothing)
   unfolding mutating mutate ask return report follow
   mutation-ref h =
@@ -239,7 +218,6 @@ module _ (vs ss cs : List ℕ) (r : Run) (variant : MutateVariant) (p : Place) (
       ∙ sym (sequel-goes 0 _ _ refl)
 
   -- any other place
-  -- its kind decides
   pub mutation-goes : (a : AbstractValue) (u : Run) (s : Bool) (y : MutationResult) (m : Res (World lent) Done) → b ≡ false
       → ((cs os : List ℕ) → kindWithSpan (p .identifier) (p .span) (world vs ss cs os r) ≡ ok a (world vs ss cs os u))
       → s ≡ isStrict variant → y ≡ resultOf s (a .kind) → report again e p y (world vs ss cs os u) ≡ m

@@ -40,13 +40,11 @@ use Rattle.state_ops.specs.Use.{afterUse}
 
 module _ (vs ss cs os : List ℕ) (e : AliasingEffect) where
   -- a count that fills its word stays
-  -- no instruction comes near
   pub emit-full : (r : Run) → 4294967295 ≤ r .listed → Context.emit e (world vs ss cs os r) ≡ ok tt (world vs ss cs os r)
   unfolding Context.emit change putListed
   emit-full r h = ap (λ (l : _). ok tt (record { state = world vs ss cs os r .state; rest = record { session = r .session; context = cs; work = record { initialized = r .marks; listed = l; freezeEntries = r .freeze; entries = r .entries } } })) (ite-ge (r .listed) 4294967295 _ _ h)
 
   -- the record after the last
-  -- one more is listed
   pub emit-one : (r : Run) (n : ℕ) (us : List ℕ) → r .listed < 4294967295 → n ≡ r .listed → us ≡ putEffect output os n e
       → Context.emit e (world vs ss cs os r) ≡ ok tt (world vs ss cs us (record { session = r .session; flag = r .flag; marks = r .marks; listed = r .listed + 1; freeze = r .freeze; entries = r .entries }))
   unfolding Context.emit change putListed
@@ -110,7 +108,6 @@ unfolding writes
 written-is vs ss i b r a e h g f = f ∙ ap (λ (x : AbstractValue). writable (x .kind)) g ∙ sym (ap (λ (x : Bool). x && writable (kindOf (valueAt vs) (setAt ss i) .kind)) (sym e ∙ h))
 
 -- what a loop over the captures has still to ask
--- the answer is that of the rest
 pub record Asks (vs ss ws : List ℕ) (n k : ℕ) : Type 0 where
   pub equal : (cs os : List ℕ) (r : Run) → Step.anyWritten (placesIn oneRun ws 0 1 0 (n - 0)) (world vs ss cs os r) ≡ Step.anyWritten (placesIn oneRun ws 0 1 k (n - k)) (world vs ss cs os r)
 

@@ -36,7 +36,6 @@ isPlain (CreatingFrom from into) = false
 isPlain (CreatingFunction f into) = false
 
 -- what is not plain does not come here
--- two acts of different kinds are not equal
 other : {A : Type 0} (a : Act) → Plain ≡ a → isPlain a ≡ false → A
 unfolding isPlain
 other a e h = let z : true ≡ false = ap isPlain e ∙ h in let y : _≡_ {A = ℕ} 0 1 = cc in absurd (omega arith)

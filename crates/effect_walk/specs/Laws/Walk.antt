@@ -95,7 +95,6 @@ module _ (ss cs : List ℕ) (s : Still) where
     freezes-and-enters v us x e h = then-ok _ _ _ _ _ _ refl (ap (λ (l : List ℕ). F v (walking l ss cs s made all)) (sym e) ∙ h)
 
 -- a freeze acts only on a place that is defined
--- so its row has a set to go through
 opened : (vs ss : List ℕ) (i : ℕ) (b : Bool) → b ≡ freezes vs ss i → b ≡ true → isSome (setAt ss i) ≡ true
 unfolding freezes
 opened vs ss i b e h = go (isSome (setAt ss i)) (freezable (kindOf (valueAt vs) (setAt ss i) .kind)) (sym e ∙ h)
@@ -133,7 +132,6 @@ unfolding freezeFunctionCapturesTransitive
 depth-more ss cs s vs reason v made all d h = then-ok _ _ _ _ _ _ (count-one ss cs s vs made all h) refl
 
 -- the context that is looked at
--- none where the value has no function
 context-none : (F : ℕ → M (World lent) Done) (ss cs : List ℕ) (s : Still) (vs : List ℕ) (reason v made all : ℕ) → linkOf cs v ≡ none
     → enterContext F reason v (walking vs ss cs s made all) ≡ answer 0 tt (walking vs ss cs s made all)
 unfolding enterContext ask linkedContext
@@ -152,7 +150,6 @@ context-some F ss cs s vs reason v made all f n e g =
     ∙ ap (λ (m : ℕ). each (placesIn Layout.contexts cs f 0 0 m) (enterPlace F reason) (walking vs ss cs s made all)) (sym g ∙ sym z))
 
 -- a depth from the entries still allowed on is a successor while one is allowed
--- and its predecessor suffices after it
 deeper : (P : ℕ → Type 0) (made d : ℕ) → made < 4096 → 4096 - made ≤ d → ((n : ℕ) → 4096 - (made + 1) ≤ n → P (suc n)) → P d
 deeper P made zero h l k = absurd (omega arith)
 deeper P made (suc d) h l k = k d (omega arith)
@@ -174,7 +171,6 @@ module _ (vs₀ ss cs : List ℕ) (reason v freeze entries : ℕ) where
   }
 
   -- the loop over the context begins
-  -- nothing of it is done yet
   pub runs-start : (made all f n : ℕ) (o : Option ℕ) → freeze < 4096 → made ≡ freeze + 1 → all ≡ oneMore entries → o ≡ linkOf cs v → o ≡ some f → n ≡ field Layout.functions cs f 1 → Runs vs₀ ss cs reason v freeze entries f n 0 vs₀ made all
   runs-start made all f n o h m a l e g = record {
     less = omega arith;
@@ -184,7 +180,6 @@ module _ (vs₀ ss cs : List ℕ) (reason v freeze entries : ℕ) where
   }
 
   -- the loop over the context ends
-  -- every place was looked at
   pub runs-end : (f n k : ℕ) (vs : List ℕ) (made all : ℕ) → Runs vs₀ ss cs reason v freeze entries f n k vs made all → n ≤ k → Enters vs₀ ss cs reason v freeze entries vs 0 made all
   runs-end f n k vs made all r h = record {
     grows = (let l = r .less in omega arith);
@@ -198,7 +193,6 @@ module _ (vs₀ ss cs : List ℕ) (reason v freeze entries : ℕ) where
     named = let z : 0 + k * 5 ≡ k * 5 = omega arith in ap (field Layout.contexts cs f) z ∙ sym e
 
     -- a place that a freeze does not act on is passed
-    -- the walk goes on with the next
     pub runs-shut : b ≡ false → Runs vs₀ ss cs reason v freeze entries f n (k + 1) vs made all
     runs-shut z = record {
       less = r .less;
@@ -207,7 +201,6 @@ module _ (vs₀ ss cs : List ℕ) (reason v freeze entries : ℕ) where
     }
 
     -- the loop over the values of a place begins
-    -- nothing of it is done yet
     pub row-start : (m : ℕ) → b ≡ true → m ≡ nextMember ss i 1 → RunsRow vs ss cs reason i made all m vs made all
     row-start m z g = record {
       less = omega arith;
@@ -216,7 +209,6 @@ module _ (vs₀ ss cs : List ℕ) (reason v freeze entries : ℕ) where
     }
 
     -- its values are done, and the walk goes on with the next place
-    -- the count went on too
     pub runs-open : (m : ℕ) (us : List ℕ) (made′ all′ : ℕ) → b ≡ true → RunsRow vs ss cs reason i made all m us made′ all′ → 1024 ≤ m → Runs vs₀ ss cs reason v freeze entries f n (k + 1) us made′ all′
     runs-open m us made′ all′ z w g = record {
       less = (let x = r .less in let y = w .less in omega arith);
@@ -226,7 +218,6 @@ module _ (vs₀ ss cs : List ℕ) (reason v freeze entries : ℕ) where
     }
 
     -- a value of the place was refused
-    -- so is the whole walk
     pub runs-refused : (us : List ℕ) (x made′ all′ : ℕ) → b ≡ true → ¬ (x ≡ 0) → made ≤ made′
         → ((s : Still) (d : ℕ) → 4096 - made ≤ d → each (valuesOf (setAt ss i)) (freezeAndEnter (freezeFunctionCapturesTransitive d reason) reason) (walking vs ss cs s made all) ≡ answer x tt (walking us ss cs s made′ all′))
         → Enters vs₀ ss cs reason v freeze entries us x made′ all′
@@ -243,7 +234,6 @@ module _ (vs₀ ss cs : List ℕ) (reason i made₀ all₀ m : ℕ) (vs us ws : 
   entered s d q = freezes-and-enters ss cs s (freezeFunctionCapturesTransitive d reason) reason vs made all m us _ g (w .equal s d (let y = r .less in omega arith))
 
   -- the next value of the row
-  -- frozen and entered
   pub row-next : (u : ℕ) → x ≡ 0 → u ≡ nextMember ss i (m + 1) → RunsRow vs₀ ss cs reason i made₀ all₀ u ws made′ all′
   row-next u z e = record {
     less = (let y = r .less in let k = w .grows in omega arith);
@@ -252,6 +242,5 @@ module _ (vs₀ ss cs : List ℕ) (reason i made₀ all₀ m : ℕ) (vs us ws : 
   }
 
   -- a value was refused
-  -- so is the row
   pub row-refused : ¬ (x ≡ 0) → (s : Still) (d : ℕ) → 4096 - made₀ ≤ d → each (valuesOf (setAt ss i)) (freezeAndEnter (freezeFunctionCapturesTransitive d reason) reason) (walking vs₀ ss cs s made₀ all₀) ≡ answer x tt (walking ws ss cs s made′ all′)
   row-refused z s d q = r .equal s d q ∙ each-refused (freezeAndEnter (freezeFunctionCapturesTransitive d reason) reason) m _ _ x _ _ (walk-step ss i _ m (nextMember ss i (m + 1)) (r .here) h refl .2) (entered s d q) z

@@ -10,7 +10,6 @@ use Rattle.def_image.specs.Layout.{word, sizeOf, countOf, offsetOf, endOf, star
 -- ---- the size of a record
 
 -- a section that there is, and one that there is not
--- six sections have sizes
 pub size-out : (s : ℕ) → 6 ≤ s → 0 ≡ sizeOf s
 unfolding sizeOf
 size-out s h = sym (List·getD-eq-default (4 ∷ 3 ∷ 2 ∷ 5 ∷ 5 ∷ 8 ∷ []) 0 {n = s} h)
@@ -36,7 +35,6 @@ span-fits s k a w h e f =
     omega arith
 
 -- and one record more
--- for the record after
 pub next-fits : (s k b w : ℕ) → k < 4294967296 → b ≡ k → w ≡ sizeOf s → (b + 1) * w ≤ 34359738368
 next-fits s k b w h e f = span-fits s (k + 1) (b + 1) w (omega arith) (omega arith) f
 
@@ -49,25 +47,21 @@ unfolding countOf word
 count-is im s a r e f = f ∙ ap (λ (x : ℕ). getD im (5 + 2 * x) 0) e
 
 -- the same of an offset
--- it stands after the count
 pub offset-is : (im : List ℕ) (s a r : ℕ) → a ≡ s → r ≡ getD im (6 + 2 * a) 0 → r ≡ offsetOf im s
 unfolding offsetOf word
 offset-is im s a r e f = f ∙ ap (λ (x : ℕ). getD im (6 + 2 * x) 0) e
 
 -- what the code adds and multiplies, read by read
--- an end of a section, and a word of a record
 pub end-is : (im : List ℕ) (s o a c b z d : ℕ) → o ≡ offsetOf im s → a ≡ o → c ≡ countOf im s → b ≡ c → z ≡ sizeOf s → d ≡ z → a + b * d ≡ endOf im s
 unfolding endOf
 end-is im s o a c b z d e f g h i j = cc
 
 -- word j of record k
--- offset, records before it, words before it
 pub cell-is : (im : List ℕ) (s k j o a b z d l r : ℕ) → o ≡ offsetOf im s → a ≡ o → b ≡ k → z ≡ sizeOf s → d ≡ z → l ≡ j → r ≡ getD im (a + b * d + l) 0 → r ≡ cell im s k j
 unfolding cell word
 cell-is im s k j o a b z d l r e f g h i m n = cc
 
 -- the same of the record after
--- orders are tested of two that follow one another
 pub next-is : (im : List ℕ) (s k j o a b z d l r : ℕ) → o ≡ offsetOf im s → a ≡ o → b ≡ k → z ≡ sizeOf s → d ≡ z → l ≡ j → r ≡ getD im (a + (b + 1) * d + l) 0 → r ≡ cell im s (suc k) j
 next-is im s k j o a b z d l r e f g h i m n = cell-is im s (suc k) j o a (b + 1) z d l r e f (omega arith) h i m n
 
@@ -80,7 +74,6 @@ unfolding startOf
 start-first im s e = sym (ap (startOf im) e)
 
 -- a section past the first
--- where the one before it ends
 pub start-next : (im : List ℕ) (s r : ℕ) → (s ≡ 0 → ⊥) → r ≡ endOf im (s - 1) → r ≡ startOf im s
 unfolding startOf
 start-next im zero r h e = absurd (h refl)

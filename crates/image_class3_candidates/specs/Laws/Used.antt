@@ -18,13 +18,11 @@ use Rattle.def_image.specs.Refusals.{usedWords}
 use Rattle.image_class3_candidates.specs.Used.{codesOf}
 
 -- two answers are the same
--- for a table that antt computes
 abbrev alike : Bool → Bool → Bool
 alike true b = b
 alike false b = not b
 
 -- what that test shows
--- the two are equal
 alike-is : (a b : Bool) → T (alike a b) → a ≡ b
 alike-is true true t = refl
 alike-is true false t = absurd t
@@ -32,42 +30,35 @@ alike-is false true t = absurd t
 alike-is false false t = refl
 
 -- whether a list has a number from 8 on
--- no row has
 abbrev allLow : List ℕ → Bool
 allLow [] = true
 allLow (x ∷ l) = ltb x 8 && allLow l
 
 -- each of the 18 codes and 8 words
--- one computed test
 table : T (allBelow 18 (λ c. allBelow 8 (λ j. alike (eqb (codesOf j / 2 ^ c % 2) 1) (has j (getD usedWords c [])))))
 unfolding allBelow has usedWords codesOf
 table = tt
 
 -- and no row has a word past the eighth
--- one computed test
 low : T (allBelow 18 (λ c. allLow (getD usedWords c [])))
 unfolding allBelow usedWords
 low = tt
 
 -- a test that passed, as an equation
--- for the laws of comparisons
 T-true : (b : Bool) → T b → b ≡ true
 T-true true t = refl
 T-true false t = absurd t
 
 -- past the eighth word no code has a bit
--- such a word is used by none
 pub codes-out : (j : ℕ) → 8 ≤ j → 0 ≡ codesOf j
 unfolding codesOf
 codes-out j h = sym (List·getD-eq-default (0 ∷ 249343 ∷ 12256 ∷ 115202 ∷ 513 ∷ 8192 ∷ 0 ∷ 8192 ∷ []) 0 {n = j} h)
 
 -- 0 has no bit
--- at any place
 none-at : (c : ℕ) → eqb (0 / 2 ^ c % 2) 1 ≡ false
 none-at c = ap (λ (x : ℕ). eqb (x % 2) 1) (zero-div (2 ^ c))
 
 -- a list of low numbers has none from 8 on
--- by its entries
 has-past : (l : List ℕ) (j : ℕ) → 8 ≤ j → T (allLow l) → has j l ≡ false
 unfolding has
 has-past [] j h t = refl
@@ -77,7 +68,6 @@ has-past (x ∷ l) j h t =
     ap (λ (y : Bool). y || has j l) q ∙ has-past l j h (both-right (ltb x 8) (allLow l) t)
 
 -- the bit of a code is whether it uses the word
--- what the code tests
 pub used-is : (c j m : ℕ) → c < 18 → m ≡ codesOf j → eqb (m / 2 ^ c % 2) 1 ≡ has j (getD usedWords c [])
 used-is c j m h e =
     ap (λ (x : ℕ). eqb (x / 2 ^ c % 2) 1) e

@@ -24,12 +24,10 @@ use Rattle.image_decode.specs.Decoded.{decodedCandidate, diagnosticAt, h
 -- ---- numbers
 
 -- a number that is not the least of those left is above it
--- the last arm of a match goes up from arm to arm
 next : (a n : ℕ) → a ≤ n → (n ≡ a → ⊥) → suc a ≤ n
 next a n l d = omega arith
 
 -- of the numbers 12 to 16 the one that no arm names
--- it is the code of an Apply
 twelve : (n : ℕ) → 12 ≤ n → n < 17 → (n ≡ 13 → ⊥) → (n ≡ 14 → ⊥) → (n ≡ 15 → ⊥) → (n ≡ 16 → ⊥) → n ≡ 12
 twelve n l u a b c d = omega arith
 
@@ -37,103 +35,86 @@ twelve n l u a b c d = omega arith
 
 module _ (im : List ℕ) (k n : ℕ) (h : n ≡ cell im 5 k 0) where
   -- the head at the place that the code says
-  -- each arm knows the code
   at-code : (m : ℕ) → n ≡ m → getD (headsAt im k) m (Head.Render (placeAt im (firstPlace im k))) ≡ headAt im k
   unfolding headAt
   at-code m e = ap (λ (x : ℕ). getD (headsAt im k) x (Head.Render (placeAt im (firstPlace im k)))) (sym e ∙ h)
 
   -- code 0: Freeze
-  -- the words that this head holds
   pub head-0 : (p : Place) (r : ℕ) → n ≡ 0 → p ≡ placeAt im (firstPlace im k) → r ≡ reason im k → Head.Freeze p r ≡ headAt im k
   unfolding headsAt
   head-0 p r e h1 h2 = (λ j. Head.Freeze (h1 j) (h2 j)) ∙ at-code 0 e
 
   -- code 1: Mutate
-  -- the words that this head holds
   pub head-1 : (p : Place) (r : ℕ) → n ≡ 1 → p ≡ placeAt im (firstPlace im k) → r ≡ detail im k → Head.Mutate p r ≡ headAt im k
   unfolding headsAt
   head-1 p r e h1 h2 = (λ j. Head.Mutate (h1 j) (h2 j)) ∙ at-code 1 e
 
   -- code 2: MutateConditionally
-  -- the words that this head holds
   pub head-2 : (p : Place) → n ≡ 2 → p ≡ placeAt im (firstPlace im k) → Head.MutateConditionally p ≡ headAt im k
   unfolding headsAt
   head-2 p e h1 = (λ j. Head.MutateConditionally (h1 j)) ∙ at-code 2 e
 
   -- code 3: MutateTransitive
-  -- the words that this head holds
   pub head-3 : (p : Place) → n ≡ 3 → p ≡ placeAt im (firstPlace im k) → Head.MutateTransitive p ≡ headAt im k
   unfolding headsAt
   head-3 p e h1 = (λ j. Head.MutateTransitive (h1 j)) ∙ at-code 3 e
 
   -- code 4: MutateTransitiveConditionally
-  -- the words that this head holds
   pub head-4 : (p : Place) → n ≡ 4 → p ≡ placeAt im (firstPlace im k) → Head.MutateTransitiveConditionally p ≡ headAt im k
   unfolding headsAt
   head-4 p e h1 = (λ j. Head.MutateTransitiveConditionally (h1 j)) ∙ at-code 4 e
 
   -- code 5: Capture
-  -- the words that this head holds
   pub head-5 : (p : Place) (q : Place) → n ≡ 5 → p ≡ placeAt im (firstPlace im k) → q ≡ placeAt im (secondPlace im k) → Head.Capture p q ≡ headAt im k
   unfolding headsAt
   head-5 p q e h1 h2 = (λ j. Head.Capture (h1 j) (h2 j)) ∙ at-code 5 e
 
   -- code 6: Alias
-  -- the words that this head holds
   pub head-6 : (p : Place) (q : Place) → n ≡ 6 → p ≡ placeAt im (firstPlace im k) → q ≡ placeAt im (secondPlace im k) → Head.Alias p q ≡ headAt im k
   unfolding headsAt
   head-6 p q e h1 h2 = (λ j. Head.Alias (h1 j) (h2 j)) ∙ at-code 6 e
 
   -- code 7: MaybeAlias
-  -- the words that this head holds
   pub head-7 : (p : Place) (q : Place) → n ≡ 7 → p ≡ placeAt im (firstPlace im k) → q ≡ placeAt im (secondPlace im k) → Head.MaybeAlias p q ≡ headAt im k
   unfolding headsAt
   head-7 p q e h1 h2 = (λ j. Head.MaybeAlias (h1 j) (h2 j)) ∙ at-code 7 e
 
   -- code 8: Assign
-  -- the words that this head holds
   pub head-8 : (p : Place) (q : Place) → n ≡ 8 → p ≡ placeAt im (firstPlace im k) → q ≡ placeAt im (secondPlace im k) → Head.Assign p q ≡ headAt im k
   unfolding headsAt
   head-8 p q e h1 h2 = (λ j. Head.Assign (h1 j) (h2 j)) ∙ at-code 8 e
 
   -- code 9: Create
-  -- the words that this head holds
   pub head-9 : (q : Place) (d : ValueKind) (r : ℕ) → n ≡ 9 → q ≡ placeAt im (secondPlace im k) → d ≡ kindAt (detail im k) → r ≡ reason im k → Head.Create q d r ≡ headAt im k
   unfolding headsAt
   head-9 q d r e h1 h2 h3 = (λ j. Head.Create (h1 j) (h2 j) (h3 j)) ∙ at-code 9 e
 
   -- code 10: CreateFrom
-  -- the words that this head holds
   pub head-10 : (p : Place) (q : Place) → n ≡ 10 → p ≡ placeAt im (firstPlace im k) → q ≡ placeAt im (secondPlace im k) → Head.CreateFrom p q ≡ headAt im k
   unfolding headsAt
   head-10 p q e h1 h2 = (λ j. Head.CreateFrom (h1 j) (h2 j)) ∙ at-code 10 e
 
   -- code 11: ImmutableCapture
-  -- the words that this head holds
   pub head-11 : (p : Place) (q : Place) → n ≡ 11 → p ≡ placeAt im (firstPlace im k) → q ≡ placeAt im (secondPlace im k) → Head.ImmutableCapture p q ≡ headAt im k
   unfolding headsAt
   head-11 p q e h1 h2 = (λ j. Head.ImmutableCapture (h1 j) (h2 j)) ∙ at-code 11 e
 
   -- code 13: CreateFunction
-  -- the words that this head holds
   pub head-13 : (f : ℕ) (q : Place) → n ≡ 13 → f ≡ function im k → q ≡ placeAt im (secondPlace im k) → Head.CreateFunction f q ≡ headAt im k
   unfolding headsAt
   head-13 f q e h1 h2 = (λ j. Head.CreateFunction (h1 j) (h2 j)) ∙ at-code 13 e
 
   -- code 14: MutateFrozen
-  -- the words that this head holds
   pub head-14 : (p : Place) (g : AliasingDiagnostic) → n ≡ 14 → p ≡ placeAt im (firstPlace im k) → g ≡ diagnosticAt im k → Head.MutateFrozen p g ≡ headAt im k
   unfolding headsAt
   head-14 p g e h1 h2 = (λ j. Head.MutateFrozen (h1 j) (h2 j)) ∙ at-code 14 e
 
   -- code 15: MutateGlobal
-  -- the words that this head holds
   pub head-15 : (p : Place) (g : AliasingDiagnostic) → n ≡ 15 → p ≡ placeAt im (firstPlace im k) → g ≡ diagnosticAt im k → Head.MutateGlobal p g ≡ headAt im k
   unfolding headsAt
   head-15 p g e h1 h2 = (λ j. Head.MutateGlobal (h1 j) (h2 j)) ∙ at-code 15 e
 
   -- code 16: Impure
-  -- the words that this head holds
   pub head-16 : (p : Place) (g : AliasingDiagnostic) → n ≡ 16 → p ≡ placeAt im (firstPlace im k) → g ≡ diagnosticAt im k → Head.Impure p g ≡ headAt im k
   unfolding headsAt
   head-16 p g e h1 h2 = (λ j. Head.Impure (h1 j) (h2 j)) ∙ at-code 16 e
@@ -152,12 +133,10 @@ module _ (im : List ℕ) (k n : ℕ) (h : n ≡ cell im 5 k 0) where
 -- ---- a candidate, written
 
 -- a diagnostic, read
--- one number stands for both
 pub diagnostic-is : (im : List ℕ) (k x : ℕ) → x ≡ cell im 5 k 3 → _≡_ {A = AliasingDiagnostic} (record { identity = x; instance = x }) (diagnosticAt im k)
 diagnostic-is im k x e = λ j. record { identity = e j; instance = e j }
 
 -- the effect of a head is the image's, where it is no CreateFunction: code by code
--- what stands beside the head does not matter then
 same-effect : (im : List ℕ) (k : ℕ) (cs : List Place) (n : ℕ) → (n ≡ 13 → ⊥)
     → effectWith (getD (headsAt im k) n (Head.Render (placeAt im (firstPlace im k)))) cs ≡ getD (makers im) n (λ j. Render (placeAt im (firstPlace im j))) k
 unfolding headsAt makers effectWith
@@ -181,7 +160,6 @@ same-effect im k cs (suc (suc (suc (suc (suc (suc (suc (suc (suc (suc (suc (suc 
 same-effect im k cs (suc (suc (suc (suc (suc (suc (suc (suc (suc (suc (suc (suc (suc (suc (suc (suc (suc n))))))))))))))))) d = refl
 
 -- a candidate that is no CreateFunction is written
--- its record is that of its head
 pub candidate-plain : (im xs ys : List ℕ) (k i n : ℕ) (h : Head) (cs : List Place) → n ≡ cell im 5 k 0 → (n ≡ 13 → ⊥) → i ≡ k → h ≡ headAt im k → ys ≡ putEffect candidateTable xs i (effectWith h cs) → ys ≡ decodedCandidate im k xs
 unfolding decodedCandidate effectAt headAt
 candidate-plain im xs ys k i n h cs e d f g p =
@@ -190,7 +168,6 @@ candidate-plain im xs ys k i n h cs e d f g p =
     ∙ ap (putEffect candidateTable xs k) (same-effect im k cs (cell im 5 k 0) (λ z. d (e ∙ z)))
 
 -- a CreateFunction is written
--- as its clause says
 pub candidate-creation : (im xs ys : List ℕ) (k n : ℕ) → n ≡ cell im 5 k 0 → n ≡ 13
     → ys ≡ putEffect candidateTable xs k (CreateFunction (placesFrom im (capturesFirst im k) (capturesCount im k)) (function im k) (placeAt im (secondPlace im k))) → ys ≡ decodedCandidate im k xs
 unfolding decodedCandidate effectAt makers
@@ -198,14 +175,12 @@ candidate-creation im xs ys k n e f p =
     p ∙ ap (λ (m : ℕ). putEffect candidateTable xs k (getD (makers im) m (λ j. Render (placeAt im (firstPlace im j))) k)) (sym f ∙ e)
 
 -- a run of places is as long as its count
--- the count stands with the captures
 pub run-length : {A : Type 0} (n k : ℕ) (f : ℕ → A) → length (listFrom n k f) ≡ n
 unfolding listFrom
 run-length zero k f = refl
 run-length (suc n) k f = ap suc (run-length n (suc k) f)
 
 -- the writes of a CreateFunction
--- code, destination, function, count, captures
 pub creation-is : (t : Table) (im c c1 c2 c3 c4 c5 : List ℕ) (k i a n f : ℕ) (q : Place) → i ≡ k → a ≡ cell im 5 k 6 → n ≡ cell im 5 k 7
     → c1 ≡ putField t c i 0 13 → q ≡ placeAt im (cell im 5 k 2) → c2 ≡ putPlace t c1 i 6 q → f ≡ cell im 5 k 5 → c3 ≡ putField t c2 i 14 f → c4 ≡ putField t c3 i 17 n
     → c5 ≡ putPlaces t c4 i 18 0 (placesFrom im a n)

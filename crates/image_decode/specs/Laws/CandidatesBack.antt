@@ -43,13 +43,11 @@ captures-few im k h (suc (suc (suc (suc (suc (suc (suc (suc (suc (suc (suc (suc 
 captures-few im k h (suc (suc (suc (suc (suc (suc (suc (suc (suc (suc (suc (suc (suc (suc (suc (suc (suc n))))))))))))))))) = zero-le
 
 -- a candidate put keeps the length of the list
--- words are written, and none is added
 candidate-length : (im : Image) (k : ℕ) (xs : List ℕ) → length (decodedCandidate im k xs) ≡ length xs
 unfolding decodedCandidate
 candidate-length im k xs = effect-length candidateTable xs k (effectAt im k)
 
 -- each of the first n candidates is read back
--- the list holds their records
 candidate-back : (im : Image) (xs : List ℕ) (n : ℕ) → n * 98 ≤ length xs → n ≤ 64 → ((k : ℕ) → k < n → capturesCount im k ≤ 16) → (k : ℕ) → k < n → effectIn candidateTable (after (decodedCandidate im) n xs) k ≡ effectAt im k
 unfolding after decodedCandidate effectAt
 candidate-back im xs zero h m r k l = absurd (omega arith)
@@ -67,7 +65,6 @@ candidate-back im xs (suc n) h m r k l =
     (eq-or-lt-of-le (let z : k ≤ n = omega arith in z))
 
 -- effects that are read one by one are read as a list
--- in the order of their records
 effects-listed : (t : Table) (c : List ℕ) (f : ℕ → AliasingEffect) (m k : ℕ) → ((j : ℕ) → k ≤ j → j < k + m → effectIn t c j ≡ f j) → effectsIn t c k m ≡ listFrom m k f
 unfolding effectsIn listFrom
 effects-listed t c f zero k h = refl

@@ -21,25 +21,21 @@ use Rattle.image_decode.specs.Laws.PlacesBack.{word-back, word-beside, r
 -- ---- lengths
 
 -- flags and counts keep the length of a context
--- words are written, and none is added
 counts-length : (im : Image) (k : ℕ) (c : List ℕ) → length (decodedCounts im k c) ≡ length c
 unfolding decodedCounts
 counts-length im k c = put-length Lent.functions _ k 2 _ ∙ put-length Lent.functions _ k 1 _ ∙ put-length Lent.functions c k 0 _
 
 -- so does a function
--- two runs of places more
 pub function-length : (im : Image) (k : ℕ) (c : List ℕ) → length (decodedFunction im k c) ≡ length c
 unfolding decodedFunction
 function-length im k c = places-length Lent.contexts _ k 0 0 _ ∙ places-length Lent.functions _ k 3 0 _ ∙ counts-length im k c
 
 -- so does an identifier
--- four words
 pub identifier-length : (im : Image) (k : ℕ) (c : List ℕ) → length (decodedIdentifier im k c) ≡ length c
 unfolding decodedIdentifier
 identifier-length im k c = put-length Lent.identifiers _ k 3 _ ∙ put-length Lent.identifiers _ k 2 _ ∙ put-length Lent.identifiers _ k 1 _ ∙ put-length Lent.identifiers c k 0 _
 
 -- so does the header
--- three words
 pub header-length : (im : Image) (c : List ℕ) → length (decodedHeader im c) ≡ length c
 unfolding decodedHeader
 header-length im c =
@@ -51,7 +47,6 @@ header-length im c =
 
 module _ (im : Image) (k : ℕ) (c : List ℕ) (row : k < 64) (held : 17605 ≤ length c) where
   -- the counts of the function, and what its context places leave of it
-  -- the tables are apart
   functions-kept : (v : ℕ) → v < 3 → field Lent.functions (decodedFunction im k c) k v ≡ field Lent.functions (decodedCounts im k c) k v
   unfolding decodedFunction apart end
   functions-kept v l =
@@ -90,7 +85,6 @@ module _ (im : Image) (k : ℕ) (c : List ℕ) (row : k < 64) (held : 17605 ≤ 
       y)
 
   -- its context places
-  -- at most sixteen
   context-back : contextCount im k ≤ 16 → contextOf (decodedFunction im k c) k ≡ placesFrom im (contextFirst im k) (contextCount im k)
   unfolding contextOf decodedFunction placesFrom
   context-back l =
@@ -142,7 +136,6 @@ module _ (im : Image) (k : ℕ) (c : List ℕ) (row : k < 64) (held : 17605 ≤ 
 
 module _ (im : Image) (k j : ℕ) (c : List ℕ) (other : k ≡ j → ⊥) where
   -- the words of another function
-  -- records of one table are apart
   function-other : (v : ℕ) → field Lent.functions (decodedFunction im k c) j v ≡ field Lent.functions c j v
   unfolding decodedFunction decodedCounts apart end
   function-other v =
@@ -153,7 +146,6 @@ module _ (im : Image) (k j : ℕ) (c : List ℕ) (other : k ≡ j → ⊥) where
       ∙ put-record Lent.functions c k 0 (functionFlags im k) j v other
 
   -- and of its context places
-  -- they have a table of their own
   places-other : (v : ℕ) → field Lent.contexts (decodedFunction im k c) j v ≡ field Lent.contexts c j v
   unfolding decodedFunction decodedCounts apart end
   places-other v =
@@ -164,7 +156,6 @@ module _ (im : Image) (k j : ℕ) (c : List ℕ) (other : k ≡ j → ⊥) where
       ∙ put-apart Lent.functions Lent.contexts c k 0 (functionFlags im k) j v refl
 
   -- so the other's places stay, of both kinds
-  -- their counts are among its words
   context-other : contextOf (decodedFunction im k c) j ≡ contextOf c j
   unfolding contextOf
   context-other =
@@ -172,7 +163,6 @@ module _ (im : Image) (k j : ℕ) (c : List ℕ) (other : k ≡ j → ⊥) where
       ∙ ap (placesIn Lent.contexts c j 0 0) (function-other 1)
 
   -- and the places that it mutates inside
-  -- their count is among its words too
   inside-other : mutatedInside (decodedFunction im k c) j ≡ mutatedInside c j
   unfolding mutatedInside
   inside-other =
@@ -182,7 +172,6 @@ module _ (im : Image) (k j : ℕ) (c : List ℕ) (other : k ≡ j → ⊥) where
 -- ---- all functions
 
 -- a law of each function that its own record gives and other records keep
--- by the records done so far
 each-back : {A : Type 0} (im : Image) (c : List ℕ) (read : List ℕ → ℕ → A) (said : ℕ → A) (n : ℕ)
     → ((k : ℕ) (d : List ℕ) → k < n → length d ≡ length c → read (decodedFunction im k d) k ≡ said k)
     → ((k j : ℕ) (d : List ℕ) → (k ≡ j → ⊥) → read (decodedFunction im k d) j ≡ read d j)
@@ -198,7 +187,6 @@ each-back im c read said (suc n) g h f l =
     (eq-or-lt-of-le (let z : f ≤ n = omega arith in z))
 
 -- the context before its functions is as long as after
--- header and identifiers are written
 before-length : (im : Image) (c : List ℕ) → length (decodedIdentifiers im (countOf im identifiers) (decodedHeader im c)) ≡ length c
 unfolding decodedIdentifiers
 before-length im c = after-length (decodedIdentifier im) (identifier-length im) (countOf im identifiers) (decodedHeader im c) ∙ header-length im c
@@ -214,7 +202,6 @@ module _ (im : Image) (c : List ℕ) (held : 17605 ≤ length c) (few : countOf 
       (λ k j d n. context-other im k j d n)
 
   -- the places mutated inside of an image in range are read back
-  -- the early MutateFrozen asks for them
   pub insides-back : ((k : ℕ) → k < countOf im functions → insideCount im k ≤ 32) → (f : ℕ) → f < countOf im functions → mutatedInside (decodedContext im c) f ≡ placesFrom im (insideFirst im f) (insideCount im f)
   unfolding decodedContext decodedFunctions
   insides-back r =

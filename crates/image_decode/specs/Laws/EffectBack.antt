@@ -41,17 +41,14 @@ captureCount (Render p) = 0
 
 module _ (t : Table) (c : List ℕ) (i : ℕ) (wide : t .width ≡ 98) (row : i < t .count) (held : Held t i c) where
   -- a list as long as c holds the record too
-  -- every write keeps the length
   fits : (d : List ℕ) → length d ≡ length c → Held t i d
   fits d e = held-as t i c d e held
 
   -- a word of the record that was written
-  -- of a list as long as c
   back : (d : List ℕ) (w x : ℕ) → length d ≡ length c → w < 98 → field t (putField t d i w x) i w ≡ x
   back d w x e l = word-back t i d w x row (let z : w < t .width = omega arith in z) (fits d e)
 
   -- a place of the record that was written
-  -- of a list as long as c
   backs : (d : List ℕ) (w : ℕ) (p : Place) → length d ≡ length c → w + 5 ≤ 98 → placeIn t (putPlace t d i w p) i w ≡ p
   backs d w p e l = place-back t i d w p row (let z : w + 5 ≤ t .width = omega arith in z) (fits d e)
 
@@ -63,17 +60,14 @@ module _ (t : Table) (c : List ℕ) (i : ℕ) (wide : t .width ≡ 98) (row : i 
   -- ---- the records with one place, with two, and with a diagnostic
 
   -- a code keeps the length
-  -- one word is written
   coded-length : (n : ℕ) → length (putField t c i 0 n) ≡ length c
   coded-length n = put-length t c i 0 n
 
   -- a code and a place keep the length
-  -- six words are written
   one-length : (n : ℕ) (p : Place) → length (onePlace t c i n p) ≡ length c
   one-length n p = place-length t (putField t c i 0 n) i 1 p ∙ coded-length n
 
   -- the code of a record with one place
-  -- the place stands after it
   one-code : (n : ℕ) (p : Place) → field t (onePlace t c i n p) i 0 ≡ n
   one-code n p = place-beside t i (putField t c i 0 n) 1 p 0 (λ a b. omega arith) ∙ back c 0 n refl (omega arith)
 
@@ -83,12 +77,10 @@ module _ (t : Table) (c : List ℕ) (i : ℕ) (wide : t .width ≡ 98) (row : i 
   one-place n p = backs (putField t c i 0 n) 1 p (coded-length n) (omega arith)
 
   -- the code of a record with two places
-  -- both stand after it
   two-code : (n : ℕ) (p q : Place) → field t (twoPlaces t c i n p q) i 0 ≡ n
   two-code n p q = place-beside t i (onePlace t c i n p) 6 q 0 (λ a b. omega arith) ∙ one-code n p
 
   -- its first place
-  -- the second stands after it
   two-first : (n : ℕ) (p q : Place) → placeIn t (twoPlaces t c i n p q) i 1 ≡ p
   two-first n p q = place-same t i (onePlace t c i n p) (twoPlaces t c i n p q) 1 (λ v a b. place-beside t i (onePlace t c i n p) 6 q v (λ x y. omega arith)) ∙ one-place n p
 
@@ -98,37 +90,30 @@ module _ (t : Table) (c : List ℕ) (i : ℕ) (wide : t .width ≡ 98) (row : i 
   two-second n p q = backs (onePlace t c i n p) 6 q (one-length n p) (omega arith)
 
   -- a record with one place and a word after it
-  -- Freeze and Mutate
   word-code : (n w x : ℕ) (p : Place) → (w ≡ 0 → ⊥) → field t (putField t (onePlace t c i n p) i w x) i 0 ≡ n
   word-code n w x p d = word-beside t i (onePlace t c i n p) w x 0 d ∙ one-code n p
 
   -- its place
-  -- the word stands after it
   word-place : (n w x : ℕ) (p : Place) → 6 ≤ w → placeIn t (putField t (onePlace t c i n p) i w x) i 1 ≡ p
   word-place n w x p l = passes (onePlace t c i n p) w x 1 (λ a b. omega arith) ∙ one-place n p
 
   -- its word
-  -- it is written last
   word-word : (n w x : ℕ) (p : Place) → w < 98 → field t (putField t (onePlace t c i n p) i w x) i w ≡ x
   word-word n w x p l = back (onePlace t c i n p) w x (one-length n p) l
 
   -- a record with one place and a diagnostic
-  -- both its numbers stand in the record
   told-length : (n : ℕ) (p : Place) (x : ℕ) → length (putField t (onePlace t c i n p) i 15 x) ≡ length c
   told-length n p x = put-length t (onePlace t c i n p) i 15 x ∙ one-length n p
 
   -- its code
-  -- place and diagnostic stand after it
   told-code : (n : ℕ) (p : Place) (d : AliasingDiagnostic) → field t (reported t c i n p d) i 0 ≡ n
   told-code n p d = word-beside t i (putField t (onePlace t c i n p) i 15 (d .identity)) 16 (d .instance) 0 (λ e. omega arith) ∙ word-code n 15 (d .identity) p (λ e. omega arith)
 
   -- its place
-  -- the diagnostic stands after it
   told-place : (n : ℕ) (p : Place) (d : AliasingDiagnostic) → placeIn t (reported t c i n p d) i 1 ≡ p
   told-place n p d = passes (putField t (onePlace t c i n p) i 15 (d .identity)) 16 (d .instance) 1 (λ a b. omega arith) ∙ word-place n 15 (d .identity) p (omega arith)
 
   -- its diagnostic
-  -- identity, then instance
   told-numbers : (n : ℕ) (p : Place) (d : AliasingDiagnostic) → diagnostic t (reported t c i n p d) i ≡ d
   told-numbers n p d = λ j. record {
     identity = (word-beside t i (putField t (onePlace t c i n p) i 15 (d .identity)) 16 (d .instance) 15 (λ e. omega arith) ∙ word-word n 15 (d .identity) p (omega arith)) j;
@@ -138,12 +123,10 @@ module _ (t : Table) (c : List ℕ) (i : ℕ) (wide : t .width ≡ 98) (row : i 
   -- ---- Create and CreateFunction: a destination alone, then words
 
   -- a code and a destination keep the length
-  -- six words are written
   into-length : (n : ℕ) (q : Place) → length (putPlace t (putField t c i 0 n) i 6 q) ≡ length c
   into-length n q = place-length t (putField t c i 0 n) i 6 q ∙ coded-length n
 
   -- the code of a record with a destination alone
-  -- the destination stands after it
   into-code : (n : ℕ) (q : Place) → field t (putPlace t (putField t c i 0 n) i 6 q) i 0 ≡ n
   into-code n q = place-beside t i (putField t c i 0 n) 6 q 0 (λ a b. omega arith) ∙ back c 0 n refl (omega arith)
 
@@ -153,25 +136,20 @@ module _ (t : Table) (c : List ℕ) (i : ℕ) (wide : t .width ≡ 98) (row : i 
   into-place n q = backs (putField t c i 0 n) 6 q (coded-length n) (omega arith)
 
   -- two words after it
-  -- w and v are past both places
   module _ (n w x v y : ℕ) (q : Place) (lw : 11 ≤ w) (lv : w < v) (uv : v < 98) where
     -- the record with the first of the words
-    -- kind, or function
     abbrev into1 : List ℕ
     into1 = putField t (putPlace t (putField t c i 0 n) i 6 q) i w x
 
     -- and with the second
-    -- reason, or count of captures
     abbrev into2 : List ℕ
     into2 = putField t into1 i v y
 
     -- the first keeps the length
-    -- one word is written
     into1-length : length into1 ≡ length c
     into1-length = put-length t (putPlace t (putField t c i 0 n) i 6 q) i w x ∙ into-length n q
 
     -- and so does the second
-    -- one word is written
     into2-length : length into2 ≡ length c
     into2-length = put-length t into1 i v y ∙ into1-length
 
@@ -182,7 +160,6 @@ module _ (t : Table) (c : List ℕ) (i : ℕ) (wide : t .width ≡ 98) (row : i 
         word-beside t i into1 v y 0 (λ e. omega arith) ∙ word-beside t i (putPlace t (putField t c i 0 n) i 6 q) w x 0 (λ e. omega arith) ∙ into-code n q
 
     -- the destination
-    -- the words stand after it
     into2-place : placeIn t into2 i 6 ≡ q
     into2-place = passes into1 v y 6 (λ a b. omega arith) ∙ passes (putPlace t (putField t c i 0 n) i 6 q) w x 6 (λ a b. omega arith) ∙ into-place n q
 
@@ -192,18 +169,15 @@ module _ (t : Table) (c : List ℕ) (i : ℕ) (wide : t .width ≡ 98) (row : i 
     into2-first = word-beside t i into1 v y w (λ e. omega arith) ∙ back (putPlace t (putField t c i 0 n) i 6 q) w x (into-length n q) (omega arith)
 
     -- the second word
-    -- it is written last
     into2-second : field t into2 i v ≡ y
     into2-second = back into1 v y into1-length uv
 
   -- an effect by its head
-  -- captures stand beside it
   by-head : (d : List ℕ) (h : Head) → h ≡ headIn t d i → effectIn t d i ≡ effectWith h (countedPlaces t d i 17)
   unfolding effectIn
   by-head d h e = ap (λ (x : Head). effectWith x (countedPlaces t d i 17)) (sym e)
 
   -- a CreateFunction with its captures
-  -- the count, then sixteen places at most
   creation-back : (cs : List Place) (f : ℕ) (q : Place) → length cs ≤ 16 → effectIn t (putEffect t c i (CreateFunction cs f q)) i ≡ CreateFunction cs f q
   unfolding putEffect effectWith countedPlaces
   creation-back cs f q l =

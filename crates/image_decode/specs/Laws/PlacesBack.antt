@@ -16,12 +16,10 @@ Held t i c = t .base + i * t .width + t .width ≤ length c
 
 module _ (t : Table) (i : ℕ) where
   -- a list as long as another holds the same records
-  -- every write keeps the length
   pub held-as : (c d : List ℕ) → length d ≡ length c → Held t i c → Held t i d
   held-as c d e h = omega arith
 
   -- a write of a word keeps the records
-  -- it keeps the length
   held-put : (c : List ℕ) (w x : ℕ) → Held t i c → Held t i (putField t c i w x)
   held-put c w x h = held-as c (putField t c i w x) (put-length t c i w x) h
 
@@ -32,12 +30,10 @@ module _ (t : Table) (i : ℕ) where
   word-back c w x h l e = put-same t c i w x (within-yes t i w h l) (let z : t .base + i * t .width + w < length c = omega arith in z)
 
   -- a write of a word leaves the other words of its record
-  -- words are told by their numbers
   pub word-beside : (c : List ℕ) (w x v : ℕ) → (w ≡ v → ⊥) → field t (putField t c i w x) i v ≡ field t c i v
   word-beside c w x v n = put-other t c i w x i v (λ e. n (e .1))
 
   -- a write of a place leaves the words before it and after it
-  -- five words are written
   pub place-beside : (c : List ℕ) (w : ℕ) (p : Place) (v : ℕ) → (w ≤ v → v < w + 5 → ⊥) → field t (putPlace t c i w p) i v ≡ field t c i v
   unfolding putPlace
   place-beside c w p v n =
@@ -111,7 +107,6 @@ module _ (t : Table) (i : ℕ) where
       e4 = held-put c3 (w + 3) x3 e3
 
   -- a write of a run leaves the words before it
-  -- places go up
   pub run-beside : (c : List ℕ) (w k : ℕ) (ps : List Place) (v : ℕ) → v < w + k * 5 → field t (putPlaces t c i w k ps) i v ≡ field t c i v
   unfolding putPlaces
   run-beside c w k [] v h = refl
@@ -130,7 +125,6 @@ module _ (t : Table) (i : ℕ) where
   }
 
   -- a run that was written is read
-  -- where the record has room for it
   pub run-back : (c : List ℕ) (w k : ℕ) (ps : List Place) → i < t .count → w + (k + length ps) * 5 ≤ t .width → Held t i c → placesIn t (putPlaces t c i w k ps) i w k (length ps) ≡ ps
   unfolding placesIn putPlaces
   run-back c w k [] h l e = refl

@@ -30,19 +30,16 @@ place-is im first i o a b d x0 x1 x2 x3 x4 e f g h h0 h1 h2 h3 h4 =
     at m = omega arith
 
 -- a place that is the first of a run of its own
--- nothing is added to its number
 pub place-alone : (im : List ℕ) (k : ℕ) (p : Place) → p ≡ placeAt im (k + 0) → p ≡ placeAt im k
 place-alone im k p e = e ∙ ap (placeAt im) (let z : k + 0 ≡ k = omega arith in z)
 
 -- ---- a loop over the records of a section
 
 -- one more record is done
--- each turn does one
 pub after-more : (g : ℕ → List ℕ → List ℕ) (c d e : List ℕ) (k : ℕ) → d ≡ after g k c → e ≡ g k d → e ≡ after g (k + 1) c
 unfolding after
 after-more g c d e k h f = f ∙ ap (g k) h ∙ ap (λ (n : ℕ). after g n c) (let z : suc k ≡ k + 1 = omega arith in z)
 
 -- all are done
--- the loop ends at the count of the header
 pub after-end : (g : ℕ → List ℕ → List ℕ) (c d : List ℕ) (k n m : ℕ) → k ≤ n → n ≤ k → n ≡ m → d ≡ after g k c → d ≡ after g m c
 after-end g c d k n m p q e h = h ∙ ap (λ (x : ℕ). after g x c) (let z : k ≡ m = omega arith in z)

@@ -31,7 +31,6 @@ unfolding memberOf setAt rowNumber number
 member-none l v e = add-none [] 0 l refl ∙ ap (addSet l) (sym (ap (λ (b : Bool). elim b [ true ↦ 0 | false ↦ 2 ^ v ]) (eq-eqb v 0 e)))
 
 -- any other value is
--- the set of that value alone
 pub member-some : (l m : List ℕ) (v : ℕ) → (v ≡ 0 → ⊥) → m ≡ addSet l (2 ^ v) → m ≡ addSet l (memberOf v)
 unfolding memberOf
 member-some l m v e h = h ∙ ap (addSet l) (sym (ap (λ (b : Bool). elim b [ true ↦ 0 | false ↦ 2 ^ v ]) (ne-eqb v 0 e)))

@@ -32,20 +32,17 @@ use Rattle.image_decode.specs.Decoded.{after, decodedValue, decodedValue
 -- ---- lists and tables
 
 -- every record done keeps the length of the list, so all do
--- a lent slice keeps its own
 pub after-length : (g : ℕ → List ℕ → List ℕ) → ((k : ℕ) (c : List ℕ) → length (g k c) ≡ length c) → (n : ℕ) (c : List ℕ) → length (after g n c) ≡ length c
 unfolding after
 after-length g h zero c = refl
 after-length g h (suc n) c = h n (after g n c) ∙ after-length g h n c
 
 -- a table with an entry written, read there
--- it is the entry
 at-same : {A : Type 0} (f : ℕ → A) (i j : ℕ) (x : A) → i ≡ j → at f i x j ≡ x
 unfolding at
 at-same f i j x e = ap (λ (b : Bool). elim b [ true ↦ x | false ↦ f j ]) (eq-eqb i j e)
 
 -- and read elsewhere
--- it is as it was
 at-other : {A : Type 0} (f : ℕ → A) (i j : ℕ) (x : A) → (i ≡ j → ⊥) → at f i x j ≡ f j
 unfolding at
 at-other f i j x e = ap (λ (b : Bool). elim b [ true ↦ x | false ↦ f j ]) (ne-eqb i j e)
@@ -61,13 +58,11 @@ zero-word (suc m) (suc k) = zero-word m k
 -- ---- values
 
 -- zeros hold no value
--- the table before
 pub no-value : (m v : ℕ) → valueAt (zeros m) v ≡ none
 unfolding valueAt cellOf
 no-value m v = ap cellOf (zero-word m v)
 
 -- a value put keeps the length of the table
--- one word is written
 pub value-length : (im : Image) (k : ℕ) (vs : List ℕ) → length (decodedValue im k vs) ≡ length vs
 unfolding decodedValue
 value-length im k vs = put-length vs (valueNumber im k) (mk (kindAt (valueKind im k)) (valueReasons im k))
@@ -96,7 +91,6 @@ values-back im vs z (suc n) r v =
 -- ---- sets
 
 -- zeros hold no set
--- no identifier is defined before
 pub no-set : (m i : ℕ) → setAt (zeros m) i ≡ none
 unfolding setAt rowNumber number
 no-set m i = ap (λ (x : ℕ). marked (x % 2) x) (none-in 16 (i * 16))
@@ -136,13 +130,11 @@ bits-even rs i = go (setAt rs i) refl
     go (some s) e = sym (bit-low s) ∙ set-zero rs i s e
 
 -- the bits of a set, said twice
--- the transfer and the rows each have their own
 same-bits : (o : Option ℕ) → bitsOf o ≡ State.bitsOf o
 same-bits none = refl
 same-bits (some s) = refl
 
 -- the union that a pair stores
--- as a row holds it
 pair-stored : (n : ℕ) (rs : List ℕ) (i v : ℕ) → Fit n rs → i < n → v < 1024 → setAt (putSet rs i (bitOr (bitsOf (setAt rs i)) (memberOf v))) i ≡ some (bitOr (bitsOf (setAt rs i)) (memberOf v))
 pair-stored n rs i v f h l =
     let s : ℕ = bitOr (bitsOf (setAt rs i)) (memberOf v) in
@@ -152,14 +144,12 @@ pair-stored n rs i v f h l =
     set-same n rs i s f h (or-lt 1024 (bitsOf (setAt rs i)) (memberOf v) (bits-small rs i) (member-small v l)) ∙ ap some (let z : s - s % 2 ≡ s = omega arith in z)
 
 -- a pair put keeps the length of the rows
--- sixteen words are written, or none
 pair-fits : (im : Image) (m n : ℕ) (ss : List ℕ) → Fit m ss → Fit m (after (decodedPair im) n ss)
 unfolding after decodedPair
 pair-fits im m zero ss f = f
 pair-fits im m (suc n) ss f = fit-set m (after (decodedPair im) n ss) _ _ (pair-fits im m n ss f)
 
 -- one pair more is read back, where those before are
--- the row of its identifier changes, and no other
 pair-back : (im : Image) (m n : ℕ) (rs : List ℕ) → Fit m rs → pairIdentifier im n < m → pairValue im n < 1024 → ((x : ℕ) → setAt rs x ≡ setTable im n x) → (i : ℕ) → setAt (decodedPair im n rs) i ≡ setTable im (suc n) i
 unfolding setTable decodedPair withPair
 pair-back im m n rs f h l before i =
@@ -180,7 +170,6 @@ pair-back im m n rs f h l before i =
     v = pairValue im n
 
 -- the pairs of an image in range are read back as its table of sets
--- each identifier has a row, and each value a bit
 pub sets-back : (im : Image) (m : ℕ) (ss : List ℕ) → Fit m ss → ((x : ℕ) → setAt ss x ≡ none) → (n : ℕ) → ((k : ℕ) → k < n → (pairIdentifier im k < m) × (pairValue im k < 1024))
     → (i : ℕ) → setAt (decodedSets im n ss) i ≡ setTable im n i
 unfolding decodedSets after setTable

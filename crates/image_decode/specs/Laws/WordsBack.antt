@@ -19,7 +19,6 @@ use Rattle.image_decode.specs.Laws.ContextBack.{identifier-length, heade
 use Rattle.image_decode.specs.Laws.PlacesBack.{word-back, word-beside}
 
 -- what each record leaves, all leave
--- a word read before and after
 after-kept : (read : List ℕ → ℕ) (g : ℕ → List ℕ → List ℕ) → ((k : ℕ) (c : List ℕ) → read (g k c) ≡ read c) → (n : ℕ) (c : List ℕ) → read (after g n c) ≡ read c
 unfolding after
 after-kept read g h zero c = refl
@@ -28,12 +27,10 @@ after-kept read g h (suc n) c = h n (after g n c) ∙ after-kept read g h n c
 -- ---- words outside of the tables
 
 -- whether a word stands outside of a table
--- before it, or past its end
 abbrev pub Outside : Table → ℕ → Type 0
 Outside t p = (p < t .base) ⊎ (end t ≤ p)
 
 -- an identifier leaves a word outside of the identifiers
--- four words are written
 identifier-outside : (im : Image) (p : ℕ) → Outside Lent.identifiers p → (k : ℕ) (c : List ℕ) → getD (decodedIdentifier im k c) p 0 ≡ getD c p 0
 unfolding decodedIdentifier
 identifier-outside im p o k c =
@@ -43,7 +40,6 @@ identifier-outside im p o k c =
     ∙ put-outside Lent.identifiers c k 0 (identifierFlags im k) p o
 
 -- a function leaves a word outside of both its tables
--- flags, counts and two runs of places
 function-outside : (im : Image) (p : ℕ) → Outside Lent.functions p → Outside Lent.contexts p → (k : ℕ) (c : List ℕ) → getD (decodedFunction im k c) p 0 ≡ getD c p 0
 unfolding decodedFunction decodedCounts
 function-outside im p o q k c =
@@ -78,7 +74,6 @@ module _ (im : Image) (c : List ℕ) (held : 3 ≤ length c) where
   early p l = word-kept im c p (inl (let z : p < 3 = l in z)) (inl (let z : p < 2051 = omega arith in z)) (inl (let z : p < 12485 = omega arith in z))
 
   -- the options
-  -- either makes a freeze transitive
   pub options-back : getD (decodedContext im c) Lent.options 0 ≡ options im
   unfolding decodedHeader
   options-back =
@@ -88,7 +83,6 @@ module _ (im : Image) (c : List ℕ) (held : 3 ≤ length c) where
       ∙ getD-set-same c 0 (options im) 0 (omega arith)
 
   -- the count of identifiers
-  -- as the header of the image says
   pub identifier-count-back : getD (decodedContext im c) Lent.identifierCount 0 ≡ countOf im identifiers
   unfolding decodedHeader
   identifier-count-back =
@@ -98,7 +92,6 @@ module _ (im : Image) (c : List ℕ) (held : 3 ≤ length c) where
       (let z : length (set c 0 (options im)) ≡ length c = length-set c 0 (options im) in let y : 1 < length (set c 0 (options im)) = omega arith in y)
 
   -- the count of functions
-  -- as the header of the image says
   pub function-count-back : getD (decodedContext im c) Lent.functionCount 0 ≡ countOf im functions
   unfolding decodedHeader
   function-count-back =
@@ -112,37 +105,30 @@ module _ (im : Image) (c : List ℕ) (held : 3 ≤ length c) where
 
 module _ (im : Image) (k : ℕ) (c : List ℕ) (row : k < 512) (held : 2051 ≤ length c) where
   -- the list after the first word
-  -- the flags
   abbrev one : List ℕ
   one = putField Lent.identifiers c k 0 (identifierFlags im k)
 
   -- and after the second
-  -- the name
   abbrev two : List ℕ
   two = putField Lent.identifiers one k 1 (identifierName im k)
 
   -- and after the third
-  -- where the access starts
   abbrev three : List ℕ
   three = putField Lent.identifiers two k 2 (accessStart im k)
 
   -- a word of the record that was written
-  -- of a list as long as c
   written : (d : List ℕ) (w x : ℕ) → length d ≡ length c → w < 4 → field Lent.identifiers (putField Lent.identifiers d k w x) k w ≡ x
   written d w x e l = word-back Lent.identifiers k d w x row l (let z : 3 + k * 4 + 4 ≤ length d = omega arith in z)
 
   -- the first write keeps the length
-  -- one word is written
   one-long : length one ≡ length c
   one-long = put-length Lent.identifiers c k 0 (identifierFlags im k)
 
   -- so does the second
-  -- one word more
   two-long : length two ≡ length c
   two-long = put-length Lent.identifiers one k 1 (identifierName im k) ∙ one-long
 
   -- so does the third
-  -- one word more
   three-long : length three ≡ length c
   three-long = put-length Lent.identifiers two k 2 (accessStart im k) ∙ two-long
 
@@ -164,7 +150,6 @@ module _ (im : Image) (k : ℕ) (c : List ℕ) (row : k < 512) (held : 2051 ≤ 
   word-of (suc (suc (suc (suc w)))) l = absurd (omega arith)
 
 -- an identifier leaves the words of another
--- records of one table are apart
 identifier-other : (im : Image) (k j : ℕ) (c : List ℕ) (w : ℕ) → (k ≡ j → ⊥) → field Lent.identifiers (decodedIdentifier im k c) j w ≡ field Lent.identifiers c j w
 unfolding decodedIdentifier
 identifier-other im k j c w n =
@@ -174,7 +159,6 @@ identifier-other im k j c w n =
     ∙ put-record Lent.identifiers c k 0 (identifierFlags im k) j w n
 
 -- each of the first n identifiers is read back
--- by the records done so far
 identifier-back : (im : Image) (c : List ℕ) → 2051 ≤ length c → (n : ℕ) → n ≤ 512 → (j w : ℕ) → j < n → w < 4 → field Lent.identifiers (after (decodedIdentifier im) n c) j w ≡ cell im identifiers j w
 unfolding after
 identifier-back im c h zero m j w l q = absurd (omega arith)
@@ -190,7 +174,6 @@ identifier-back im c h (suc n) m j w l q =
     (eq-or-lt-of-le (let z : j ≤ n = omega arith in z))
 
 -- a function leaves the identifiers
--- the tables are apart
 function-apart : (im : Image) (j w k : ℕ) (c : List ℕ) → field Lent.identifiers (decodedFunction im k c) j w ≡ field Lent.identifiers c j w
 unfolding decodedFunction decodedCounts apart end
 function-apart im j w k c =

@@ -45,26 +45,22 @@ use Rattle.image_infer.specs.Inferring.{empty, setWords, candidateWords,
 -- ---- what is shown of a call
 
 -- what is shown where a refusal has a number
--- it prints only that
 refused-shown : (a : Applied) (vs ss cs os s64 s32 : List ℕ) (c : Call) → given a vs ss cs os s64 s32 ≡ outcome c → (a .refusal ≡ 0 → ⊥) → lentRefusal (a .refusal) ≡ shown (outcome c)
 unfolding shown lentRefusal
 refused-shown a vs ss cs os s64 s32 c h n =
     sym (ite-ne (a .refusal) 0 (lentListing os (a .count) (a .entries) vs ss (a .session .access)) (refusalLine (a .refusal)) n) ∙ ap shown h
 
 -- what is shown where there is none
--- the listing of all that the call left
 listing-shown : (a : Applied) (vs ss cs os s64 s32 : List ℕ) (c : Call) → given a vs ss cs os s64 s32 ≡ outcome c → a .refusal ≡ 0 → lentListing os (a .count) (a .entries) vs ss (a .session .access) ≡ shown (outcome c)
 unfolding shown
 listing-shown a vs ss cs os s64 s32 c h n =
     sym (ite-eq (a .refusal) 0 (lentListing os (a .count) (a .entries) vs ss (a .session .access)) (refusalLine (a .refusal)) n) ∙ ap shown h
 
 -- a text that is another is written as that one
--- and as long
 as-text : {s t : List ℕ} {d e : Cursor} → s ≡ t → Writes s d e → Writes t d e
 as-text {s} {t} {d} {e} h w = record { bytes = w .bytes ∙ ap (λ (l : List ℕ). putAll l d) h; suffices = let k = ap length h in let m = w .suffices in omega arith }
 
 -- no call answers with more than 1,120 effects
--- one that a class refuses answers with none
 count-most : (c : Call) → c .session .entries ≤ 4294967295 → outcome c .applied .count ≤ 1120
 unfolding outcome
 count-most c h =
@@ -79,7 +75,6 @@ pub shows-refused : (a : Applied) (vs ss cs os s64 s32 : List ℕ) (c : Call) (d
 shows-refused a vs ss cs os s64 s32 c d e h n p = as-text (refused-shown a vs ss cs os s64 s32 c h n) (record { bytes = p .0; suffices = p .1 })
 
 -- a call that ends: its listing
--- the other way
 pub shows-listing : (a : Applied) (vs ss cs os s64 s32 : List ℕ) (c : Call) (d e : Cursor) → given a vs ss cs os s64 s32 ≡ outcome c → a .refusal ≡ 0 → c .session .entries ≤ 4294967295
     → (e ≡ putAll (lentListing os (a .count) (a .entries) vs ss (a .session .access)) d) × (a .count ≤ 1120 → length (lentListing os (a .count) (a .entries) vs ss (a .session .access)) ≤ 2900000)
     → Writes (shown (outcome c)) d e
@@ -99,7 +94,6 @@ module _ (vs ss : List ℕ) (flag : Bool) (cs : List ℕ) (s : Session) (xs : Li
   bare = call vs ss flag cs s xs p own [] [] []
 
   -- its class, with memory of given lengths
-  -- lengths are all that is tested of memory
   class : ℕ → ℕ → ℕ → ℕ
   class a b d =
       lower (earns 1 (lengthsWrong (length ss) (length cs) (length xs) a b d))
@@ -108,7 +102,6 @@ module _ (vs ss : List ℕ) (flag : Bool) (cs : List ℕ) (s : Session) (xs : Li
       (instructionClass (States.identifiers ss) (getD cs Layout.functionCount 0) cs xs (candidateCount xs) p own)))
 
   -- refused, with memory of given lengths
-  -- all of it zero
   refuses : ℕ → ℕ → ℕ → ℕ → Outcome
   refuses n a b d = given (record { refusal = n; count = 0; entries = 0; session = s; flag = flag }) vs ss cs (zeros a) (zeros b) (zeros d)
 
@@ -121,14 +114,12 @@ module _ (vs ss : List ℕ) (flag : Bool) (cs : List ℕ) (s : Session) (xs : Li
   ends a b d (refused n w) = refuses n a b d
 
   -- it is what `concluded` has, by the two ways in which a transfer ends
-  -- with the lengths of the memory in hand
   ends-is : (os s64 s32 : List ℕ) (r : Res (World lent) Done) → concluded (call vs ss flag cs s xs p own os s64 s32) r ≡ ends (length os) (length s64) (length s32) r
   unfolding ends refuses
   ends-is os s64 s32 (ok x w) = refl
   ends-is os s64 s32 (refused n w) = refl
 
   -- the beginning does not matter for the output list
-  -- it is cleared first
   begins : (os s64 s32 : List ℕ) → applySignature (lentInstruction bare) (lentWorld (call vs ss flag cs s xs p own os s64 s32)) ≡ applySignature (lentInstruction bare) (lentWorld bare)
   unfolding applySignature startInstruction change _>>_ _>>=_ andThen atomically
   begins os s64 s32 = refl
@@ -143,7 +134,6 @@ module _ (vs ss : List ℕ) (flag : Bool) (cs : List ℕ) (s : Session) (xs : Li
       ∙ ap (ends (length os) (length s64) (length s32)) (begins os s64 s32))
 
   -- two calls that differ in what their memory holds come to the same
-  -- their lengths are equal
   pub memory-same : (os ps s64 t64 s32 t32 : List ℕ) → length os ≡ length ps → length s64 ≡ length t64 → length s32 ≡ length t32
       → outcome (call vs ss flag cs s xs p own os s64 s32) ≡ outcome (call vs ss flag cs s xs p own ps t64 t32)
   memory-same os ps s64 t64 s32 t32 h g f =
@@ -185,13 +175,11 @@ module _ (o p q b : ℕ) where
   wrong-output h = wrong-here o 109760 _ h
 
   -- scratch for a state has
-  -- the output list is right
   pub wrong-64 : o ≡ 109760 → (p ≡ 9216 → ⊥) → true ≡ memoryWrong o p q b
   unfolding memoryWrong
   wrong-64 g h = wrong-here p 9216 _ h ∙ right-here o 109760 _ g
 
   -- scratch for a context has
-  -- the output list and the other scratch are right
   pub wrong-32 : o ≡ 109760 → p ≡ 9216 → (q ≡ 22786 → ⊥) → true ≡ memoryWrong o p q b
   unfolding memoryWrong
   wrong-32 f g h = wrong-here q 22786 _ h ∙ right-here p 9216 _ g ∙ right-here o 109760 _ f
@@ -203,7 +191,6 @@ module _ (o p q b : ℕ) where
   wrong-buffer e f g = right-here q 22786 _ g ∙ right-here p 9216 _ f ∙ right-here o 109760 _ e
 
   -- memory of the right lengths
-  -- what is not wrong
   pub memory-right : memoryWrong o p q b ≡ false → (o ≡ 109760) × (p ≡ 9216) × (q ≡ 22786)
   unfolding memoryWrong
   memory-right h =
@@ -215,7 +202,6 @@ module _ (o p q b : ℕ) where
       )
 
 -- tables of the right lengths
--- what is not wrong
 pub lent-right : (w v s c x : ℕ) → lentWrong w v s c x ≡ false → (v ≡ 1024) × (s ≡ 8192) × (c ≡ Layout.long) × (x ≡ 6272)
 unfolding lentWrong
 lent-right w v s c x h =
@@ -237,7 +223,6 @@ first-not true k n h e = absurd (h e)
 first-not false k n h e = refl
 
 -- and then the rest decides
--- it earns none either
 rest-not : (b : Bool) (k n : ℕ) → (k ≡ 0 → ⊥) → _≡_ {A = ℕ} (elim b [ true ↦ k | false ↦ n ]) 0 → n ≡ 0
 rest-not true k n h e = absurd (h e)
 rest-not false k n h e = e
@@ -263,17 +248,14 @@ few bs h =
 -- one law for each way through `list_image`
 module _ (bs : List ℕ) (w : ℕ) (vs ss cs xs : List ℕ) (o p q b : ℕ) where
   -- the tables as they are lent
-  -- under one name
   abbrev t : Tables
   t = tables vs ss cs xs
 
   -- what is to be written
-  -- by the lengths of all that is lent
   abbrev text : List ℕ
   text = written bs w (length vs) (length ss) (length cs) (length xs) o p q b
 
   -- whether a table has the wrong length
-  -- as where the image is read
   abbrev wrong : Bool
   wrong = lentWrong w (length vs) (length ss) (length cs) (length xs)
 
@@ -284,13 +266,11 @@ module _ (bs : List ℕ) (w : ℕ) (vs ss cs xs : List ℕ) (o p q b : ℕ) wher
   lists-memory d e h g = as-text (ap (λ (x : Bool). ite (x || wrong) (refusalLine 1) (inferred bs)) h) (record { bytes = g .0; suffices = g .1 })
 
   -- memory of the right lengths: the tables and the image decide
-  -- as they do where the image is read
   text-read : false ≡ memoryWrong o p q b → text ≡ ite wrong (refusalLine 1) (inferred bs)
   unfolding written
   text-read h = ap (λ (x : Bool). ite (x || wrong) (refusalLine 1) (inferred bs)) (sym h)
 
   -- the number of what was read, where it is refused
-  -- the class of all that was lent
   read-number : (r : Read) → r ≡ readImage bs w t → (r .job .refusal ≡ 0 → ⊥) → r .job .refusal ≡ readClass bs w t
   unfolding readImage noJob jobOf
   read-number r h n =
@@ -300,7 +280,6 @@ module _ (bs : List ℕ) (w : ℕ) (vs ss cs xs : List ℕ) (o p q b : ℕ) wher
       (same-or-not (readClass bs w t) 0)
 
   -- and where it is not, no class was earned
-  -- a refused job has its class as its number
   read-class : (r : Read) → r ≡ readImage bs w t → r .job .refusal ≡ 0 → readClass bs w t ≡ 0
   unfolding readImage noJob jobOf
   read-class r h n =
@@ -320,13 +299,11 @@ module _ (bs : List ℕ) (w : ℕ) (vs ss cs xs : List ℕ) (o p q b : ℕ) wher
       go false h = ap refusalLine h ∙ sym (ite-ne (refusalOf bs) 0 _ _ (λ y. z (h ∙ y)))
 
   -- a refused image: its number
-  -- the tables are as they were
   pub lists-refused : (r : Read) (d e : Cursor) → false ≡ memoryWrong o p q b → r ≡ readImage bs w t → (r .job .refusal ≡ 0 → ⊥) → (e ≡ putAll (lentRefusal (r .job .refusal)) d) × (length (lentRefusal (r .job .refusal)) ≤ 2900000) → Writes text d e
   unfolding lentRefusal
   lists-refused r d e m h n g = as-text (by-number (r .job .refusal) (read-number r h n) n ∙ sym (text-read m)) (record { bytes = g .0; suffices = g .1 })
 
   -- an accepted image, with tables of the right lengths
-  -- both follow where no class was earned
   accepted : readClass bs w t ≡ 0 → (wrong ≡ false) × (refusalOf bs ≡ 0)
   unfolding readClass
   accepted h = go wrong h
@@ -336,7 +313,6 @@ module _ (bs : List ℕ) (w : ℕ) (vs ss cs xs : List ℕ) (o p q b : ℕ) wher
       go false e = (refl, e)
 
   -- tables of the right lengths are filled as empty ones are
-  -- only their lengths count
   filled-empty : (im : Image) → wrong ≡ false → filled im t ≡ filled im empty
   unfolding filled
   filled-empty im h =
@@ -348,19 +324,16 @@ module _ (bs : List ℕ) (w : ℕ) (vs ss cs xs : List ℕ) (o p q b : ℕ) wher
       rw (a, d, e, f)
 
   -- an accepted image was read whole
-  -- its job and its tables
   read-whole : (r : Read) → r ≡ readImage bs w t → readClass bs w t ≡ 0 → r ≡ record { job = jobOf (wordsOf bs); tables = filled (wordsOf bs) t }
   unfolding readImage
   read-whole r h n = h ∙ ite-eq (readClass bs w t) 0 _ _ n
 
   -- the listing of an accepted image
-  -- what its call comes to
   text-job : false ≡ memoryWrong o p q b → wrong ≡ false → refusalOf bs ≡ 0 → text ≡ shown (outcome (imageCall (wordsOf bs)))
   unfolding inferred
   text-job m h g = text-read m ∙ ap (λ (x : Bool). ite x (refusalLine 1) (inferred bs)) h ∙ ite-eq (refusalOf bs) 0 _ _ g
 
   -- an accepted image: its call, and what is shown of it
-  -- the tables that were read have room for it
   pub lists-job : (r : Read) (os s64 s32 : List ℕ) (d e : Cursor) → false ≡ memoryWrong o p q b → o ≡ length os → p ≡ length s64 → q ≡ length s32 → r ≡ readImage bs w t → r .job .refusal ≡ 0
       → length (r .tables .sets) ≡ length ss → length (r .tables .candidates) ≡ length xs
       → (Fits (r .tables .sets) (r .tables .candidates) s64 (r .job) → length os ≡ 109760 → length s32 ≡ 22786 → Writes (shown (outcome (jobCall (r .job) (r .tables)))) d e)

@@ -9,19 +9,16 @@ use borrow.Author.Tests.{lt-ltb, le-ltb}
 use Rattle.def_image.specs.Listing.{digit, decimalBefore, decimal}
 
 -- the digits of n in front of others, below ten
--- the fuel does not matter
 before-small : (f n : ℕ) (l : List ℕ) → n < 10 → decimalBefore (suc f) n l ≡ digit n ∷ l
 unfolding decimalBefore
 before-small f n l h = rw (decimalBefore, lt-ltb n 10 h)
 
 -- from ten on
--- the last digit is written first
 before-large : (f n : ℕ) (l : List ℕ) → 10 ≤ n → decimalBefore (suc f) n l ≡ decimalBefore f (n / 10) (digit (n % 10) ∷ l)
 unfolding decimalBefore
 before-large f n l h = rw (decimalBefore, le-ltb n 10 h)
 
 -- digits in front of others are the digits, then the others
--- by the fuel
 before-append : (f n : ℕ) (l m : List ℕ) → decimalBefore f n (l ++ m) ≡ decimalBefore f n l ++ m
 unfolding decimalBefore
 before-append zero n l m = refl
@@ -31,7 +28,6 @@ before-append (suc f) n l m =
     (lt-or-ge n 10)
 
 -- more fuel changes nothing
--- a number is above its tenth
 before-fuel : (f g n : ℕ) (l : List ℕ) → n < f → n < g → decimalBefore f n l ≡ decimalBefore g n l
 before-fuel zero g n l p q = absurd (omega arith)
 before-fuel (suc f) zero n l p q = absurd (omega arith)
@@ -47,7 +43,6 @@ unfolding decimal
 decimal-small n h = before-small n n [] h
 
 -- the digits of the tenth, and the last one
--- the other way
 pub decimal-large : (n : ℕ) → 10 ≤ n → decimal n ≡ decimal (n / 10) ++ (digit (n % 10) ∷ [])
 unfolding decimal
 decimal-large n h =

@@ -13,13 +13,11 @@ use Rattle.def_image.specs.Listing.{digit, decimal, shown, shownAll, line, line
 use Rattle.image_listing.specs.Laws.Decimals.{decimal-small, decimal-large}
 
 -- ten as often as k says, multiplied
--- a number below it has at most k digits
 unfoldable pub ten : ℕ → ℕ
 ten zero = 1
 ten (suc k) = 10 * ten k
 
 -- a number below ten to the k has at most k digits
--- by its tenth
 pub digits : (k n : ℕ) → n < ten (suc k) → length (decimal n) ≤ suc k
 unfolding ten
 digits zero n h =
@@ -36,7 +34,6 @@ digits (suc k) n h =
     (lt-or-ge n 10)
 
 -- a word of 32 bits has at most ten digits, a value number four
--- both as the law above asks for it
 word-below : (n : ℕ) → n < 4294967296 → n < ten 10
 unfolding ten
 word-below n h = omega arith
@@ -46,20 +43,17 @@ unfolding ten
 value-below v h = omega arith
 
 -- a number of 32 bits, or none
--- what the columns of a line hold
 abbrev pub Small : Option ℕ → Type 0
 Small none = Unit {0}
 Small (some n) = n < 4294967296
 
 -- such a number has at most ten digits
--- a dash is shorter
 pub shown-small : (x : Option ℕ) → Small x → length (shown x) ≤ 10
 unfolding shown
 shown-small none h = omega arith
 shown-small (some n) h = digits 9 n (word-below n h)
 
 -- the columns of a line, eleven bytes each, and its end
--- a blank before each number
 pub columns-small : (xs : List (Option ℕ)) → All Small xs → length (shownAll xs) ≤ 11 * length xs + 1
 unfolding shownAll
 columns-small [] a = omega arith
@@ -70,7 +64,6 @@ columns-small (x ∷ xs) a =
     omega arith
 
 -- the values of a set, five bytes each, and the end of the line
--- value numbers have at most four digits
 pub values-small : (l : List ℕ) → All (λ v. v < 1024) l → length (shownAll (map some l)) ≤ 5 * length l + 1
 unfolding shownAll shown
 values-small [] a = omega arith
@@ -81,20 +74,17 @@ values-small (v ∷ l) a =
     omega arith
 
 -- the same with the dash of an empty set
--- it takes two bytes
 pub absent-small : (l : List ℕ) → All (λ v. v < 1024) l → length (shownAll (orAbsent l)) ≤ 5 * length l + 3
 unfolding shownAll shown
 absent-small [] a = omega arith
 absent-small (v ∷ l) a = let i = values-small (v ∷ l) a in omega arith
 
 -- a line is its word and its columns
--- with the end of the line
 pub line-length : (w : List ℕ) (xs : List (Option ℕ)) → length (line w xs) ≡ length w + length (shownAll xs)
 unfolding line
 line-length w xs = length-append w (shownAll xs)
 
 -- n lines of at most b bytes
--- from any number on
 pub lines-length : (f : ℕ → List ℕ) (b m n k : ℕ) → n + k ≤ m → ((j : ℕ) → j < m → length (f j) ≤ b) → length (linesFrom n k f) ≤ n * b
 unfolding linesFrom
 lines-length f b m zero k l h = omega arith

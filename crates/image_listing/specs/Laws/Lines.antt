@@ -14,19 +14,16 @@ use Rattle.image_listing.specs.Texts.{Cursor, putAll, column, lentRefusa
 use Rattle.image_listing.specs.Laws.Text.{then-put}
 
 -- the end of a line
--- after its last column
 pub line-end : (c d : Cursor) → d ≡ putAll (newline ∷ []) c → d ≡ putAll (shownAll []) c
 unfolding shownAll
 line-end c d p = p
 
 -- a column, then the others
--- each is a blank and what is shown
 pub line-column : (x : Option ℕ) (xs : List (Option ℕ)) (c d e : Cursor) → d ≡ putAll (column x) c → e ≡ putAll (shownAll xs) d → e ≡ putAll (shownAll (x ∷ xs)) c
 unfolding column shownAll
 line-column x xs c d e p q = then-put (column x) (shownAll xs) c d e p q
 
 -- a word, then the columns
--- a line
 pub line-word : (w : List ℕ) (xs : List (Option ℕ)) (c d e : Cursor) → d ≡ putAll w c → e ≡ putAll (shownAll xs) d → e ≡ putAll (line w xs) c
 unfolding line
 line-word w xs c d e p q = then-put w (shownAll xs) c d e p q
@@ -71,7 +68,6 @@ unfolding valueLine putAll
 value-absent v x o c h e = sym (ap (λ (y : Option AbstractValue). putAll (valueLine v y) c) (sym h ∙ ap Cells.optionOf e))
 
 -- one with an entry
--- the other way
 pub value-present : (v : ℕ) (x : Entry) (a : AbstractValue) (o : Option AbstractValue) (c d : Cursor) → Cells.optionOf x ≡ o → x ≡ Present a → d ≡ putAll (valueLine v (some a)) c → d ≡ putAll (valueLine v o) c
 value-present v x a o c d h e p = p ∙ sym (ap (λ (y : Option AbstractValue). putAll (valueLine v y) c) (sym h ∙ ap Cells.optionOf e))
 

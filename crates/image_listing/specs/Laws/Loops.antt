@@ -23,7 +23,6 @@ use Rattle.image_listing.specs.Laws.Lines.{line-word, line-column}
 -- ---- counted lines
 
 -- the lines of one number more
--- a turn of a loop that counts
 pub lines-step : (f : ℕ → List ℕ) (n k : ℕ) (z c d : Cursor) → k < n → d ≡ putAll (f k) c → putAll (linesFrom (n - k) k f) c ≡ z → putAll (linesFrom (n - (k + 1)) (k + 1) f) d ≡ z
 unfolding linesFrom
 lines-step f n k z c d h p e =
@@ -74,14 +73,12 @@ effect-is e h xs c d q r p =
     p ∙ ap (λ (y : List (Option ℕ)). putAll (line (ascii "E") y) c) r ∙ sym (ap (λ (y : Head). putAll (headLine y) c) q)
 
 -- a Mutate, whose reason may be none
--- the one that is left
 pub mutate-is : (e : Head) (p : Place) (r : ℕ) (o : Option ℕ) (c d : Cursor) → e ≡ Head.Mutate p r → o ≡ mutationReason r → d ≡ putAll (line (ascii "E") (row 1 (place p) none none o none)) c → d ≡ putAll (headLine e) c
 unfolding effectWith
 mutate-is e p r o c d q m y =
     effect-is e (Head.Mutate p r) (row 1 (place p) none none o none) c d q (ap (λ (x : Option ℕ). row 1 (place p) none none x none) m) y
 
 -- the line of one effect more
--- a turn of the loop over the output list
 pub effects-step : (os : List ℕ) (n k : ℕ) (h : Head) (z c d : Cursor) → k < n → h ≡ headIn output os k → d ≡ putAll (headLine h) c → putAll (effectLines (effectsIn output os k (n - k))) c ≡ z → putAll (effectLines (effectsIn output os (k + 1) (n - (k + 1)))) d ≡ z
 unfolding effectLines effectsIn effectIn headLine
 effects-step os n k h z c d l q p e =
@@ -103,7 +100,6 @@ effects-end os n k d c h e =
     sym (ap (λ (x : ℕ). putAll (effectLines (effectsIn output os k x)) c) m) ∙ e ∙ ap (λ (x : ℕ). putAll (effectLines (effectsIn output os 0 x)) d) z
 
 -- as many effects as the count says
--- the first line shows their number
 pub effects-length : (os : List ℕ) (k n : ℕ) → length (effectsIn output os k n) ≡ n
 unfolding effectsIn
 effects-length os k zero = refl
@@ -112,7 +108,6 @@ effects-length os k (suc n) = ap suc (effects-length os (suc k) n)
 -- ---- sets
 
 -- columns and the end of a line
--- what is shown of a list
 pub shown-columns : (xs : List (Option ℕ)) (c d e : Cursor) → d ≡ putAll (columns xs) c → e ≡ putAll (newline ∷ []) d → e ≡ putAll (shownAll xs) c
 unfolding shownAll columns putAll
 shown-columns [] c d e p q = q ∙ ap (putAll (newline ∷ [])) p
@@ -120,7 +115,6 @@ shown-columns (x ∷ xs) c d e p q =
     line-column x xs c (putAll (column x) c) e refl (shown-columns xs (putAll (column x) c) d e (p ∙ put-append (column x) (columns xs) c) q)
 
 -- the values of a set that is there
--- as a walk over its members has them
 values-of : (o : Option ℕ) → isSome o ≡ true → valuesOf o ≡ members (bitsOf o)
 values-of none h = absurd (let z : _≡_ {A = ℕ} 0 1 = cc in omega arith)
 values-of (some s) h = refl
@@ -141,7 +135,6 @@ module _ (ss : List ℕ) (i : ℕ) where
       p ∙ sym (ap (λ (m : List ℕ). putAll (columns (orAbsent m)) c) (values-of (setAt ss i) h ∙ w .1 ∙ walk-end ss i _ u (w .0) l))
 
   -- any other has them from the lowest on
-  -- the loop begins
   pub members-start : (u : ℕ) (c : Cursor) → isSome (setAt ss i) ≡ true → u ≡ nextMember ss i 1 → u < 1024 → putAll (columns (map some (left (bitsOf (setAt ss i)) u))) c ≡ putAll (columns (orAbsent (valuesOf (setAt ss i)))) c
   members-start u c h e l =
       let w = walk-start ss i u h e in
@@ -150,7 +143,6 @@ module _ (ss : List ℕ) (i : ℕ) where
       ∙ sym (ap (λ (m : List ℕ). putAll (columns (orAbsent m)) c) (values-of (setAt ss i) h ∙ w .1 ∙ n))
 
   -- one value more
-  -- a turn of the loop
   pub members-step : (v u : ℕ) (z c d : Cursor) → Walk ss i (bitsOf (setAt ss i)) v → v < 1024 → u ≡ nextMember ss i (v + 1) → d ≡ putAll (column (some v)) c → putAll (columns (map some (left (bitsOf (setAt ss i)) v))) c ≡ z → putAll (columns (map some (left (bitsOf (setAt ss i)) u))) d ≡ z
   unfolding columns
   members-step v u z c d w l e p q =
@@ -172,7 +164,6 @@ unfolding setLine putAll
 set-absent i o c h = sym (ap (λ (x : Option ℕ). putAll (setLine i x) c) (none-of o h))
 
 -- any other has one
--- the other way
 pub set-is : (i : ℕ) (o : Option ℕ) (c c0 c1 c2 e : Cursor) → isSome o ≡ true → c0 ≡ putAll (80 ∷ []) c → c1 ≡ putAll (column (some i)) c0 → c2 ≡ putAll (columns (orAbsent (valuesOf o))) c1 → e ≡ putAll (newline ∷ []) c2 → e ≡ putAll (setLine i o) c
 unfolding setLine ascii
 set-is i none c c0 c1 c2 e h p0 p1 p2 p3 = absurd (let z : _≡_ {A = ℕ} 0 1 = cc in omega arith)

@@ -44,6 +44,5 @@ pub column-absent : (x : Found) (c d : Cursor) → x ≡ Nowhere → d ≡ putAl
 column-absent x c d e p = p ∙ sym (ap (λ (y : Found). putAll (column (optionOf y)) c) e)
 
 -- a column with a number
--- the other way
 pub column-present : (x : Found) (n : ℕ) (c d : Cursor) → x ≡ At n → d ≡ putAll (column (some n)) c → d ≡ putAll (column (optionOf x)) c
 column-present x n c d e p = p ∙ sym (ap (λ (y : Found). putAll (column (optionOf y)) c) e)

@@ -35,12 +35,10 @@ use Rattle.image_listing.specs.Laws.Loops.{not-shown, effects-length}
 -- ---- effects
 
 -- every word of a list is one of 32 bits
--- a lent list of words is so
 abbrev pub Words : List ℕ → Type 0
 Words c = (j : ℕ) → getD c j 0 < 4294967296
 
 -- a field of a record is such a word, or 0
--- reading is total
 field-small : (t : Table) (c : List ℕ) (i w : ℕ) → Words c → field t c i w < 4294967296
 unfolding field
 field-small t c i w h = go (within t i w)
@@ -50,7 +48,6 @@ field-small t c i w h = go (within t i w)
     go false = omega arith
 
 -- a mutation reason is the word, or none
--- as it is shown
 reason-small : (r : ℕ) → r < 4294967296 → Small (mutationReason r)
 reason-small zero h = tt
 reason-small (suc r) h = h
@@ -61,14 +58,12 @@ Fits : Head → Type 0
 Fits h = All Small (effectRow (effectWith h []))
 
 -- of what holds of each element and of the default, it holds of the element that is read
--- so of the head that a code picks
 pick-all : (P : Head → Type 0) (l : List Head) (k : ℕ) (d : Head) → All P l → P d → P (getD l k d)
 pick-all P [] k d a p = p
 pick-all P (x ∷ l) zero d a p = a .0
 pick-all P (x ∷ l) (suc k) d a p = pick-all P l k d (a .1) p
 
 -- the head of each record of such a list
--- whatever its code
 head-fits : (t : Table) (c : List ℕ) (i : ℕ) → Words c → Fits (headIn t c i)
 unfolding headIn heads effectWith Fits placeIn
 head-fits t c i h =
@@ -130,7 +125,6 @@ head-fits t c i h =
     f w = field-small t c i w h
 
 -- six columns for every effect
--- a row of a line
 row-length : (h : Head) → length (effectRow (effectWith h [])) ≡ 6
 unfolding effectWith
 row-length (Head.Freeze p r) = refl
@@ -163,7 +157,6 @@ effect-length c i h =
     omega arith
 
 -- so n of them take 68 bytes each
--- from any record on
 effects-small : (c : List ℕ) (k n : ℕ) → Words c → length (effectLines (effectsIn output c k n)) ≤ n * 68
 unfolding effectLines effectsIn
 effects-small c k zero h = omega arith
@@ -176,7 +169,6 @@ effects-small c k (suc n) h =
 -- ---- values and sets
 
 -- the reasons of a cell are a word of 32 bits
--- they are read so
 cell-small : (x : ℕ) (v : ℕ) → v < 1024 → length (valueLine v (cellOf x)) ≤ 35
 unfolding cellOf valueLine ascii
 cell-small x v l = go (eqb (x % 8) 0)
@@ -221,7 +213,6 @@ sets-length ss = lines-length (λ i. setLine i (setAt ss i)) 5135 512 512 0 (ome
 -- ---- the whole
 
 -- an access is a word, so its identifier is one
--- or none
 access-small : (a : ℕ) → a < 4294967296 → Small (undefinedIdentifier a)
 access-small zero h = tt
 access-small (suc a) h = omega arith
@@ -258,7 +249,6 @@ listing-whole os count entries vs ss access r bs us w c n a l p =
     p ∙ put-fits t 0 bs (omega arith) ∙ ap (λ (m : ℕ). cursor m (t ++ drop m bs)) z
 
 -- and what is written of a refusal
--- its number is a word
 pub refusal-suffices : (n : ℕ) → n < 4294967296 → length (lentRefusal n) ≤ 2900000
 unfolding lentRefusal refusalLine ascii
 refusal-suffices n h =

@@ -16,7 +16,6 @@ put-append [] ys c = refl
 put-append (x ∷ xs) ys c = put-append xs ys (putByte x c)
 
 -- the same, for cursors that are known by their texts
--- a path of calls is a chain of it
 pub then-put : (xs ys : List ℕ) (c d e : Cursor) → d ≡ putAll xs c → e ≡ putAll ys d → e ≡ putAll (xs ++ ys) c
 then-put xs ys c d e p q = q ∙ ap (putAll ys) p ∙ sym (put-append xs ys c)
 
@@ -29,13 +28,11 @@ put-inside x k bs h =
     ∙ sym (ite-lt k (length bs) (cursor (suc k) (set bs k x)) (cursor k bs) h)
 
 -- a byte past its end
--- the other way
 pub put-outside : (x k : ℕ) (bs : List ℕ) → length bs ≤ k → cursor k bs ≡ putAll (x ∷ []) (cursor k bs)
 unfolding putAll putByte
 put-outside x k bs h = sym (ite-ge k (length bs) (cursor (suc k) (set bs k x)) (cursor k bs) h)
 
 -- where the text fits, it stands from the cursor on, and the cursor after it
--- the bytes before and after are the old ones
 put-sets : (xs : List ℕ) (k : ℕ) (bs : List ℕ) → k + length xs ≤ length bs → putAll xs (cursor k bs) ≡ cursor (k + length xs) (sets bs k xs)
 unfolding putAll putByte
 put-sets [] k bs h = ap (λ (m : ℕ). cursor m bs) (let e : k ≡ k + 0 = omega arith in e)

@@ -25,7 +25,6 @@ use Rattle.image_read.specs.Reading.{Tables, tables, Read, given, jobOf,
 -- ---- the job
 
 -- the words of the header and the place of the lvalue, read one after the other
--- the job has them by name
 pub job-is : (im : List ℕ) (n l o i c : ℕ) (p : Place) → n ≡ word im 2 → l ≡ word im 3 → p ≡ placeAt im l → o ≡ word im 4 → i ≡ countOf im 0 → c ≡ countOf im 5 → _≡_ {A = Job} (record { refusal = 0; session = record { next = n; access = 0; span = record { start = 4294967295; end = 4294967295 }; entries = 0 }; lvalue = p; own = o; identifiers = i; candidates = c }) (jobOf im)
 unfolding jobOf
 job-is im n l o i c p hn hl hp ho hi hc = cc
@@ -42,7 +41,6 @@ words-refused bs im m vs ss cs xs n j e f g h =
     ∙ sym (ite-ne (refusalOfWords (loaded bs m)) 0 (record { job = jobOf (loaded bs m); tables = filled (loaded bs m) (tables vs ss cs xs) }) (refusedWith (refusalOfWords (loaded bs m)) (tables vs ss cs xs)) (λ z. g (q ∙ z)))
 
 -- none does: the tables are filled
--- the other way
 pub words-read : (bs im : List ℕ) (m : ℕ) (vs ss cs xs us ts ds ys : List ℕ) (n : ℕ) (j : Job) → im ≡ loaded bs m → n ≡ refusalOfWords im → n ≡ 0
     → us ≡ decodedValues im (countOf im values) (zeros (length vs)) → ts ≡ decodedSets im (countOf im pairs) (zeros (length ss)) → ds ≡ decodedContext im (zeros (length cs))
     → ys ≡ decodedCandidates im (countOf im candidates) (zeros (length xs)) → j ≡ jobOf im
@@ -59,12 +57,10 @@ words-read bs im m vs ss cs xs us ts ds ys n j e f g hv hs hc hx hj =
 -- ---- lengths
 
 -- a length that is not what it must be
--- the tests after it do not matter
 pub wrong-here : (m n : ℕ) (rest : Bool) → (m ≡ n → ⊥) → true ≡ (not (eqb m n) || rest)
 wrong-here m n rest h = sym (ap (λ (b : Bool). not b || rest) (ne-eqb m n h))
 
 -- a length that is
--- the tests after it decide
 pub right-here : (m n : ℕ) (rest : Bool) → m ≡ n → rest ≡ (not (eqb m n) || rest)
 right-here m n rest h = sym (ap (λ (b : Bool). not b || rest) (eq-eqb m n h))
 
@@ -78,19 +74,16 @@ module _ (w v s c x : ℕ) where
   wrong-words h = wrong-here w 16384 _ h
 
   -- the values have
-  -- scratch is right
   pub wrong-values : w ≡ 16384 → (v ≡ 1024 → ⊥) → true ≡ lentWrong w v s c x
   unfolding lentWrong
   wrong-values g h = wrong-here v 1024 _ h ∙ right-here w 16384 _ g
 
   -- the sets have
-  -- scratch and values are right
   pub wrong-sets : w ≡ 16384 → v ≡ 1024 → (s ≡ 8192 → ⊥) → true ≡ lentWrong w v s c x
   unfolding lentWrong
   wrong-sets f g h = wrong-here s 8192 _ h ∙ right-here v 1024 _ g ∙ right-here w 16384 _ f
 
   -- the context has
-  -- the tables of the state are right
   pub wrong-context : w ≡ 16384 → v ≡ 1024 → s ≡ 8192 → (c ≡ 235973 → ⊥) → true ≡ lentWrong w v s c x
   unfolding lentWrong
   wrong-context e f g h = wrong-here c 235973 _ h ∙ right-here s 8192 _ g ∙ right-here v 1024 _ f ∙ right-here w 16384 _ e
@@ -107,29 +100,24 @@ module _ (w v s c x : ℕ) where
 -- one law for each way through `read_image`
 module _ (bs : List ℕ) (w : ℕ) (vs ss cs xs : List ℕ) where
   -- the tables as they are lent
-  -- under one name
   abbrev t : Tables
   t = tables vs ss cs xs
 
   -- whether a lent list has the wrong length
-  -- of those lent here
   abbrev wrong : Bool
   wrong = lentWrong w (length vs) (length ss) (length cs) (length xs)
 
   -- a class decides, once it is known
-  -- what is read, or nothing
   by-class : (n : ℕ) → readClass bs w t ≡ n → ite (eqb n 0) (record { job = jobOf (wordsOf bs); tables = filled (wordsOf bs) t }) (refusedWith n t) ≡ readImage bs w t
   unfolding readImage
   by-class n e = sym (ap (λ (k : ℕ). ite (eqb k 0) (record { job = jobOf (wordsOf bs); tables = filled (wordsOf bs) t }) (refusedWith k t)) e)
 
   -- a lent list has the wrong length
-  -- whatever the bytes are
   pub read-lent : (j : Job) → true ≡ wrong → j ≡ noJob 1 → given j vs ss cs xs ≡ readImage bs w t
   unfolding readClass
   read-lent j h e = ap (λ (x : Job). given x vs ss cs xs) e ∙ by-class 1 (ap (λ (b : Bool). ite b 1 (refusalOf bs)) (sym h))
 
   -- the class is the image's own
-  -- where the lent lists are right
   own-class : false ≡ wrong → readClass bs w t ≡ refusalOf bs
   unfolding readClass
   own-class h = ap (λ (b : Bool). ite b 1 (refusalOf bs)) (sym h)
@@ -143,7 +131,6 @@ module _ (bs : List ℕ) (w : ℕ) (vs ss cs xs : List ℕ) where
       ∙ by-class 1 (own-class h ∙ ap (λ (b : Bool). elim b [ true ↦ 1 | false ↦ refusalOfWords (wordsOf bs) ]) (sym g))
 
   -- the words decide
-  -- a slice of as many words holds the image whole
   pub read-words : (r : Read) (m : ℕ) → false ≡ wrong → false ≡ wrongLength bs → m ≡ length bs / 4 → r ≡ readWords (loaded bs m) t → r ≡ readImage bs w t
   unfolding refusalOf readWords
   read-words r m h g l e =
@@ -163,7 +150,6 @@ words-fit bs w v s c x h g =
     omega arith
 
 -- a slice of which a part was lent is as long as before
--- the part came back with as many words
 pub whole-length : (us ws : List ℕ) (n : ℕ) → n ≤ length ws → length us ≡ length (take n ws) → length (us ++ drop n ws) ≡ length ws
 whole-length us ws n h e =
     let a = length-append us (drop n ws) in

@@ -12,14 +12,12 @@ use Rattle.def_image.specs.Decode.{listFrom}
 use Rattle.image_words.specs.Loaded.{loaded}
 
 -- a list made by numbers is as long as was said
--- for any function of numbers
 pub from-length : (n k : ℕ) (f : ℕ → ℕ) → length (listFrom n k f) ≡ n
 unfolding listFrom
 from-length zero k f = refl
 from-length (suc n) k f = ap suc (from-length n (suc k) f)
 
 -- and has at each place what the function says
--- counted from its start
 pub from-at : (n k : ℕ) (f : ℕ → ℕ) (j : ℕ) → j < n → getD (listFrom n k f) j 0 ≡ f (k + j)
 unfolding listFrom
 from-at zero k f j h = absurd (omega arith)
@@ -27,12 +25,10 @@ from-at (suc n) k f zero h = ap f (let e : k ≡ k + 0 = omega arith in e)
 from-at (suc n) k f (suc j) h = from-at n (suc k) f j (omega arith) ∙ ap f (let e : suc k + j ≡ k + suc j = omega arith in e)
 
 -- the same of a list from 0 on
--- as the words are loaded
 pub first-at : (n : ℕ) (f : ℕ → ℕ) (j : ℕ) → j < n → getD (listFrom n 0 f) j 0 ≡ f j
 first-at n f j h = from-at n 0 f j h ∙ ap f (let e : 0 + j ≡ j = omega arith in e)
 
 -- one more word is loaded
--- those before stay
 pub load-more : (bs vs us : List ℕ) (k x : ℕ) → x ≡ word (wordsOf bs) k → us ≡ set vs k x → k < length vs → ((j : ℕ) → j < k → getD vs j 0 ≡ word (wordsOf bs) j) → (j : ℕ) → j < k + 1 → getD us j 0 ≡ word (wordsOf bs) j
 load-more bs vs us k x w e l h j q =
     ap (λ (y : List ℕ). getD y j 0) e
@@ -49,7 +45,6 @@ load-end bs ws vs k l h e =
     ext-getD 0 vs (listFrom (length ws) 0 (word (wordsOf bs))) (l ∙ sym (from-length (length ws) 0 _)) (λ j q. h j (omega arith) ∙ sym (first-at (length ws) (word (wordsOf bs)) j (omega arith)))
 
 -- an image has a word for four bytes
--- fewer than four at the end are none
 pub words-length : (bs : List ℕ) → length (wordsOf bs) ≡ length bs / 4
 unfolding wordsOf
 words-length [] = refl

@@ -18,7 +18,6 @@ unfolding wrongLength
 short bs h = sym (ap (λ (x : Bool). x || (ltb 65536 (length bs) || not (eqb (length bs % 4) 0))) (lt-ltb (length bs) 68 h))
 
 -- "to 65,536 bytes"
--- too long is wrong
 pub long : (bs : List ℕ) → 68 ≤ length bs → 65536 < length bs → true ≡ wrongLength bs
 unfolding wrongLength
 long bs g h =
@@ -26,7 +25,6 @@ long bs g h =
     ∙ ap (λ (x : Bool). x || not (eqb (length bs % 4) 0)) (lt-ltb 65536 (length bs) h))
 
 -- "and a multiple of 4 (else 1)"
--- the last test decides
 pub fourfold : (bs : List ℕ) → 68 ≤ length bs → length bs ≤ 65536 → not (eqb (length bs % 4) 0) ≡ wrongLength bs
 unfolding wrongLength
 fourfold bs g h =
@@ -41,7 +39,6 @@ unfoldable pub fourAt : List ℕ → ℕ → ℕ
 fourAt bs i = getD bs i 0 + 256 * (getD bs (i + 1) 0 + 256 * (getD bs (i + 2) 0 + 256 * getD bs (i + 3) 0))
 
 -- past the last whole word stands 0
--- reading is total
 pub word-out : (bs : List ℕ) (k : ℕ) → length bs / 4 ≤ k → 0 ≡ word (wordsOf bs) k
 unfolding word wordsOf
 word-out [] k h = refl
@@ -52,7 +49,6 @@ word-out (a ∷ b ∷ c ∷ d ∷ bs) zero h = absurd (let g : length (a ∷ b �
 word-out (a ∷ b ∷ c ∷ d ∷ bs) (suc k) h = word-out bs k (let g : length (a ∷ b ∷ c ∷ d ∷ bs) ≡ suc (suc (suc (suc (length bs)))) = refl in omega arith)
 
 -- the four bytes past four others
--- the next word starts there
 four-past : (a b c d : ℕ) (bs : List ℕ) (m n : ℕ) → n ≡ 4 + m → fourAt (a ∷ b ∷ c ∷ d ∷ bs) n ≡ fourAt bs m
 unfolding fourAt
 four-past a b c d bs m n e =
@@ -76,7 +72,6 @@ word-in (a ∷ b ∷ c ∷ d ∷ bs) (suc k) h =
     ∙ word-in bs k (let g : length (a ∷ b ∷ c ∷ d ∷ bs) ≡ suc (suc (suc (suc (length bs)))) = refl in omega arith)
 
 -- the code's four bytes are that word
--- each as it was read
 pub word-is : (bs : List ℕ) (k a b c d r : ℕ) → k < length bs / 4 → a ≡ getD bs (4 * k) 0 → b ≡ getD bs (4 * k + 1) 0 → c ≡ getD bs (4 * k + 2) 0 → d ≡ getD bs (4 * k + 3) 0 → r ≡ a + 256 * (b + 256 * (c + 256 * d)) → r ≡ word (wordsOf bs) k
 unfolding fourAt
 word-is bs k a b c d r h e f g i j = let w = word-in bs k h in cc

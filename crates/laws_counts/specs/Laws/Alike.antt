@@ -22,7 +22,6 @@ use Rattle.def_transfer.specs.Step.{Flow, Immutable, Same as SameFlow, Maybe, N
 use Rattle.laws_counts.specs.Laws.Unlimited.{unlimited, countAll, list-last, limitSession, limitRest, Same, alike, bind-same, return-same, if-same, change-same, ask-same}
 
 -- an access recorded leaves the entries
--- whether or not it is the first
 first-limit : (T : Tables) (a : ℕ) (span : Span) (s : Session) → firstAccess a span (limitSession T s) ≡ limitSession T (firstAccess a span s)
 first-limit T a span s = go (eqb (s .access) 0)
   where
@@ -32,7 +31,6 @@ first-limit T a span s = go (eqb (s .access) 0)
     go false = refl
 
 -- whether a place of some is a ref
--- in the same context
 any-ref : (T : Tables) (l : List Place) (r : Rest (unlimited T)) → anyRef {T = T} l (limitRest T r) ≡ anyRef {T = unlimited T} l r
 unfolding anyRef
 any-ref T [] r = refl
@@ -42,31 +40,26 @@ module _ {T : Tables} where
   -- ---- the five that touch the state, which is the same in both
 
   -- a set is read
-  -- from the same sets
   pub setOf-same : (i : ℕ) → Same T (setOf i) (setOf i)
   unfolding setOf
   setOf-same i = record { same = λ w. refl }
 
   -- a value is read
-  -- from the same values
   pub valueOf-same : (v : ℕ) → Same T (valueOf v) (valueOf v)
   unfolding valueOf
   valueOf-same v = record { same = λ w. refl }
 
   -- a kind is read
-  -- from the same state
   pub peek-same : (i : ℕ) → Same T (peek i) (peek i)
   unfolding peek
   peek-same i = record { same = λ w. refl }
 
   -- a value is written
-  -- into the same values
   pub initialize-same : (v : ℕ) (a : AbstractValue) → Same T (initialize v a) (initialize v a)
   unfolding initialize
   initialize-same v a = record { same = λ w. refl }
 
   -- a set is written
-  -- into the same sets
   pub point-same : (i s : ℕ) → Same T (point i s) (point i s)
   unfolding point
   point-same i s = record { same = λ w. refl }
@@ -85,25 +78,21 @@ module _ {T : Tables} where
   recordAccess-same i span = change-same _ _ (λ r. ap (λ (s : Session). record { session = s; context = r .context; work = limitRest T r .work }) (first-limit T (T .accessOf i) span (r .session)))
 
   -- the kind of a place, with its access recorded
-  -- from the same state
   pub kindWithSpan-same : (i : ℕ) (span : Span) → Same T (kindWithSpan i span) (kindWithSpan i span)
   unfolding kindWithSpan
   kindWithSpan-same i span = search (touching, recordAccess-same)
 
   -- the kind of a place, without a span
-  -- as with one
   pub kind-same : (i : ℕ) → Same T (kind i) (kind i)
   unfolding kind
   kind-same i = search (touching, kindWithSpan-same)
 
   -- a place gets one value
-  -- a set is written
   pub define-same : (i v : ℕ) → Same T (define i v) (define i v)
   unfolding define
   define-same i v = search touching
 
   -- a value where none stands yet
-  -- by what stands there
   pub orInsert-same : (v : ℕ) (o : Option AbstractValue) → Same T (orInsert v o) (orInsert v o)
   unfolding orInsert
   orInsert-same v none = search touching
@@ -123,19 +112,16 @@ module _ {T : Tables} where
   assign-same into from = search (touching, assignSet-same)
 
   -- a value becomes Frozen
-  -- it is written
   pub freezeValue-same : (reason v : ℕ) → Same T (freezeValue reason v) (freezeValue reason v)
   unfolding freezeValue
   freezeValue-same reason v = search touching
 
   -- the set that a freeze acts on
-  -- from the same state
   pub toFreeze-same : (i : ℕ) → Same T (toFreeze i) (toFreeze i)
   unfolding toFreeze
   toFreeze-same i = search touching
 
   -- each value of a place becomes Frozen
-  -- by its set
   pub freeze-same : (i reason : ℕ) → Same T (freeze i reason) (freeze i reason)
   unfolding freeze
   freeze-same i reason = search (touching, toFreeze-same, freezeValue-same)
@@ -143,89 +129,75 @@ module _ {T : Tables} where
   -- ---- the context's operations: the context is the same in both
 
   -- an effect is interned
-  -- into the same context
   pub putEffect-same : (e : AliasingEffect) → Same T (putEffect e) (putEffect e)
   unfolding putEffect
   putEffect-same e = search touching
 
   -- the effect found under a key, or the one given
-  -- by what is found
   pub internNew-same : (e : AliasingEffect) (o : Option AliasingEffect) → Same T (internNew e o) (internNew e o)
   unfolding internNew
   internNew-same e (some x) = search touching
   internNew-same e none = search (touching, putEffect-same)
 
   -- `intern_effect`
-  -- in the same context
   pub intern-same : (e : AliasingEffect) → Same T (internEffect e) (internEffect e)
   unfolding internEffect
   intern-same e = search (touching, internNew-same)
 
   -- the next number is set
-  -- the entries stay
   pub setNext-same : (n : ℕ) → Same T (setNext n) (setNext n)
   unfolding setNext
   setNext-same n = search touching
 
   -- a fresh number
-  -- the next of the session
   pub freshNumber-same : Same T freshNumber freshNumber
   unfolding freshNumber
   freshNumber-same = search (touching, setNext-same)
 
   -- a number is cached under a key
-  -- in the same context
   pub cache-same : (k : EffectKey) (n : ℕ) → Same T (cache k n) (cache k n)
   unfolding cache
   cache-same k n = search touching
 
   -- the number found, or a fresh one
-  -- by what is found
   pub orFresh-same : (k : EffectKey) (o : Option ℕ) → Same T (orFresh k o) (orFresh k o)
   unfolding orFresh
   orFresh-same k (some n) = search touching
   orFresh-same k none = search (touching, freshNumber-same, cache-same)
 
   -- `get_or_create_value_id`
-  -- in the same context
   pub numberFor-same : (k : EffectKey) → Same T (getOrCreateValueId k) (getOrCreateValueId k)
   unfolding getOrCreateValueId
   numberFor-same k = search (touching, orFresh-same)
 
   -- a value's function is noted
-  -- in the same context
   pub linkTo-same : (v f : ℕ) → Same T (linkTo v f) (linkTo v f)
   unfolding linkTo
   linkTo-same v f = search touching
 
   -- Capture places of a function made Read
-  -- in the same context
   pub makeRead-same : (f i : ℕ) → Same T (makeRead f i) (makeRead f i)
   unfolding makeRead
   makeRead-same f i = search touching
 
   -- a diagnostic is added
-  -- to the same context
   pub putDiagnostic-same : (n : ℕ) (d : Diagnostic) → Same T (putDiagnostic n d) (putDiagnostic n d)
   unfolding putDiagnostic
   putDiagnostic-same n d = search touching
 
   -- the identity found, or the next
-  -- by what is found
   pub newIdentity-same : (o : Option ℕ) → Same T (newIdentity o) (newIdentity o)
   unfolding newIdentity
   newIdentity-same (some n) = search touching
   newIdentity-same none = search touching
 
   -- the instance found, or a new one
-  -- by what is found
   pub newInstance-same : (n : ℕ) (d : Diagnostic) (o : Option ℕ) → Same T (newInstance n d o) (newInstance n d o)
   unfolding newInstance
   newInstance-same n d (some m) = search touching
   newInstance-same n d none = search (touching, putDiagnostic-same)
 
   -- `intern_aliasing_diagnostic`
-  -- in the same context
   pub internDiagnostic-same : (d : Diagnostic) → Same T (internDiagnostic d) (internDiagnostic d)
   unfolding internDiagnostic
   internDiagnostic-same d = search (touching, newIdentity-same, newInstance-same) depth 10
@@ -239,25 +211,21 @@ module _ {T : Tables} where
   emit-same e = change-same _ _ (λ r. ap (λ (l : T .Listed). record { session = limitSession T (r .session); context = r .context; work = record { initialized = r .work .initialized; listed = l; freezeEntries = r .work .freezeEntries; entries = countAll T (r .work .entries) } }) (sym (list-last T (T .noneListed) (r .work .listed) e)))
 
   -- whether a place is initialized in this instruction
-  -- the marks are the same
   pub isInitialized-same : (i : ℕ) → Same T (isInitialized i) (isInitialized i)
   unfolding isInitialized
   isInitialized-same i = search touching
 
   -- a place is marked as initialized
-  -- the marks are the same
   pub putInitialized-same : (i : ℕ) → Same T (putInitialized i) (putInitialized i)
   unfolding putInitialized
   putInitialized-same i = search touching
 
   -- "into a place already initialized in this instruction": 6
-  -- by the same marks
   pub begin-same : (i : ℕ) → Same T (begin i) (begin i)
   unfolding begin
   begin-same i = search (touching, isInitialized-same, putInitialized-same)
 
   -- "each Freeze starts from zero"
-  -- in both
   pub startFreeze-same : Same T startFreeze startFreeze
   unfolding startFreeze
   startFreeze-same = search touching
@@ -271,7 +239,6 @@ module _ {T : Tables} where
   -- ---- the freeze walk
 
   -- the context places of a value's function
-  -- in the same context
   linked-same : (v : ℕ) → Same T (ask (linkedContext v)) (ask (linkedContext v))
   unfolding linkedContext functionContext
   linked-same v = ask-same _ _ (λ r. refl)
@@ -284,7 +251,6 @@ module _ {T : Tables} where
   enter-same (suc d) reason v = search (touching, countEntry-same, linked-same, toFreeze-same, freezeValue-same, enter-same d) depth 10
 
   -- "It enters each value of the frozen place."
-  -- from zero
   pub walk-same : (vs : List ℕ) (reason : ℕ) → Same T (walk vs reason) (walk vs reason)
   unfolding walk
   walk-same vs reason = search (touching, startFreeze-same, enter-same)
@@ -292,19 +258,16 @@ module _ {T : Tables} where
   -- ---- parts of the step
 
   -- a place gets one value, of a kind
-  -- a value and a set are written
   pub create-same : (into : Place) (v : ℕ) (a : AbstractValue) → Same T (create into v a) (create into v a)
   unfolding create
   create-same into v a = search (touching, define-same)
 
   -- a capture that is defined and can be written
-  -- from the same state
   pub isWritten-same : (p : Place) → Same T (isWritten p) (isWritten p)
   unfolding isWritten
   isWritten-same p = search touching
 
   -- whether there is one among several
-  -- from the same state
   pub anyWritten-same : (l : List Place) → Same T (anyWritten l) (anyWritten l)
   unfolding anyWritten
   anyWritten-same [] = search touching
@@ -316,25 +279,21 @@ module _ {T : Tables} where
   anyRef-same l = ask-same _ _ (any-ref T l)
 
   -- a function's context places
-  -- in the same context
   pub functionContext-same : (f : ℕ) → Same T (ask (functionContext f)) (ask (functionContext f))
   unfolding functionContext
   functionContext-same f = ask-same _ _ (λ r. refl)
 
   -- a context place of a new function, made Read where it cannot be written
-  -- in the same context
   pub updateContext-same : (f : ℕ) (p : Place) → Same T (updateContext f p) (updateContext f p)
   unfolding updateContext
   updateContext-same f p = search (touching, makeRead-same)
 
   -- `mutate_with_span`
-  -- from the same state
   pub mutate-same : (variant : MutateVariant) (p : Place) → Same T (mutate variant p) (mutate variant p)
   unfolding mutate
   mutate-same variant p = search (touching, kindWithSpan-same) depth 8
 
   -- what a flow comes to is one of three, or nothing
-  -- the same one
   pub byFlow-same : (x : Flow) {i s m : M (World T) Done} {j t n : M (World (unlimited T)) Done} → Same T i j → Same T s t → Same T m n → Same T (byFlow x i s m) (byFlow x j t n)
   unfolding byFlow
   byFlow-same Immutable p q r = p

@@ -27,14 +27,12 @@ use Rattle.laws_counts.specs.Laws.Steps.{weight, freezes, Measure, Findi
 -- ---- what an instruction of the document's sizes comes to
 
 -- "candidates (64)", "captures (16)", "mutated inside (32)": the sizes that document 01 allows an instruction
--- its own function is read in the context at hand
 pub record Fits (T : Tables) (ins : Instruction) (c : T .Context) : Type 0 where
   pub few : length (ins .candidates) ≤ 64
   pub captures : All (λ e. length (effectKey e .captures) ≤ 16) (ins .candidates)
   pub inside : mutated T (ins .own) c ≤ 32
 
 -- what holds of both holds of a choice
--- whatever the test says
 choice : {A : Type 0} (P : A → Type 0) (b : Bool) {x y : A} → P x → P y → P (ite b x y)
 choice P true p q = p
 choice P false p q = q
@@ -45,7 +43,6 @@ weight-most : (k : EffectKey) → length (k .captures) ≤ 16 → weight k ≤ 1
 weight-most k h = choice (λ n. n ≤ 17) (eqb (k .code) 10) (omega arith) (omega arith)
 
 -- the candidates list 17 times their number at the most
--- and make no more walks than they are
 candidates-most : (l : List AliasingEffect) → All (λ e. length (effectKey e .captures) ≤ 16) l → total (λ e. weight (effectKey e)) l ≤ 17 * length l
 unfolding total
 candidates-most [] a = omega arith
@@ -62,18 +59,15 @@ walks-most (e ∷ l) = let k = walks-most l in let h = choice (λ n. n ≤ 1) (e
 
 module _ {T : Tables} (found : Finding T) (count : T .Listed → ℕ) (one-more : (l : T .Listed) (e : AliasingEffect) → count (T .putListed l e) ≤ suc (count l)) where
   -- how many effects are listed so far
-  -- as the tables count them
   abbrev listedSoFar : Work T → ℕ
   listedSoFar k = count (k .listed)
 
   -- an entry is counted apart
-  -- the list stays
   entry-lists : Grows listedSoFar 0 (countEntry {T = T})
   unfolding countEntry change
   entry-lists = bind-keeps (ask-grows _) (λ full. if-grows full (refuse-grows 11) (record { grows = λ w. omega arith }))
 
   -- one more where an effect is listed, as many as before in a walk
-  -- a walk lists nothing
   listings : Measure T
   unfolding emit change startFreeze putInitialized
   listings = record {
@@ -86,7 +80,6 @@ module _ {T : Tables} (found : Finding T) (count : T .Listed → ℕ) (one-more 
   }
 
   -- the effects that an instruction lists, refused or not: no more than its early errors and its candidates' weights
-  -- counted from the empty list
   pub listed-bound : (ins : Instruction) (w : World T) → count (after (applySignature ins w) .listed) ≤ count (T .noneListed) + lists T ins (w .rest .context)
   unfolding listings
   listed-bound ins w = let h = signature-grows found listings ins w in omega arith
@@ -127,7 +120,6 @@ module _ {T : Tables} (found : Finding T) (one-more : (n : ℕ) → T .oneMore n
       }
 
   -- the entries of an instruction: 4,096 for a walk, none else
-  -- an effect listed is no entry
   entering : Measure T
   unfolding emit change putInitialized
   entering = record {
@@ -140,13 +132,11 @@ module _ {T : Tables} (found : Finding T) (one-more : (n : ℕ) → T .oneMore n
   }
 
   -- the entries of an instruction, refused or not: 4,096 for each Freeze among its candidates
-  -- counted from none
   pub entries-bound : (ins : Instruction) (w : World T) → after (applySignature ins w) .entries ≤ 4096 * walksOf ins
   unfolding entering
   entries-bound ins w = let h = signature-grows found entering ins w in omega arith
 
   -- so no more than 4,096 for each candidate
-  -- whatever the candidates are
   pub entries-most : (ins : Instruction) (w : World T) → after (applySignature ins w) .entries ≤ 4096 * length (ins .candidates)
   entries-most ins w = let h = entries-bound ins w in let k = walks-most (ins .candidates) in omega arith
 
@@ -170,19 +160,16 @@ pub lent-listed : (ins : Instruction) (w : World lent) → Fits lent ins (w .res
 lent-listed ins w f = listed-most {T = lent} effect-found (λ l. l .count) lent-one-more ins w f refl
 
 -- 32 + 64 × 17 is 1,120
--- so every effect listed has its record
 pub lent-suffices : (ins : Instruction) (w : World lent) → Fits lent ins (w .rest .context) → after (applySignature ins w) .listed .count ≤ 1120
 lent-suffices ins w f = let h = lent-listed ins w f in let n = f .few in omega arith
 
 -- the entries of an instruction over lent tables: 4,096 for each Freeze, and so for each candidate
--- refused or not
 pub lent-entries : (ins : Instruction) (w : World lent) → after (applySignature ins w) .entries ≤ 4096 * walksOf ins
 lent-entries ins w = entries-bound {T = lent} effect-found lent-entry ins w
 
 -- ---- of the functions: the definition's own counts, without any limit
 
 -- a list with one more effect at its end
--- is one longer
 pub append-length : (l : List AliasingEffect) (e : AliasingEffect) → length (l ++ (e ∷ [])) ≡ suc (length l)
 append-length [] e = refl
 append-length (x ∷ l) e = ap suc (append-length l e)

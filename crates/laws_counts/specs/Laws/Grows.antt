@@ -10,20 +10,17 @@ use Rattle.def_transfer.specs.Tables.{Tables, Work, Rest, World}
 use Rattle.def_transfer.specs.State.{ask}
 
 -- the sum of what a list's members weigh
--- what one after the other can add
 unfoldable pub total : {A : Type 0} → (A → ℕ) → List A → ℕ
 total c [] = 0
 total c (x ∷ xs) = c x + total c xs
 
 module _ {T : Tables} where
   -- the work that a computation ends with
-  -- refused or not
   abbrev pub after : {A : Type 0} → Res (World T) A → Work T
   after (ok a w) = w .rest .work
   after (refused n w) = w .rest .work
 
   -- what is answered has Q
-  -- of a refusal nothing is said
   abbrev pub Holds : {A : Type 0} → (A → Type 0) → Res (World T) A → Type 0
   Holds Q (ok a w) = Q a
   Holds Q (refused n w) = Unit {0}
@@ -35,26 +32,22 @@ module _ {T : Tables} where
 
 module _ {T : Tables} {μ : Work T → ℕ} where
   -- one computation after the other, from where the first ended
-  -- what goes on may use what is known of the answer
   pub and-then : {A B : Type 0} {Q : A → Type 0} {f : A → M (World T) B} (n c : ℕ) (r : Res (World T) A) → Holds Q r → μ (after r) ≤ n → ((a : A) → Q a → Grows μ c (f a)) → μ (after (andThen r f)) ≤ n + c
   unfolding andThen
   and-then n c (ok a w) q l h = let k = h a q .grows w in omega arith
   and-then n c (refused m w) q l h = omega arith
 
   -- nothing to know of an answer
-  -- the plain form
   pub and-after : {A B : Type 0} {f : A → M (World T) B} (n c : ℕ) (r : Res (World T) A) → μ (after r) ≤ n → ((a : A) → Grows μ c (f a)) → μ (after (andThen r f)) ≤ n + c
   unfolding andThen
   and-after n c (ok a w) l h = let k = h a .grows w in omega arith
   and-after n c (refused m w) l h = omega arith
 
   -- a larger bound is one as well
-  -- bounds need not be exact
   pub weaken : {A : Type 0} {m : M (World T) A} {b c : ℕ} → b ≤ c → Grows μ b m → Grows μ c m
   weaken l h = record { grows = λ w. let k = h .grows w in omega arith }
 
   -- both bounds together
-  -- one computation, then what it answers goes on
   pub bind-grows : {A B : Type 0} {m : M (World T) A} {f : A → M (World T) B} (b c : ℕ) → Grows μ b m → ((a : A) → Grows μ c (f a)) → Grows μ (b + c) (m >>= f)
   unfolding _>>=_
   bind-grows {m = m} b c h k = record { grows = λ w. let l = and-after (μ (w .rest .work) + b) c (m w) (h .grows w) k in omega arith }
@@ -66,7 +59,6 @@ module _ {T : Tables} {μ : Work T → ℕ} where
   bind-known {Q = Q} {m = m} {c = c} q h k = record { grows = λ w. let l = and-then {Q = Q} (μ (w .rest .work) + 0) c (m w) (q w) (h .grows w) k in omega arith }
 
   -- both bounds together
-  -- one computation, then another
   pub then-grows : {B : Type 0} {m : M (World T) Done} {f : M (World T) B} (b c : ℕ) → Grows μ b m → Grows μ c f → Grows μ (b + c) (m >> f)
   unfolding _>>_
   then-grows b c h k = bind-grows b c h (λ a. k)
@@ -87,25 +79,21 @@ module _ {T : Tables} {μ : Work T → ℕ} where
   then-rest {b = b} h k = weaken (omega arith) (then-grows b 0 h k)
 
   -- an answer adds nothing
-  -- the world stays
   pub return-grows : {A : Type 0} {b : ℕ} (a : A) → Grows μ b (return a)
   unfolding return
   return-grows a = record { grows = λ w. omega arith }
 
   -- an answer that says nothing
-  -- the world stays
   pub done-grows : {b : ℕ} → Grows μ b done
   unfolding done
   done-grows = return-grows tt
 
   -- a refusal adds nothing
-  -- the world stays
   pub refuse-grows : {A : Type 0} {b : ℕ} (n : ℕ) → Grows μ b (refuse {A = A} n)
   unfolding refuse
   refuse-grows n = record { grows = λ w. omega arith }
 
   -- either branch is bounded
-  -- whatever the test says
   pub if-grows : {A : Type 0} {m n : M (World T) A} {b : ℕ} (t : Bool) → Grows μ b m → Grows μ b n → Grows μ b (if t then m else n)
   unfolding if_then_else_
   if-grows true h k = h
@@ -122,7 +110,6 @@ module _ {T : Tables} {μ : Work T → ℕ} where
       go w false k = k refl
 
   -- one after the other: the sum
-  -- each member with its own bound
   pub each-grows : {A : Type 0} {f : A → M (World T) Done} (c : A → ℕ) (l : List A) → ((x : A) → Grows μ (c x) (f x)) → Grows μ (total c l) (each l f)
   unfolding each total
   each-grows c [] h = done-grows
@@ -136,7 +123,6 @@ module _ {T : Tables} {μ : Work T → ℕ} where
   each-keeps (x ∷ xs) h = then-keeps (h x) (each-keeps xs h)
 
 -- after a refusal the world is as before: what is refused adds nothing
--- what goes on is bounded as before
 pub atomically-grows : {T : Tables} {A : Type 0} (μ : Work T → ℕ) (m : M (World T) A) (w : World T) (b : ℕ) → μ (after (m w)) ≤ μ (w .rest .work) + b → μ (after (atomically m w)) ≤ μ (w .rest .work) + b
 unfolding atomically restore
 atomically-grows {T = T} {A = A} μ m w b = go (m w)
@@ -146,5 +132,4 @@ atomically-grows {T = T} {A = A} μ m w b = go (m w)
     go (refused n u) l = omega arith
 
 -- what `search` composes bounds with
--- binds, tests and lists
 pub ruleset plain = (bind-keeps, then-keeps, return-grows, done-grows, refuse-grows, if-grows, each-keeps)

@@ -25,43 +25,36 @@ module _ {T : Tables} {μ : Work T → ℕ} where
   -- ---- the five that touch the state, and the two that touch the rest
 
   -- a set is read
-  -- the world stays
   pub setOf-grows : {b : ℕ} (i : ℕ) → Grows μ b (setOf {T = T} i)
   unfolding setOf
   setOf-grows i = record { grows = λ w. omega arith }
 
   -- a value is read
-  -- the world stays
   pub valueOf-grows : {b : ℕ} (v : ℕ) → Grows μ b (valueOf {T = T} v)
   unfolding valueOf
   valueOf-grows v = record { grows = λ w. omega arith }
 
   -- a kind is read
-  -- the world stays
   pub peek-grows : {b : ℕ} (i : ℕ) → Grows μ b (peek {T = T} i)
   unfolding peek
   peek-grows i = record { grows = λ w. omega arith }
 
   -- a value is written
-  -- the state alone changes
   pub initialize-grows : {b : ℕ} (v : ℕ) (a : AbstractValue) → Grows μ b (initialize {T = T} v a)
   unfolding initialize
   initialize-grows v a = record { grows = λ w. omega arith }
 
   -- a set is written
-  -- the state alone changes
   pub point-grows : {b : ℕ} (i s : ℕ) → Grows μ b (point {T = T} i s)
   unfolding point
   point-grows i s = record { grows = λ w. omega arith }
 
   -- the rest is read
-  -- the world stays
   pub ask-grows : {A : Type 0} {b : ℕ} (f : Rest T → A) → Grows μ b (ask f)
   unfolding ask
   ask-grows f = record { grows = λ w. omega arith }
 
   -- session or context change
-  -- the work is as it was
   pub change-grows : {b : ℕ} (f : Rest T → Rest T) → ((r : Rest T) → f r .work ≡ r .work) → Grows μ b (change f)
   unfolding change
   change-grows f h = record { grows = λ w. let k : μ (f (w .rest) .work) ≡ μ (w .rest .work) = ap μ (h (w .rest)) in omega arith }
@@ -74,31 +67,26 @@ module _ {T : Tables} {μ : Work T → ℕ} where
   -- ---- the state's operations, under the Rust's names: none touches the work
 
   -- the first undefined access goes into the session
-  -- the work stays
   pub recordAccess-grows : {b : ℕ} (i : ℕ) (span : Span) → Grows μ b (recordAccess {T = T} i span)
   unfolding recordAccess
   recordAccess-grows i span = search base
 
   -- the kind of a place, with its access recorded
-  -- reads, and a change of the session
   pub kindWithSpan-grows : {b : ℕ} (i : ℕ) (span : Span) → Grows μ b (kindWithSpan {T = T} i span)
   unfolding kindWithSpan
   kindWithSpan-grows i span = search (base, recordAccess-grows)
 
   -- the kind of a place, without a span
-  -- as with one
   pub kind-grows : {b : ℕ} (i : ℕ) → Grows μ b (kind {T = T} i)
   unfolding kind
   kind-grows i = search (base, kindWithSpan-grows)
 
   -- a place gets one value
-  -- a set is written
   pub define-grows : {b : ℕ} (i v : ℕ) → Grows μ b (define {T = T} i v)
   unfolding define
   define-grows i v = search base
 
   -- a value where none stands yet
-  -- at most one is written
   pub orInsert-grows : {b : ℕ} (v : ℕ) (o : Option AbstractValue) → Grows μ b (orInsert {T = T} v o)
   unfolding orInsert
   orInsert-grows v none = search base
@@ -118,19 +106,16 @@ module _ {T : Tables} {μ : Work T → ℕ} where
   assign-grows into from = search (base, assignSet-grows)
 
   -- a value becomes Frozen
-  -- it is written
   pub freezeValue-grows : {b : ℕ} (reason v : ℕ) → Grows μ b (freezeValue {T = T} reason v)
   unfolding freezeValue
   freezeValue-grows reason v = search base
 
   -- the set that a freeze acts on
-  -- reads only
   pub toFreeze-grows : {b : ℕ} (i : ℕ) → Grows μ b (toFreeze {T = T} i)
   unfolding toFreeze
   toFreeze-grows i = search base
 
   -- each value of a place becomes Frozen
-  -- the walk is apart
   pub freeze-grows : {b : ℕ} (i reason : ℕ) → Grows μ b (freeze {T = T} i reason)
   unfolding freeze
   freeze-grows i reason = search (base, toFreeze-grows, freezeValue-grows)
@@ -138,7 +123,6 @@ module _ {T : Tables} {μ : Work T → ℕ} where
   -- ---- the context's operations: none touches the work
 
   -- an effect is interned
-  -- the context alone changes
   pub putEffect-grows : {b : ℕ} (e : AliasingEffect) → Grows μ b (putEffect {T = T} e)
   unfolding putEffect
   putEffect-grows e = search base
@@ -151,13 +135,11 @@ module _ {T : Tables} {μ : Work T → ℕ} where
   internNew-grows e none = search (base, putEffect-grows)
 
   -- `intern_effect`
-  -- interning lists nothing
   pub intern-grows : {b : ℕ} (e : AliasingEffect) → Grows μ b (internEffect {T = T} e)
   unfolding internEffect
   intern-grows e = search (base, internNew-grows)
 
   -- the next number is set
-  -- the session alone changes
   pub setNext-grows : {b : ℕ} (n : ℕ) → Grows μ b (setNext {T = T} n)
   unfolding setNext
   setNext-grows n = search base
@@ -169,38 +151,32 @@ module _ {T : Tables} {μ : Work T → ℕ} where
   freshNumber-grows = search (base, setNext-grows)
 
   -- a number is cached under a key
-  -- the context alone changes
   pub cache-grows : {b : ℕ} (k : EffectKey) (n : ℕ) → Grows μ b (cache {T = T} k n)
   unfolding cache
   cache-grows k n = search base
 
   -- the number found, or a fresh one
-  -- which is then cached
   pub orFresh-grows : {b : ℕ} (k : EffectKey) (o : Option ℕ) → Grows μ b (orFresh {T = T} k o)
   unfolding orFresh
   orFresh-grows k (some n) = search base
   orFresh-grows k none = search (base, freshNumber-grows, cache-grows)
 
   -- `get_or_create_value_id`
-  -- session and context alone change
   pub numberFor-grows : {b : ℕ} (k : EffectKey) → Grows μ b (getOrCreateValueId {T = T} k)
   unfolding getOrCreateValueId
   numberFor-grows k = search (base, orFresh-grows)
 
   -- a value's function is noted
-  -- the context alone changes
   pub linkTo-grows : {b : ℕ} (v f : ℕ) → Grows μ b (linkTo {T = T} v f)
   unfolding linkTo
   linkTo-grows v f = search base
 
   -- Capture places of a function made Read
-  -- the context alone changes
   pub makeRead-grows : {b : ℕ} (f i : ℕ) → Grows μ b (makeRead {T = T} f i)
   unfolding makeRead
   makeRead-grows f i = search base
 
   -- a diagnostic is added
-  -- the context alone changes
   pub putDiagnostic-grows : {b : ℕ} (n : ℕ) (d : Diagnostic) → Grows μ b (putDiagnostic {T = T} n d)
   unfolding putDiagnostic
   putDiagnostic-grows n d = search base
@@ -220,13 +196,11 @@ module _ {T : Tables} {μ : Work T → ℕ} where
   newInstance-grows n d none = search (base, putDiagnostic-grows)
 
   -- `intern_aliasing_diagnostic`
-  -- interning lists nothing
   pub internDiagnostic-grows : {b : ℕ} (d : Diagnostic) → Grows μ b (internDiagnostic {T = T} d)
   unfolding internDiagnostic
   internDiagnostic-grows d = search (base, newIdentity-grows, newInstance-grows) depth 10
 
   -- whether a place is initialized in this instruction
-  -- the work is read
   pub isInitialized-grows : {b : ℕ} (i : ℕ) → Grows μ b (isInitialized {T = T} i)
   unfolding isInitialized
   isInitialized-grows i = search base
@@ -234,38 +208,32 @@ module _ {T : Tables} {μ : Work T → ℕ} where
   -- ---- parts of the step
 
   -- a place gets one value, of a kind
-  -- a value and a set are written
   pub create-grows : {b : ℕ} (into : Place) (v : ℕ) (a : AbstractValue) → Grows μ b (create {T = T} into v a)
   unfolding create
   create-grows into v a = search (base, define-grows)
 
   -- a capture that is defined and can be written
-  -- reads only
   pub isWritten-grows : {b : ℕ} (p : Place) → Grows μ b (isWritten {T = T} p)
   unfolding isWritten
   isWritten-grows p = search base
 
   -- whether there is one among several
-  -- reads only
   pub anyWritten-grows : {b : ℕ} (l : List Place) → Grows μ b (anyWritten {T = T} l)
   unfolding anyWritten
   anyWritten-grows [] = search base
   anyWritten-grows (p ∷ ps) = bind-keeps (isWritten-grows p) (λ a. if-grows a (return-grows true) (anyWritten-grows ps))
 
   -- a context place of a new function, made Read where it cannot be written
-  -- the context alone changes
   pub updateContext-grows : {b : ℕ} (f : ℕ) (p : Place) → Grows μ b (updateContext {T = T} f p)
   unfolding updateContext
   updateContext-grows f p = search (base, makeRead-grows)
 
   -- `mutate_with_span`
-  -- reads, and a change of the session
   pub mutate-grows : {b : ℕ} (variant : MutateVariant) (p : Place) → Grows μ b (mutate {T = T} variant p)
   unfolding mutate
   mutate-grows variant p = search (base, kindWithSpan-grows) depth 8
 
   -- "Last, an undefined lvalue becomes defined as its own value"
-  -- a value and a set are written
   pub defineLvalue-grows : {b : ℕ} (i : ℕ) → Grows μ b (defineLvalue {T = T} i)
   unfolding defineLvalue
   defineLvalue-grows i = search (base, define-grows) depth 8
@@ -273,14 +241,12 @@ module _ {T : Tables} {μ : Work T → ℕ} where
   -- ---- the freeze walk
 
   -- "Each entry is counted": where counting an entry adds nothing to a measure, an entry and all that it leads to add nothing
-  -- by the depth
   pub enter-grows : {b : ℕ} (d reason v : ℕ) → Grows μ 0 (countEntry {T = T}) → Grows μ b (freezeFunctionCapturesTransitive {T = T} d reason v)
   unfolding freezeFunctionCapturesTransitive enterContext enterPlace freezeAndEnter
   enter-grows zero reason v h = search base
   enter-grows (suc d) reason v h = search (base, toFreeze-grows, freezeValue-grows, enter-grows {b = 0} d) depth 10
 
   -- "each Freeze starts from zero": a walk adds what its start adds
-  -- if counting an entry adds nothing
   pub walk-grows : {b : ℕ} (vs : List ℕ) (reason : ℕ) → Grows μ b (startFreeze {T = T}) → Grows μ 0 (countEntry {T = T}) → Grows μ b (walk {T = T} vs reason)
   unfolding walk
   walk-grows vs reason h k = then-rest h (search (base, enter-grows))

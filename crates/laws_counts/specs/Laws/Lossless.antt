@@ -40,25 +40,21 @@ module _ {T : Tables} where
 
   module _ {again : AliasingEffect → M (World T) Done} {free : AliasingEffect → M (World (unlimited T)) Done} (h : (e : AliasingEffect) → Same T (again e) (free e)) where
     -- Capture, Alias and MaybeAlias
-    -- by the same kinds
     flowing-same : (maybe : Bool) (e : AliasingEffect) (from into : Place) → Same T (flowing again maybe e from into) (flowing free maybe e from into)
     unfolding flowing
     flowing-same maybe e from into = search (parts, h) depth 12
 
     -- a value that cannot be modified
-    -- the same diagnostic
     reportModified-same : (p : Place) (a : AbstractValue) → Same T (reportModified again p a) (reportModified free p a)
     unfolding reportModified
     reportModified-same p a = search (parts, h) depth 12
 
     -- an access before the declaration
-    -- the same diagnostic
     reportHoisted-same : (p : Place) → Same T (reportHoisted again p) (reportHoisted free p)
     unfolding reportHoisted
     reportHoisted-same p = search (parts, h) depth 12
 
     -- what a mutation lists
-    -- by the same result
     report-same : (e : AliasingEffect) (p : Place) (x : MutationResult) → Same T (report again e p x) (report free e p x)
     unfolding report
     report-same e p Result.None = search parts
@@ -68,55 +64,46 @@ module _ {T : Tables} where
     report-same e p Result.MutateRef = search parts
 
     -- a mutation
-    -- and what it lists
     mutating-same : (variant : MutateVariant) (e : AliasingEffect) (p : Place) → Same T (mutating again variant e p) (mutating free variant e p)
     unfolding mutating
     mutating-same variant e p = search (parts, report-same) depth 12
 
     -- Freeze
-    -- and its walk
     freezing-same : (p : Place) (reason : ℕ) → Same T (freezing again p reason) (freezing free p reason)
     unfolding freezing
     freezing-same p reason = search parts depth 12
 
     -- Create
-    -- into the same place
     creating-same : (into : Place) (k : ValueKind) (reason : ℕ) → Same T (creating again into k reason) (creating free into k reason)
     unfolding creating
     creating-same into k reason = search parts depth 12
 
     -- ImmutableCapture
-    -- by the same kind
     capturingImmutably-same : (from into : Place) → Same T (capturingImmutably again from into) (capturingImmutably free from into)
     unfolding capturingImmutably
     capturingImmutably-same from into = search parts depth 12
 
     -- what is listed of a CreateFrom
-    -- by the same kind
     listCreated-same : (from into : Place) (a : AbstractValue) → Same T (listCreated again from into a) (listCreated free from into a)
     unfolding listCreated
     listCreated-same from into a = search (parts, h) depth 12
 
     -- CreateFrom
-    -- and what is listed of it
     creatingFrom-same : (from into : Place) → Same T (creatingFrom again from into) (creatingFrom free from into)
     unfolding creatingFrom
     creatingFrom-same from into = search (parts, listCreated-same) depth 12
 
     -- Assign
-    -- by the same kind
     assigning-same : (from into : Place) → Same T (assigning again from into) (assigning free from into)
     unfolding assigning
     assigning-same from into = search (parts, h) depth 12
 
     -- CreateFunction
-    -- and a Capture for each capture
     creatingFunction-same : (captures : List Place) (f : ℕ) (into : Place) → Same T (creatingFunction again captures f into) (creatingFunction free captures f into)
     unfolding creatingFunction
     creatingFunction-same captures f into = search (parts, h) depth 16
 
     -- one effect
-    -- by cases
     act-same : (e : AliasingEffect) → Same T (act again e) (act free e)
     unfolding act
     act-same (Freeze p r) = freezing-same p r
@@ -138,7 +125,6 @@ module _ {T : Tables} where
     act-same (Render p) = emit-same _
 
   -- the step of an effect
-  -- by the depth of derivation
   step-same : (d : ℕ) (e : AliasingEffect) → Same T (applyEffect d e) (applyEffect d e)
   unfolding applyEffect
   step-same zero e = search touching
@@ -147,26 +133,22 @@ module _ {T : Tables} where
   -- ---- an instruction
 
   -- an early error of a place
-  -- the same diagnostic
   reportEarly-same : (p : Place) → Same T (reportEarly p) (reportEarly p)
   unfolding reportEarly
   reportEarly-same p = search parts depth 12
 
   -- the same, if the place is of the own function's context
-  -- which is the same
   earlyError-same : (f : ℕ) (p : Place) → Same T (earlyError f p) (earlyError f p)
   unfolding earlyError functionContext
   earlyError-same f p = search (parts, reportEarly-same) depth 12
 
   -- the early errors of an instruction
-  -- of the same places
   earlyErrors-same : (o : Option ℕ) → Same T (earlyErrors o) (earlyErrors o)
   unfolding earlyErrors
   earlyErrors-same none = search touching
   earlyErrors-same (some f) = search (touching, earlyError-same) depth 12
 
   -- an undefined lvalue becomes defined
-  -- in the same state
   defineLvalue-same : (i : ℕ) → Same T (defineLvalue i) (defineLvalue i)
   unfolding defineLvalue
   defineLvalue-same i = search (touching, define-same) depth 12
@@ -178,7 +160,6 @@ module _ {T : Tables} where
   run-same ins = then-same (earlyErrors-same (ins .own)) (then-same (each-same (ins .candidates) (step-same 4)) (then-same (defineLvalue-same _) (change-same _ _ (λ r. refl))))
 
   -- the call for an instruction: what it does without limits, as the tables have it
-  -- of any tables
   pub signature-same : (ins : Instruction) → Same T (applySignature ins) (applySignature ins)
   unfolding applySignature startInstruction listAll countAll
   signature-same ins = then-same (change-same _ _ (λ r. refl)) (atomically-same (run-same ins))
@@ -187,7 +168,6 @@ module _ {T : Tables} where
 
 module _ {T : Tables} where
   -- the session that a computation ends with
-  -- refused or not
   abbrev pub sessionAfter : {A : Type 0} → Res (World T) A → Session
   sessionAfter (ok a w) = w .rest .session
   sessionAfter (refused n w) = w .rest .session
@@ -199,7 +179,6 @@ module _ {T : Tables} where
   Told (refused n w) = Unit {0}
 
   -- what ends with such a computation is one
-  -- whatever went before
   then-told : (m n : M (World T) Done) → ((w : World T) → Told (n w)) → (w : World T) → Told ((m >> n) w)
   unfolding _>>_ _>>=_ andThen
   then-told m n h w = go (m w)
@@ -215,7 +194,6 @@ module _ {T : Tables} where
   run-told ins = then-told _ _ (then-told _ _ (then-told _ _ (λ w. refl)))
 
   -- what bounds the session's entries and the work's bounds what the session tells at the end
-  -- refused or not
   told-most : (b : ℕ) (ins : Instruction) (w : World T) → w .rest .session .entries ≤ b → after (applySignature ins w) .entries ≤ b → sessionAfter (applySignature ins w) .entries ≤ b
   unfolding applySignature startInstruction change _>>_ _>>=_ andThen atomically restore
   told-most b ins w h = go (run ins u) (run-told ins u)
@@ -230,20 +208,17 @@ module _ {T : Tables} where
 -- ---- the lent tables
 
 -- as many entries as a word of 32 bits can count are all counted
--- each is one more
 count-all : (n : ℕ) → n ≤ 4294967295 → countAll lent n ≡ n
 unfolding countAll oneMore
 count-all zero l = refl
 count-all (suc n) l = ap oneMore (count-all n (omega arith)) ∙ ite-lt n 4294967295 (suc n) n l
 
 -- an effect listed where a word of 32 bits can count it is one more
--- its record is written
 list-one : (l : Listed) (e : AliasingEffect) → l .count < 4294967295 → putListed l e .count ≡ suc (l .count)
 unfolding putListed
 list-one l e h = ap (λ (m : Listed). m .count) (ite-lt (l .count) 4294967295 _ l h)
 
 -- as many effects as a word of 32 bits can count are all listed
--- after those listed already
 list-all : (l : Listed) (es : List AliasingEffect) → l .count + length es ≤ 4294967295 → listAll lent l es .count ≡ l .count + length es
 unfolding listAll
 list-all l [] h = omega arith
@@ -287,19 +262,16 @@ starts-alike ins w h = ap (λ (n : ℕ). atomically (run ins) (from n)) (sym (co
     }
 
 -- the work at the end of an outcome
--- as the tables have it
 after-limited : (r : Res (World (unlimited lent)) Done) → after (limited lent r) ≡ limitWork lent (after r)
 after-limited (ok a w) = refl
 after-limited (refused n w) = refl
 
 -- the session at the end of an outcome
--- as the tables have it
 session-limited : (r : Res (World (unlimited lent)) Done) → sessionAfter (limited lent r) ≡ limitSession lent (sessionAfter r)
 session-limited (ok a w) = refl
 session-limited (refused n w) = refl
 
 -- an instruction that fits the lent context fits it without limits
--- the context is the same
 fits-freely : (ins : Instruction) (c : List ℕ) → Fits lent ins c → Fits (unlimited lent) ins c
 unfolding mutated
 fits-freely ins c f = record { few = f .few; captures = f .captures; inside = go (ins .own) (f .inside) }

@@ -37,12 +37,10 @@ abbrev pub weight : EffectKey → ℕ
 weight k = ite (eqb (k .code) 10) 2 (suc (length (k .captures)))
 
 -- how many walks an effect makes at the most
--- Freeze one, any other none
 abbrev pub freezes : EffectKey → ℕ
 freezes k = ite (eqb (k .code) 0) 1 0
 
 -- members that weigh the same
--- as many times as there are members
 total-same : {A : Type 0} (x : ℕ) (l : List A) → total (λ a. x) l ≡ x * length l
 unfolding total
 total-same x [] = omega arith
@@ -55,7 +53,6 @@ identifiers-length [] = refl
 identifiers-length (p ∷ ps) = ap suc (identifiers-length ps)
 
 -- a measure of the work, and what it can grow by: where an effect is listed, and in a walk
--- it stays where a place is marked as initialized
 pub record Measure (T : Tables) : Type 0 where
   pub of : Work T → ℕ
   pub listing : ℕ
@@ -68,14 +65,12 @@ module _ {T : Tables} (𝓜 : Measure T) where
   open Measure 𝓜 using (of, listing, walking, emits, walks, marks)
 
   -- the most that the measure grows by in the step of an effect with that key
-  -- by what it lists, and what it walks
   abbrev pub cost : EffectKey → ℕ
   cost k = listing * weight k + walking * freezes k
 
   -- ---- parts of the step
 
   -- an effect is listed
-  -- as the measure says
   emit-grows : (e : AliasingEffect) → Grows of listing (emit e)
   emit-grows e = emits e
 
@@ -86,7 +81,6 @@ module _ {T : Tables} (𝓜 : Measure T) where
   begin-grows i = bind-keeps (isInitialized-grows i) (λ t. if-grows t (refuse-grows 6) (weaken (omega arith) (marks i)))
 
   -- what a flow comes to is one of three, or nothing
-  -- each is bounded
   byFlow-grows : {b : ℕ} (x : Flow) (i s m : M (World T) Done) → Grows of b i → Grows of b s → Grows of b m → Grows of b (byFlow x i s m)
   unfolding byFlow
   byFlow-grows Immutable i s m p q r = p
@@ -102,25 +96,21 @@ module _ {T : Tables} (𝓜 : Measure T) where
 
   module _ (again : AliasingEffect → M (World T) Done) (one : (e : AliasingEffect) → weight (effectKey e) ≡ 1 → freezes (effectKey e) ≡ 0 → Grows of listing (again e)) where
     -- Capture, Alias and MaybeAlias: listed, or another is derived
-    -- one in any case
     flowing-grows : (maybe : Bool) (e : AliasingEffect) (f i : Place) → Grows of listing (flowing again maybe e f i)
     unfolding flowing
     flowing-grows maybe e f i = search (parts, one) depth 8
 
     -- a value that cannot be modified: MutateFrozen or MutateGlobal
-    -- one of both
     reportModified-grows : (p : Place) (a : AbstractValue) → Grows of listing (reportModified again p a)
     unfolding reportModified
     reportModified-grows p a = search (parts, one) depth 10
 
     -- an access before the declaration
-    -- one MutateFrozen
     reportHoisted-grows : (p : Place) → Grows of listing (reportHoisted again p)
     unfolding reportHoisted
     reportHoisted-grows p = search (parts, one) depth 10
 
     -- what a mutation lists, by its result
-    -- itself, an error, or nothing
     report-grows : (e : AliasingEffect) (p : Place) (x : MutationResult) → Grows of listing (report again e p x)
     unfolding report
     report-grows e p Result.None = search parts
@@ -130,13 +120,11 @@ module _ {T : Tables} (𝓜 : Measure T) where
     report-grows e p Result.MutateRef = search parts
 
     -- a mutation
-    -- its result, and what that lists
     mutating-grows : (v : MutateVariant) (e : AliasingEffect) (p : Place) → Grows of listing (mutating again v e p)
     unfolding mutating
     mutating-grows v e p = search (parts, report-grows) depth 10
 
     -- Freeze: listed, and a walk
-    -- where it acts
     freezing-grows : (p : Place) (reason : ℕ) → Grows of (listing + walking) (freezing again p reason)
     unfolding freezing
     freezing-grows p reason =
@@ -144,13 +132,11 @@ module _ {T : Tables} (𝓜 : Measure T) where
         if-grows transitive (bind-keeps (setOf-grows _) (λ o. walks _ reason)) done-grows))) done-grows)
 
     -- Create: listed
-    -- once
     creating-grows : (p : Place) (k : ValueKind) (reason : ℕ) → Grows of listing (creating again p k reason)
     unfolding creating
     creating-grows p k reason = search parts depth 12
 
     -- ImmutableCapture: listed, unless its source is copied
-    -- once
     capturingImmutably-grows : (f i : Place) → Grows of listing (capturingImmutably again f i)
     unfolding capturingImmutably
     capturingImmutably-grows f i = search parts depth 12
@@ -163,13 +149,11 @@ module _ {T : Tables} (𝓜 : Measure T) where
         if-grows _ (weaken (omega arith) (emit-grows _)) (if-grows _ (then-grows listing listing (emit-grows _) (one _ refl refl)) (weaken (omega arith) (emit-grows _)))
 
     -- CreateFrom
-    -- two at the most
     creatingFrom-grows : (f i : Place) → Grows of (listing + listing) (creatingFrom again f i)
     unfolding creatingFrom
     creatingFrom-grows f i = search (parts, listCreated-grows) depth 12
 
     -- Assign: listed, or an ImmutableCapture is derived, or nothing
-    -- one at the most
     assigning-grows : (f i : Place) → Grows of listing (assigning again f i)
     unfolding assigning
     assigning-grows f i =
@@ -177,7 +161,6 @@ module _ {T : Tables} (𝓜 : Measure T) where
         if-grows _ (then-rest (one _ refl refl) (search parts)) (if-grows _ (search parts) (search parts))))
 
     -- CreateFunction: listed, and a Capture derived for each capture
-    -- one more than it has captures
     creatingFunction-grows : (cs : List Place) (f : ℕ) (i : Place) → Grows of (listing + total (λ c. listing) cs) (creatingFunction again cs f i)
     unfolding creatingFunction
     creatingFunction-grows cs f i =
@@ -187,7 +170,6 @@ module _ {T : Tables} (𝓜 : Measure T) where
         then-keeps (linkTo-grows v f) (then-keeps (create-grows i v _) (each-grows (λ c. listing) cs (λ c. one _ refl refl)))))))))))
 
   -- one effect, whose derived effects cost what their keys say
-  -- by cases
   act-grows : (again : AliasingEffect → M (World T) Done) (e : AliasingEffect) → ((z : AliasingEffect) → Grows of (cost (effectKey z)) (again z)) → Grows of (cost (effectKey e)) (act again e)
   unfolding act
   act-grows again e h = go e
@@ -220,7 +202,6 @@ module _ {T : Tables} (𝓜 : Measure T) where
 -- ---- interning keeps the key
 
 -- the one law of tables that the bounds need: what is found under a key has that key
--- as lawful tables have it
 abbrev pub Finding : Tables → Type 0
 Finding T = (c : T .Context) (k : EffectKey) (e : AliasingEffect) → T .findEffect c k ≡ some e → k ≡ effectKey e
 
@@ -245,23 +226,19 @@ module _ {T : Tables} (found : Finding T) (e : AliasingEffect) where
 -- ---- an instruction
 
 -- nothing initialized, listed or entered yet
--- the work that an instruction starts from
 abbrev pub started : (T : Tables) → Work T
 started T = record { initialized = T .noneInitialized; listed = T .noneListed; freezeEntries = 0; entries = 0 }
 
 -- how many places the own function mutates inside, none without such a function
--- as the context says
 unfoldable pub mutated : (T : Tables) → Option ℕ → T .Context → ℕ
 mutated T none c = 0
 mutated T (some f) c = length (T .mutatedInside c f)
 
 -- how many effects an instruction lists at the most
--- the early errors, and what each candidate weighs
 abbrev pub lists : (T : Tables) → Instruction → T .Context → ℕ
 lists T ins c = mutated T (ins .own) c + total (λ e. weight (effectKey e)) (ins .candidates)
 
 -- how many walks an instruction makes at the most
--- one for each Freeze
 abbrev pub walksOf : Instruction → ℕ
 walksOf ins = total (λ e. freezes (effectKey e)) (ins .candidates)
 
@@ -269,21 +246,18 @@ module _ {T : Tables} (found : Finding T) (𝓜 : Measure T) where
   open Measure 𝓜 using (of, listing, walking, emits)
 
   -- the step of an effect: at most what its key costs
-  -- by the depth of derivation
   pub step-grows : (d : ℕ) (e : AliasingEffect) → Grows of (cost 𝓜 (effectKey e)) (applyEffect {T = T} d e)
   unfolding applyEffect
   step-grows zero e = refuse-grows 99
   step-grows (suc d) e = bind-known (intern-known found e) (intern-grows e) (λ x k. subst (λ (z : EffectKey). Grows of (cost 𝓜 z) (act (applyEffect d) x)) (sym k) (act-grows 𝓜 (applyEffect d) x (step-grows d)))
 
   -- the costs of the candidates
-  -- listing and walking apart
   total-cost : (l : List AliasingEffect) → total (λ e. cost 𝓜 (effectKey e)) l ≡ listing * total (λ e. weight (effectKey e)) l + walking * total (λ e. freezes (effectKey e)) l
   unfolding total
   total-cost [] = omega arith
   total-cost (e ∷ l) = let h = total-cost l in omega arith
 
   -- an early error of a place
-  -- one MutateFrozen, if any
   reportEarly-grows : (p : Place) → Grows of listing (reportEarly {T = T} p)
   unfolding reportEarly
   reportEarly-grows p = bind-keeps (setOf-grows _) (λ o. bind-keeps (peek-grows _) (λ a. bind-keeps (ask-grows _) (λ name.
@@ -296,7 +270,6 @@ module _ {T : Tables} (found : Finding T) (𝓜 : Measure T) where
   earlyError-grows f p = bind-keeps (ask-grows _) (λ near. if-grows near (reportEarly-grows p) done-grows)
 
   -- the early errors of an instruction: one for each place mutated inside, at the most
-  -- as the context says where the instruction begins
   earlyErrors-grows : (o : Option ℕ) (w : World T) → of (after (earlyErrors o w)) ≤ of (w .rest .work) + listing * mutated T o (w .rest .context)
   unfolding earlyErrors mutated ask _>>=_ andThen
   earlyErrors-grows none w = done-grows {μ = of} {b = listing * 0} .grows w
@@ -308,7 +281,6 @@ module _ {T : Tables} (found : Finding T) (𝓜 : Measure T) where
   rest-grows ins = then-rest (each-grows _ (ins .candidates) (step-grows 4)) (then-keeps (defineLvalue-grows _) (change-grows _ (λ r. refl)))
 
   -- the run of an instruction: what it lists and walks at the most
-  -- from any world
   pub run-grows : (ins : Instruction) (w : World T) → of (after (run ins w)) ≤ of (w .rest .work) + (listing * lists T ins (w .rest .context) + walking * walksOf ins)
   unfolding run _>>_ _>>=_
   run-grows ins w =
@@ -317,7 +289,6 @@ module _ {T : Tables} (found : Finding T) (𝓜 : Measure T) where
       omega arith
 
   -- the call for an instruction, refused or not: the measure at the end, from the work that it starts from
-  -- what a world has done before does not count
   pub signature-grows : (ins : Instruction) (w : World T) → of (after (applySignature ins w)) ≤ of (started T) + (listing * lists T ins (w .rest .context) + walking * walksOf ins)
   unfolding applySignature startInstruction change _>>_ _>>=_ andThen
   signature-grows ins w = atomically-grows of (run ins) u _ (run-grows ins u)

@@ -11,7 +11,6 @@ use Rattle.def_transfer.specs.Tables.{Tables, Work, Rest, World}
 use Rattle.def_transfer.specs.State.{ask, change}
 
 -- the same tables, with the listed effects as a list and the entries as a number
--- neither has a limit
 abbrev pub unlimited : Tables → Tables
 unlimited T = record {
   Values = T .Values;
@@ -56,19 +55,16 @@ unlimited T = record {
 
 module _ (T : Tables) where
   -- the effects of a list, listed one after the other
-  -- as the tables list them
   unfoldable pub listAll : T .Listed → List AliasingEffect → T .Listed
   listAll l [] = l
   listAll l (e ∷ es) = listAll (T .putListed l e) es
 
   -- so many entries, counted one after the other
-  -- as the tables count them
   unfoldable pub countAll : ℕ → ℕ
   countAll zero = 0
   countAll (suc n) = T .oneMore (countAll n)
 
   -- one more effect at the end is listed last
-  -- by the effects before it
   pub list-last : (l : T .Listed) (es : List AliasingEffect) (e : AliasingEffect) → listAll l (es ++ (e ∷ [])) ≡ T .putListed (listAll l es) e
   unfolding listAll
   list-last l [] e = refl
@@ -77,39 +73,32 @@ module _ (T : Tables) where
   -- ---- a world without limits, as the tables have it
 
   -- the session, with its entries as the tables count them
-  -- it holds those of the last instruction
   abbrev pub limitSession : Session → Session
   limitSession s = record { next = s .next; access = s .access; span = s .span; entries = countAll (s .entries) }
 
   -- the work, with its effects as the tables list them and its entries as they count them
-  -- the rest is the same
   abbrev pub limitWork : Work (unlimited T) → Work T
   limitWork k = record { initialized = k .initialized; listed = listAll (T .noneListed) (k .listed); freezeEntries = k .freezeEntries; entries = countAll (k .entries) }
 
   -- session, context and work
-  -- the context is the same
   abbrev pub limitRest : Rest (unlimited T) → Rest T
   limitRest r = record { session = limitSession (r .session); context = r .context; work = limitWork (r .work) }
 
   -- a whole world
-  -- the state is the same
   abbrev pub limit : World (unlimited T) → World T
   limit w = record { state = record { values = w .state .values; sets = w .state .sets; isFunctionExpression = w .state .isFunctionExpression }; rest = limitRest (w .rest) }
 
   -- an outcome, with its world as the tables have it
-  -- answer and refusal are the same
   abbrev pub limited : {A : Type 0} → Res (World (unlimited T)) A → Res (World T) A
   limited (ok a w) = ok a (limit w)
   limited (refused n w) = refused n (limit w)
 
   -- m over the tables does what n does without limits
-  -- from any world
   pub record Same {A : Type 0} (m : M (World T) A) (n : M (World (unlimited T)) A) : Type 0 where
     pub same : (w : World (unlimited T)) → m (limit w) ≡ limited (n w)
 
 module _ {T : Tables} where
   -- the same outcome, and then the same
-  -- by the outcome
   and-then : {A B : Type 0} {f : A → M (World T) B} {g : A → M (World (unlimited T)) B} → ((a : A) → Same T (f a) (g a)) → (r : Res (World (unlimited T)) A) → andThen (limited T r) f ≡ limited T (andThen r g)
   unfolding andThen
   and-then h (ok a w) = h a .same w
@@ -122,45 +111,38 @@ module _ {T : Tables} where
   bind-same {n = n} {f = f} {g = g} h k = record { same = λ w. ap (λ (r : Res (World T) _). andThen r f) (h .same w) ∙ and-then k (n w) }
 
   -- one computation, and then another
-  -- both are the same
   pub then-same : {B : Type 0} {m : M (World T) Done} {n : M (World (unlimited T)) Done} {f : M (World T) B} {g : M (World (unlimited T)) B} → Same T m n → Same T f g → Same T (m >> f) (n >> g)
   unfolding _>>_
   then-same h k = bind-same h (λ a. k)
 
   -- an answer
-  -- the world stays
   pub return-same : {A : Type 0} (a : A) → Same T (return a) (return a)
   unfolding return
   return-same a = record { same = λ w. refl }
 
   -- an answer that says nothing
-  -- the world stays
   pub done-same : Same T done done
   unfolding done
   done-same = return-same tt
 
   -- a refusal
-  -- the world stays
   pub refuse-same : {A : Type 0} (n : ℕ) → Same T (refuse {A = A} n) (refuse n)
   unfolding refuse
   refuse-same n = record { same = λ w. refl }
 
   -- either branch
-  -- by the same test
   pub if-same : {A : Type 0} {m n : M (World T) A} {f g : M (World (unlimited T)) A} (b : Bool) → Same T m f → Same T n g → Same T (if b then m else n) (if b then f else g)
   unfolding if_then_else_
   if-same true h k = h
   if-same false h k = k
 
   -- one after the other
-  -- each the same
   pub each-same : {A : Type 0} {f : A → M (World T) Done} {g : A → M (World (unlimited T)) Done} (l : List A) → ((x : A) → Same T (f x) (g x)) → Same T (each l f) (each l g)
   unfolding each
   each-same [] h = done-same
   each-same (x ∷ xs) h = then-same (h x) (each-same xs h)
 
   -- after a refusal the world is as before
-  -- in both
   pub atomically-same : {A : Type 0} {m : M (World T) A} {n : M (World (unlimited T)) A} → Same T m n → Same T (atomically m) (atomically n)
   unfolding atomically restore
   atomically-same {A = A} {m = m} {n = n} h = record { same = λ w. ap (restore (limit T w)) (h .same w) ∙ go w (n w) }
@@ -170,13 +152,11 @@ module _ {T : Tables} where
       go w (refused k u) = refl
 
   -- what is read of session, context and work
-  -- if it is the same with limits and without
   pub ask-same : {A : Type 0} (f : Rest T → A) (g : Rest (unlimited T) → A) → ((r : Rest (unlimited T)) → f (limitRest T r) ≡ g r) → Same T (ask f) (ask g)
   unfolding ask
   ask-same f g h = record { same = λ w. ap (λ (a : _). ok a (limit T w)) (h (w .rest)) }
 
   -- a change of session, context and work
-  -- if it comes to the same
   pub change-same : (f : Rest T → Rest T) (g : Rest (unlimited T) → Rest (unlimited T)) → ((r : Rest (unlimited T)) → f (limitRest T r) ≡ limitRest T (g r)) → Same T (change f) (change g)
   unfolding change
   change-same f g h = record {
@@ -184,5 +164,4 @@ module _ {T : Tables} where
   }
 
 -- what `search` finds by that two computations are the same
--- binds, tests, lists, reads and changes
 pub ruleset alike = (bind-same, then-same, return-same, done-same, refuse-same, if-same, each-same, ask-same, change-same)

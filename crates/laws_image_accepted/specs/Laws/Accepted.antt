@@ -23,7 +23,6 @@ use Rattle.laws_image_accepted.specs.Laws.Instruction.{instruction-right
 
 module _ (im : Image) (small : (i : ℕ) → word im i < 4294967296) (ok : refusalOfWords im ≡ 0) where
   -- the context says how many functions there are
-  -- the call reads their count off it
   functions-count : getD (lentContext im) Layout.functionCount 0 ≡ countOf im functions
   functions-count = function-count-back im (zeros 235973) (let z = zeros-length 235973 in omega arith)
 

@@ -43,7 +43,6 @@ use Rattle.laws_image_accepted.specs.Laws.Lengths.{lentContext}
 -- ---- records of zeros
 
 -- a record of zeros earns nothing where zero is below every limit
--- links and keys are such
 record-zero : (t : Table) (i : ℕ) (lim : ℕ → Option ℕ) (c : List ℕ) → ((v : ℕ) → Pos (lim v)) → Zero t i c → recordClass t c lim i ≡ 0
 record-zero t i lim c p z = record-good t i lim c (zero-good t i lim c p z)
 
@@ -57,7 +56,6 @@ word-used (suc u) x h l = word-below 4294967296 x l
 
 module _ (im : Image) where
   -- the header leaves every table
-  -- three words before them
   header-kept : (t : Table) (c : List ℕ) (j v : ℕ) → 3 ≤ t .base → field t (decodedHeader im c) j v ≡ field t c j v
   unfolding decodedHeader
   header-kept t c j v h =
@@ -66,7 +64,6 @@ module _ (im : Image) where
       ∙ set-outside t c 0 (options im) j v (inl (omega arith))
 
   -- an identifier leaves the other identifiers
-  -- records of one table are apart
   identifier-other : (k j : ℕ) (c : List ℕ) → (k ≡ j → ⊥) → (v : ℕ) → field Layout.identifiers (decodedIdentifier im k c) j v ≡ field Layout.identifiers c j v
   unfolding decodedIdentifier
   identifier-other k j c n v =
@@ -76,7 +73,6 @@ module _ (im : Image) where
       ∙ put-record Layout.identifiers c k 0 (identifierFlags im k) j v n
 
   -- and the tables of the functions
-  -- tables are apart
   identifier-apart : (u : Table) → apart Layout.identifiers u ≡ true → (k j : ℕ) (c : List ℕ) (v : ℕ) → field u (decodedIdentifier im k c) j v ≡ field u c j v
   unfolding decodedIdentifier
   identifier-apart u a k j c v =
@@ -86,7 +82,6 @@ module _ (im : Image) where
       ∙ put-apart Layout.identifiers u c k 0 (identifierFlags im k) j v a
 
   -- flags and counts of a function leave a table that is apart from the functions
-  -- three words are written
   counts-apart : (u : Table) → apart Layout.functions u ≡ true → (k j : ℕ) (c : List ℕ) (v : ℕ) → field u (decodedCounts im k c) j v ≡ field u c j v
   unfolding decodedCounts
   counts-apart u a k j c v =
@@ -95,7 +90,6 @@ module _ (im : Image) where
       ∙ put-apart Layout.functions u c k 0 (functionFlags im k) j v a
 
   -- a function leaves the identifiers
-  -- its two tables are apart from them
   function-apart : (k j : ℕ) (c : List ℕ) (v : ℕ) → field Layout.identifiers (decodedFunction im k c) j v ≡ field Layout.identifiers c j v
   unfolding decodedFunction apart end
   function-apart k j c v =
@@ -104,12 +98,10 @@ module _ (im : Image) where
       ∙ counts-apart Layout.identifiers refl k j c v
 
   -- the list before a function's context places are written
-  -- flags, counts, and the places mutated inside
   abbrev inner : ℕ → List ℕ → List ℕ
   inner k c = putPlaces Layout.functions (decodedCounts im k c) k 3 0 (placesFrom im (insideFirst im k) (insideCount im k))
 
   -- a function leaves the other functions
-  -- records of one table are apart
   function-other : (k j : ℕ) (c : List ℕ) → (k ≡ j → ⊥) → (v : ℕ) → field Layout.functions (decodedFunction im k c) j v ≡ field Layout.functions c j v
   unfolding decodedFunction decodedCounts apart end
   function-other k j c n v =
@@ -120,14 +112,12 @@ module _ (im : Image) where
       ∙ put-record Layout.functions c k 0 (functionFlags im k) j v n
 
   -- before its context places a function leaves those of all
-  -- tables are apart
   inner-apart : (k j : ℕ) (c : List ℕ) (v : ℕ) → field Layout.contexts (inner k c) j v ≡ field Layout.contexts c j v
   unfolding apart end
   inner-apart k j c v =
       places-apart Layout.functions Layout.contexts (decodedCounts im k c) k 3 0 (placesFrom im (insideFirst im k) (insideCount im k)) j v refl ∙ counts-apart Layout.contexts refl k j c v
 
   -- and the context places of the other functions
-  -- records of one table are apart
   places-other : (k j : ℕ) (c : List ℕ) → (k ≡ j → ⊥) → (v : ℕ) → field Layout.contexts (decodedFunction im k c) j v ≡ field Layout.contexts c j v
   unfolding decodedFunction
   places-other k j c n v = places-record Layout.contexts (inner k c) k 0 0 (placesFrom im (contextFirst im k) (contextCount im k)) j v n ∙ inner-apart k j c v
@@ -135,22 +125,18 @@ module _ (im : Image) where
   -- ---- the context, step by step
 
   -- zeros with the header
-  -- three words are written
   abbrev headed : List ℕ
   headed = decodedHeader im (zeros 235973)
 
   -- and with the identifiers
-  -- the functions come last
   abbrev named : List ℕ
   named = after (decodedIdentifier im) (countOf im identifiers) headed
 
   -- every record of a table is zero after the header
-  -- zeros hold no word
   headed-zero : (t : Table) → 3 ≤ t .base → (j : ℕ) → Zero t j headed
   headed-zero t h j v = header-kept t (zeros 235973) j v h ∙ zero-record t j (zeros 235973) (zero-word 235973) v
 
   -- and so it is after the identifiers, where the table is apart from them
-  -- functions and their context places
   named-zero : (t : Table) → 3 ≤ t .base → apart Layout.identifiers t ≡ true → (j : ℕ) → Zero t j named
   named-zero t h a j =
       rest-stays (decodedIdentifier im) (λ i d. Zero t j d) (λ k i d n z v. identifier-apart t a k j d v ∙ z v) headed (λ i. headed-zero t h j) (countOf im identifiers) (countOf im identifiers) (le-refl (countOf im identifiers))
@@ -177,13 +163,11 @@ module _ (im : Image) where
       go false e = field-out t (lentContext im) j v e
 
   -- nothing is interned
-  -- the count is zero
   none-interned : internedCount (lentContext im) ≡ 0
   unfolding end internedCount
   none-interned = word-stays im (zeros 235973) 12483 (omega arith) (inr (let z : 2051 ≤ 12483 = omega arith in z)) (inr (let z : 12483 ≤ 12483 = omega arith in z)) (inl (let z : 12483 < 12485 = omega arith in z)) ∙ zero-word 235973 12483
 
   -- and there is no diagnostic
-  -- their count is zero too
   none-told : instanceCount (lentContext im) ≡ 0
   unfolding end instanceCount
   none-told = word-stays im (zeros 235973) 12484 (omega arith) (inr (let z : 2051 ≤ 12484 = omega arith in z)) (inr (let z : 12483 ≤ 12484 = omega arith in z)) (inl (let z : 12484 < 12485 = omega arith in z)) ∙ zero-word 235973 12484
@@ -191,7 +175,6 @@ module _ (im : Image) where
   -- ---- tables that are empty
 
   -- a link earns nothing
-  -- no value has a function yet
   link-right : (f v : ℕ) → linkClass f (lentContext im) v ≡ 0
   unfolding linkClass linkLimit
   link-right f v =
@@ -200,7 +183,6 @@ module _ (im : Image) where
       (far-zero Layout.links (omega arith) v)
 
   -- a number without a key earns nothing
-  -- none is cached yet
   key-right : (n f v : ℕ) → cachedClass n f (lentContext im) v ≡ 0
   unfolding cachedClass noKeyClass
   key-right n f v =
@@ -212,21 +194,18 @@ module _ (im : Image) where
       go false = eq-eqb (field Layout.cached (lentContext im) v 0) 0 (far-zero Layout.cached (omega arith) v 0)
 
   -- so the links earn nothing
-  -- below the next number, and after it
   links-right : (f m : ℕ) → linksClass f (lentContext im) m ≡ 0
   unfolding linksClass
   links-right f m =
       lower-both _ _ (lowest-both (handedOut m) (linkClass f (lentContext im)) (λ k l. link-right f k)) (stray-none Layout.links (lentContext im) (handedOut m) (omega arith) (λ j l. far-zero Layout.links (omega arith) j))
 
   -- nor do the cached numbers
-  -- below the next number, and after it
   keys-right : (n f m : ℕ) → keysClass n f (lentContext im) m ≡ 0
   unfolding keysClass
   keys-right n f m =
       lower-both _ _ (lowest-both (handedOut m) (cachedClass n f (lentContext im)) (λ k l. key-right n f k)) (stray-none Layout.cached (lentContext im) (handedOut m) (omega arith) (λ j l. far-zero Layout.cached (omega arith) j))
 
   -- nor do the diagnostics
-  -- there are none
   diagnostics-right : (n : ℕ) → diagnosticsClass n (lentContext im) ≡ 0
   unfolding diagnosticsClass
   diagnostics-right n =
@@ -234,7 +213,6 @@ module _ (im : Image) where
       (stray-none Layout.diagnostics (lentContext im) (instanceCount (lentContext im)) (omega arith) (λ j l. far-zero Layout.diagnostics (omega arith) j))
 
   -- nor do the interned effects
-  -- there are none
   effects-right : (n f : ℕ) → effectsClass n f (lentContext im) ≡ 0
   unfolding effectsClass
   effects-right n f =
@@ -242,20 +220,17 @@ module _ (im : Image) where
       (stray-none Layout.interned (lentContext im) (internedCount (lentContext im)) (omega arith) (λ j l. far-zero Layout.interned (omega arith) j))
 
 -- as many places are read as are asked for
--- a place of five words each
 places-count : (t : Table) (c : List ℕ) (i w k n : ℕ) → length (placesIn t c i w k n) ≡ n
 unfolding placesIn
 places-count t c i w k zero = refl
 places-count t c i w k (suc n) = ap suc (places-count t c i w (suc k) n)
 
 -- a run of an image's places is as long as its count
--- one place after the other
 places-long : (im : Image) (first count : ℕ) → length (placesFrom im first count) ≡ count
 unfolding placesFrom
 places-long im first count = run-length count first (placeAt im)
 
 -- the second flag, tested two ways
--- by the image, and by the context
 flags-same : (x : ℕ) → Lent.flagTwo x ≡ flagTwo x
 flags-same x =
     ⊎-elim
@@ -265,34 +240,28 @@ flags-same x =
 
 module _ (im : Image) (small : (i : ℕ) → word im i < 4294967296) (ok : refusalOfWords im ≡ 0) where
   -- how many identifiers there are
-  -- a short name for the laws below
   abbrev n : ℕ
   n = countOf im identifiers
 
   -- how many functions there are
-  -- a short name too
   abbrev f : ℕ
   f = countOf im functions
 
   -- the context
-  -- a short name too
   abbrev c : List ℕ
   c = lentContext im
 
   -- it holds every table
-  -- as the laws that read it back ask
   long : 17605 ≤ length (zeros 235973)
   long = let z = zeros-length 235973 in omega arith
 
   -- ---- identifiers
 
   -- the limits of identifier k
-  -- by its flags
   abbrev naming : ℕ → ℕ → Option ℕ
   naming k = identifierLimit (identifierFlags im k)
 
   -- zero is below each
-  -- an identifier begins so
   naming-pos : (k v : ℕ) → Pos (naming k v)
   unfolding identifierLimit
   naming-pos k v =
@@ -316,7 +285,6 @@ module _ (im : Image) (small : (i : ℕ) → word im i < 4294967296) (ok : refus
       (put-below Layout.identifiers k (naming k) d 0 (identifierFlags im k) 4 refl (r .0) (zero-good Layout.identifiers k (naming k) d (naming-pos k) z))))
 
   -- each identifier is right, once all are written
-  -- the functions leave them
   identifiers-good : (j : ℕ) → j < n → Good Layout.identifiers j (naming j) c
   identifiers-good j l =
       functions-leave im (Good Layout.identifiers j (naming j)) (λ k d g v. ap (wordClass (naming j v)) (function-apart im k j d v) ∙ g v)
@@ -324,7 +292,6 @@ module _ (im : Image) (small : (i : ℕ) → word im i < 4294967296) (ok : refus
       (λ i d. Good Layout.identifiers i (naming i) d) (λ k i d e g v. ap (wordClass (naming i v)) (identifier-other im k i d e v) ∙ g v) (identifier-length im) n (λ k d h e z. identifier-made k d h z) j l)
 
   -- and what stands after the last is zero
-  -- the functions leave that too
   identifiers-after : (j : ℕ) → n ≤ j → Zero Layout.identifiers j c
   identifiers-after j l =
       functions-leave im (Zero Layout.identifiers j) (λ k d z v. function-apart im k j d v ∙ z v)
@@ -344,27 +311,22 @@ module _ (im : Image) (small : (i : ℕ) → word im i < 4294967296) (ok : refus
   -- ---- functions
 
   -- the limits of function k
-  -- by its count of places mutated inside
   abbrev shape : ℕ → ℕ → Option ℕ
   shape k = functionLimit n (insideCount im k)
 
   -- the limits of its context places
-  -- by their count
   abbrev run : ℕ → ℕ → Option ℕ
   run k = runLimit n (contextCount im k)
 
   -- both records of function k are zero
-  -- the places mutated inside stand with its counts
   abbrev Blank : ℕ → List ℕ → Type 0
   Blank k d = Zero Layout.functions k d × Zero Layout.contexts k d
 
   -- or both earn nothing
-  -- once the function is written
   abbrev Done : ℕ → List ℕ → Type 0
   Done k d = Good Layout.functions k (shape k) d × Good Layout.contexts k (run k) d
 
   -- zero is below each limit
-  -- a function begins so
   shape-pos : (k v : ℕ) → Pos (shape k v)
   unfolding functionLimit
   shape-pos k v =
@@ -399,35 +361,29 @@ module _ (im : Image) (small : (i : ℕ) → word im i < 4294967296) (ok : refus
       (zero-good Layout.contexts k (run k) (inner im k d) (λ v. pos-run n (contextCount im k) v (some-identifier im ok)) (λ v. inner-apart im k k d v ∙ z v))
 
   -- a function leaves the zeros of another
-  -- in both its records
   blank-stays : (k j : ℕ) (d : List ℕ) → (k ≡ j → ⊥) → Blank j d → Blank j (decodedFunction im k d)
   blank-stays k j d e z = ((λ v. function-other im k j d e v ∙ z .0 v), (λ v. places-other im k j d e v ∙ z .1 v))
 
   -- and what is right of another
-  -- in both its records
   done-stays : (k j : ℕ) (d : List ℕ) → (k ≡ j → ⊥) → Done j d → Done j (decodedFunction im k d)
   done-stays k j d e g = ((λ v. ap (wordClass (shape j v)) (function-other im k j d e v) ∙ g .0 v), (λ v. ap (wordClass (run j v)) (places-other im k j d e v) ∙ g .1 v))
 
   -- before the functions both tables are zero
-  -- header and identifiers are written
   before : (j : ℕ) → Blank j (named im)
   unfolding apart end
   before j = (named-zero im Layout.functions (omega arith) refl j, named-zero im Layout.contexts (omega arith) refl j)
 
   -- each function is right, once all are written
-  -- its two records
   functions-good : (j : ℕ) → j < f → Done j c
   unfolding decodedContext decodedFunctions decodedIdentifiers
   functions-good = each-done (decodedFunction im) Blank blank-stays (named im) before Done done-stays (function-length im) f (λ k d h e z. (function-made k d h (z .0), places-made k d h (z .1)))
 
   -- and what stands after the last is zero
-  -- in both tables
   functions-after : (j : ℕ) → f ≤ j → Blank j c
   unfolding decodedContext decodedFunctions decodedIdentifiers
   functions-after = rest-stays (decodedFunction im) Blank blank-stays (named im) before f
 
   -- the count of a function's context places is that of the image
-  -- as many places are read back as there are
   count-context : (j : ℕ) → j < f → field Layout.functions c j 1 ≡ contextCount im j
   unfolding contextOf
   count-context j l =
@@ -436,7 +392,6 @@ module _ (im : Image) (small : (i : ℕ) → word im i < 4294967296) (ok : refus
       ∙ places-long im (contextFirst im j) (contextCount im j)
 
   -- and so is the count of its places mutated inside
-  -- as many places are read back as there are
   count-inside : (j : ℕ) → j < f → field Layout.functions c j 2 ≡ insideCount im j
   unfolding mutatedInside
   count-inside j l =

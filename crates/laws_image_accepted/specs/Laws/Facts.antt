@@ -22,31 +22,26 @@ first-not true k n h e = absurd (h e)
 first-not false k n h e = refl
 
 -- and the classes after it
--- they are tested where it is not earned
 rest-not : (b : Bool) (k n : ℕ) → (k ≡ 0 → ⊥) → _≡_ {A = ℕ} (elim b [ true ↦ k | false ↦ n ]) 0 → n ≡ 0
 rest-not true k n h e = absurd (h e)
 rest-not false k n h e = e
 
 -- both of two tests that did not hold, the first of which does
--- so the second does not
 and-not : (a b : Bool) → (a && b) ≡ false → a ≡ true → b ≡ false
 and-not true b e h = e
 and-not false b e h = let z : _≡_ {A = ℕ} 0 1 = cc in absurd (omega arith)
 
 -- both of two tests that hold
--- each of them
 both : (a b : Bool) → (a && b) ≡ true → (a ≡ true) × (b ≡ true)
 both true b e = (refl, e)
 both false b e = let z : _≡_ {A = ℕ} 0 1 = cc in absurd (omega arith)
 
 -- either of two tests that holds
--- one of them
 either : (a b : Bool) → (a || b) ≡ true → (a ≡ true) ⊎ (b ≡ true)
 either true b e = inl refl
 either false b e = inr e
 
 -- a number that is below another, by a test turned round
--- ranges are tested so
 below : (x n : ℕ) → not (ltb x n) ≡ false → x < n
 below x n e = ltb-true x n (not-false (ltb x n) e)
 
@@ -88,37 +83,31 @@ module _ (im : Image) (ok : refusalOfWords im ≡ 0) where
   many = or-no-first (tooManyRecords im) _ (or-no-second (wrongEdition im) _ (or-no-first (wrongHeader im) _ two))
 
   -- "identifiers (at most 512)"
-  -- as many as the state has rows for
   pub few-identifiers : countOf im identifiers ≤ 512
   unfolding tooManyRecords
   few-identifiers = ltb-false 512 (countOf im identifiers) (or-no-first (ltb 512 (countOf im identifiers)) _ many)
 
   -- "functions (64)"
-  -- as many as the context has records for
   pub few-functions : countOf im functions ≤ 64
   unfolding tooManyRecords
   few-functions = ltb-false 64 (countOf im functions) (or-no-first (ltb 64 (countOf im functions)) _ (or-no-second (ltb 512 (countOf im identifiers)) _ many))
 
   -- "candidates (64)"
-  -- as many as are lent records for
   pub few-candidates : countOf im candidates ≤ 64
   unfolding tooManyRecords
   few-candidates = ltb-false 64 (countOf im candidates) (or-no-second (ltb 64 (countOf im functions)) _ (or-no-second (ltb 512 (countOf im identifiers)) _ many))
 
   -- no run of a function is too long
-  -- neither of its two
   short-function : (k : ℕ) → k < countOf im functions → longFunction im k ≡ false
   unfolding earnsTwo anyRecord
   short-function = any-at (countOf im functions) (longFunction im) (or-no-first (anyRecord im functions (longFunction im)) _ (or-no-second (wrongHeader im) _ two))
 
   -- "context places (16)"
-  -- of each function
   pub few-context : (k : ℕ) → k < countOf im functions → contextCount im k ≤ 16
   unfolding longFunction
   few-context k l = ltb-false 16 (contextCount im k) (or-no-first (ltb 16 (contextCount im k)) _ (short-function k l))
 
   -- "places mutated inside (32)"
-  -- of each function
   pub few-inside : (k : ℕ) → k < countOf im functions → insideCount im k ≤ 32
   unfolding longFunction
   few-inside k l = ltb-false 32 (insideCount im k) (or-no-second (ltb 16 (contextCount im k)) _ (short-function k l))
@@ -156,13 +145,11 @@ module _ (im : Image) (ok : refusalOfWords im ≡ 0) where
       )
 
   -- "options (bit 0 .., bit 1 ..)"
-  -- two flags
   pub options-small : options im < 4
   unfolding badHeader areFlags
   options-small = below (options im) 4 (or-no-first (not (areFlags (options im))) _ (ranges .0))
 
   -- "next number 1..512"
-  -- both ends
   pub next-range : (1 ≤ next im) × (next im ≤ 512)
   unfolding badHeader
   next-range =
@@ -171,7 +158,6 @@ module _ (im : Image) (ok : refusalOfWords im ≡ 0) where
       (leb-true 1 (next im) (b .0), leb-true (next im) 512 (b .1))
 
   -- "lvalue's place index"
-  -- one of the places
   pub lvalue-place : lvalue im < countOf im places
   unfolding badHeader isIn
   lvalue-place =
@@ -180,7 +166,6 @@ module _ (im : Image) (ok : refusalOfWords im ≡ 0) where
       below (lvalue im) (countOf im places) (or-no-first (not (isIn im places (lvalue im))) _ b)
 
   -- "own function + 1 or 0"
-  -- at most the number of functions
   pub own-most : own im ≤ countOf im functions
   unfolding badHeader
   own-most =
@@ -189,7 +174,6 @@ module _ (im : Image) (ok : refusalOfWords im ≡ 0) where
       leb-true (own im) (countOf im functions) (not-false (leb (own im) (countOf im functions)) (or-no-second (not (isIn im places (lvalue im))) _ b))
 
   -- "flags (1 ref, 2 hoisted), name 1..512 or 0"
-  -- of each identifier
   pub identifier-range : (k : ℕ) → k < countOf im identifiers → (identifierFlags im k < 4) × (identifierName im k ≤ 512)
   unfolding anyRecord badIdentifier areFlags
   identifier-range k l =
@@ -197,7 +181,6 @@ module _ (im : Image) (ok : refusalOfWords im ≡ 0) where
       (below (identifierFlags im k) 4 (or-no-first (not (areFlags (identifierFlags im k))) _ a), ltb-false 512 (identifierName im k) (or-no-second (not (areFlags (identifierFlags im k))) _ a))
 
   -- "Value numbers are 1..1023"; "512 + i needs identifier i in the list, else 3"
-  -- a number by its test
   number-range : (v : ℕ) → isNumber im v ≡ true → (1 ≤ v) × (v < 512 + countOf im identifiers)
   unfolding isNumber
   number-range v e =
@@ -205,7 +188,6 @@ module _ (im : Image) (ok : refusalOfWords im ≡ 0) where
       (leb-true 1 v (b .0), ltb-true v (512 + countOf im identifiers) (b .1))
 
   -- "values: number, kind, reasons"
-  -- of each value
   pub value-range : (k : ℕ) → k < countOf im values → (1 ≤ valueNumber im k) × (valueNumber im k < 512 + countOf im identifiers) × (areReasons (valueReasons im k) ≡ true)
   unfolding anyRecord badValue
   value-range k l =
@@ -215,7 +197,6 @@ module _ (im : Image) (ok : refusalOfWords im ≡ 0) where
       (n .0, n .1, not-false (areReasons (valueReasons im k)) (or-no-second (not (ltb (valueKind im k) 6)) _ b))
 
   -- "pairs: identifier, value"; "value 0 .. means defined with an empty set"
-  -- of each pair
   pub pair-range : (k : ℕ) → k < countOf im pairs → (pairIdentifier im k < countOf im identifiers) × ((pairValue im k ≡ 0) ⊎ ((1 ≤ pairValue im k) × (pairValue im k < 512 + countOf im identifiers)))
   unfolding anyRecord badPair isIn
   pair-range k l =
@@ -228,7 +209,6 @@ module _ (im : Image) (ok : refusalOfWords im ≡ 0) where
       go (inr e) = inr (number-range (pairValue im k) e)
 
   -- "places: identifier, `Effect` in declared order from 0, reactive 0 or 1"
-  -- of each place
   pub place-range : (k : ℕ) → k < countOf im places → (placeIdentifier im k < countOf im identifiers) × (placeEffect im k < 8) × (placeReactive im k < 2)
   unfolding anyRecord badPlace isIn
   place-range k l =
@@ -247,25 +227,21 @@ module _ (im : Image) (ok : refusalOfWords im ≡ 0) where
       go false h = let z = ltb-false (countOf im places) (first + count) (and-not (not (eqb count 0)) _ e (ap not h)) in omega arith
 
   -- no word of a function is out of its range
-  -- flags, and both runs
   function-range : (k : ℕ) → k < countOf im functions → badFunction im k ≡ false
   unfolding anyRecord
   function-range = any-at (countOf im functions) (badFunction im) (ranges .5)
 
   -- "functions ..: flags (1 effects known, 2 tracked side effect ..)"
-  -- two flags
   pub function-flags : (k : ℕ) → k < countOf im functions → functionFlags im k < 4
   unfolding badFunction areFlags
   function-flags k l = below (functionFlags im k) 4 (or-no-first (not (areFlags (functionFlags im k))) _ (function-range k l))
 
   -- "2, and any place mutated inside, needs 1, else 3"
-  -- as the image tests it
   pub function-known : (k : ℕ) → k < countOf im functions → ((flagTwo (functionFlags im k) || not (eqb (insideCount im k) 0)) && not (flagOne (functionFlags im k))) ≡ false
   unfolding badFunction needsKnown
   function-known k l = or-no-first (needsKnown im k && not (flagOne (functionFlags im k))) _ (or-no-second (not (areFlags (functionFlags im k))) _ (function-range k l))
 
   -- "first and count of context places"
-  -- each is one of the places
   pub context-places : (k : ℕ) → k < countOf im functions → (j : ℕ) → j < contextCount im k → contextFirst im k + j < countOf im places
   unfolding badFunction
   context-places k l =
@@ -273,7 +249,6 @@ module _ (im : Image) (ok : refusalOfWords im ≡ 0) where
       (or-no-first (passesEnd im (contextFirst im k) (contextCount im k)) _ (or-no-second (needsKnown im k && not (flagOne (functionFlags im k))) _ (or-no-second (not (areFlags (functionFlags im k))) _ (function-range k l))))
 
   -- "first and count of places mutated inside"
-  -- each is one of the places
   pub inside-places : (k : ℕ) → k < countOf im functions → (j : ℕ) → j < insideCount im k → insideFirst im k + j < countOf im places
   unfolding badFunction
   inside-places k l =
@@ -287,7 +262,6 @@ module _ (im : Image) (ok : refusalOfWords im ≡ 0) where
   candidate-range = any-at (countOf im candidates) (badCandidate im) (ranges .6)
 
   -- "candidates ..: code (order of `AliasingEffect`, Freeze 0, Apply 12, Render 17)"
-  -- one of eighteen
   pub code-range : (k : ℕ) → k < countOf im candidates → code im k < 18
   unfolding badCandidate
   code-range k l = below (code im k) 18 (or-no-first (not (ltb (code im k) 18)) _ (candidate-range k l))
@@ -301,7 +275,6 @@ module _ (im : Image) (ok : refusalOfWords im ≡ 0) where
       (and-not (uses im k j) _ (any-at 6 (badWord im k) (or-no-first (anyBelow 6 (badWord im k)) _ (or-no-second (not (ltb (code im k) 18)) _ (candidate-range k l))) j h) u)
 
   -- "first and count of captures"
-  -- of a CreateFunction
   pub capture-places : (k : ℕ) → k < countOf im candidates → code im k ≡ 13 → (j : ℕ) → j < capturesCount im k → capturesFirst im k + j < countOf im places
   unfolding badCandidate createsFunction
   capture-places k l e =
@@ -311,7 +284,6 @@ module _ (im : Image) (ok : refusalOfWords im ≡ 0) where
   -- ---- class 4: unused words, and fresh numbers
 
   -- "access start, end (both words zero if not hoisted)"
-  -- of each identifier
   pub access-zero : (k : ℕ) → k < countOf im identifiers → flagTwo (identifierFlags im k) ≡ false → (accessStart im k ≡ 0) × (accessEnd im k ≡ 0)
   unfolding earnsFour anyRecord strayAccess
   access-zero k l e =
@@ -327,7 +299,6 @@ module _ (im : Image) (ok : refusalOfWords im ≡ 0) where
   fresh-below v e a b = leb-false (next im) v (and-not (leb 1 v && ltb v 512) _ e (λ i. le-leb 1 v a i && lt-ltb v 512 b i))
 
   -- the rest of class 4
-  -- after the accesses
   news : (anyRecord im values (λ k. notYetFresh im (valueNumber im k)) ≡ false) × (anyRecord im pairs (λ k. notYetFresh im (pairValue im k)) ≡ false)
   unfolding earnsFour
   news =
@@ -350,7 +321,6 @@ module _ (im : Image) (ok : refusalOfWords im ≡ 0) where
   -- ---- class 5
 
   -- "5 a candidate is Apply"
-  -- none is
   pub no-apply : (k : ℕ) → k < countOf im candidates → code im k ≡ 12 → ⊥
   unfolding earnsFive anyRecord isApply
   no-apply k l = eqb-false (code im k) 12 (any-at (countOf im candidates) (isApply im) five k l)

@@ -81,7 +81,6 @@ pos-effect n f d c m v h p q =
 
 module _ (n f : ℕ) (c : List ℕ) where
   -- records with the same words earn the same class
-  -- in lists of any lengths
   class-same : (xs ys : List ℕ) (i : ℕ) → ((v : ℕ) → field candidateTable xs i v ≡ field candidateTable ys i v) → effectClass n f c 5 candidateTable xs i ≡ effectClass n f c 5 candidateTable ys i
   unfolding effectClass recordClass wordsBelow
   class-same xs ys i h = λ j.
@@ -90,7 +89,6 @@ module _ (n f : ℕ) (c : List ℕ) where
       (lower (lowestBelow 98 (λ w. wordClass (effectLimit n f (instanceCount c) (h 0 j) (h 17 j) w) (h w j))) (numbersClass c (h 0 j) (h 15 j) (h 16 j))))
 
   -- a record earns nothing where none of its parts does
-  -- its code is said
   class-none : (xs : List ℕ) (i a : ℕ) → field candidateTable xs i 0 ≡ a → (a ≡ 12 → ⊥) → countClass a (field candidateTable xs i 17) ≡ 0
       → Good candidateTable i (effectLimit n f (instanceCount c) a (field candidateTable xs i 17)) xs → numbersClass c a (field candidateTable xs i 15) (field candidateTable xs i 16) ≡ 0
       → effectClass n f c 5 candidateTable xs i ≡ 0
@@ -101,7 +99,6 @@ module _ (n f : ℕ) (c : List ℕ) where
       ∙ lower-both _ _ p (lower-both _ _ (record-good candidateTable i (effectLimit n f (instanceCount c) a (field candidateTable xs i 17)) xs g) r)
 
 -- a candidate put keeps the length of the list
--- words are written, and none is added
 candidate-length : (im : Image) (k : ℕ) (xs : List ℕ) → length (decodedCandidate im k xs) ≡ length xs
 unfolding decodedCandidate
 candidate-length im k xs = effect-length candidateTable xs k (effectAt im k)
@@ -112,15 +109,12 @@ module _ (im : Image) (small : (i : ℕ) → word im i < 4294967296) (ok : refus
   -- ---- one candidate
 
   -- candidate k, put into a list that holds its record, which is zero
-  -- in whatever context
   module _ (c : List ℕ) (k : ℕ) (here : k < countOf im candidates) (d : List ℕ) (long : length d ≡ 6272) (blank : Zero candidateTable k d) where
     -- how many identifiers there are
-    -- a short name for the laws below
     abbrev n : ℕ
     n = countOf im identifiers
 
     -- how many functions there are
-    -- a short name too
     abbrev f : ℕ
     f = countOf im functions
 
@@ -130,7 +124,6 @@ module _ (im : Image) (small : (i : ℕ) → word im i < 4294967296) (ok : refus
     t = candidateTable
 
     -- the limits of a record by its code and count of captures
-    -- as the call has them
     abbrev lim : ℕ → ℕ → ℕ → Option ℕ
     lim a m v = effectLimit n f (instanceCount c) a m v
 
@@ -140,12 +133,10 @@ module _ (im : Image) (small : (i : ℕ) → word im i < 4294967296) (ok : refus
     row = let z = few-candidates im ok in omega arith
 
     -- a record that has its code, and whose words earn nothing so far
-    -- what every write keeps
     abbrev Made : ℕ → ℕ → List ℕ → Type 0
     Made a m e = (field t e k 0 ≡ a) × Good t k (lim a m) e
 
     -- the code is written first
-    -- into a record of zeros
     made-code : (a m : ℕ) → a < 18 → lim a m 0 ≡ some 18 → Pos (usedIf (Classes.uses a 5) (some f)) → Pos (usedIf (Classes.uses a 6) (some (instanceCount c))) → Made a m (putField t d k 0 a)
     made-code a m l e p q = (
       word-back t k d 0 a row (omega arith) (let z : 0 + k * 98 + 98 ≤ length d = (let y = row in omega arith) in z),
@@ -153,17 +144,14 @@ module _ (im : Image) (small : (i : ℕ) → word im i < 4294967296) (ok : refus
     )
 
     -- then a word
-    -- after the code
     made-word : (a m : ℕ) (e : List ℕ) (w x l : ℕ) → 1 ≤ w → lim a m w ≡ some l → x < l → Made a m e → Made a m (putField t e k w x)
     made-word a m e w x l h q b g = (word-beside t k e w x 0 (λ z. omega arith) ∙ g .0, put-below t k (lim a m) e w x l q b (g .1))
 
     -- or a place
-    -- after the code too
     made-place : (a m : ℕ) (e : List ℕ) (w : ℕ) (p : Place) → 1 ≤ w → Limits (lim a m) w n → Fine n p → Made a m e → Made a m (putPlace t e k w p)
     made-place a m e w p h q b g = (place-beside t k e w p 0 (λ y z. omega arith) ∙ g .0, place-good t k (lim a m) e w n p q b (g .1))
 
     -- a word that the candidate uses is below its limit
-    -- by its code
     used : (a j : ℕ) → code im k ≡ a → j < 6 → has j (getD usedWords a []) ≡ true → cell im candidates k j < limitOf im a j
     unfolding uses
     used a j e l h =
@@ -177,19 +165,16 @@ module _ (im : Image) (small : (i : ℕ) → word im i < 4294967296) (ok : refus
     first-fine a e h = place-fine im small ok (firstPlace im k) (used a 1 e (omega arith) h)
 
     -- and its second
-    -- a destination
     second-fine : (a : ℕ) → code im k ≡ a → has 2 (getD usedWords a []) ≡ true → Fine n (placeAt im (secondPlace im k))
     unfolding limitOf
     second-fine a e h = place-fine im small ok (secondPlace im k) (used a 2 e (omega arith) h)
 
     -- a candidate of one place
-    -- as four codes and Render have it
     one : (a : ℕ) → code im k ≡ a → a < 18 → has 1 (getD usedWords a []) ≡ true → Limits (lim a 0) 1 n → lim a 0 0 ≡ some 18 → Pos (usedIf (Classes.uses a 5) (some f)) → Pos (usedIf (Classes.uses a 6) (some (instanceCount c)))
         → Made a 0 (putPlace t (putField t d k 0 a) k 1 (placeAt im (firstPlace im k)))
     one a e l h q z p r = made-place a 0 (putField t d k 0 a) 1 (placeAt im (firstPlace im k)) (omega arith) q (first-fine a e h) (made-code a 0 l z p r)
 
     -- a candidate of two places
-    -- a source and a destination
     two : (a : ℕ) → code im k ≡ a → a < 18 → has 1 (getD usedWords a []) ≡ true → has 2 (getD usedWords a []) ≡ true → Limits (lim a 0) 1 n → Limits (lim a 0) 6 n → lim a 0 0 ≡ some 18 → Pos (usedIf (Classes.uses a 5) (some f))
         → Pos (usedIf (Classes.uses a 6) (some (instanceCount c)))
         → Made a 0 (putPlace t (putPlace t (putField t d k 0 a) k 1 (placeAt im (firstPlace im k))) k 6 (placeAt im (secondPlace im k)))
@@ -197,13 +182,11 @@ module _ (im : Image) (small : (i : ℕ) → word im i < 4294967296) (ok : refus
         made-place a 0 (putPlace t (putField t d k 0 a) k 1 (placeAt im (firstPlace im k))) 6 (placeAt im (secondPlace im k)) (omega arith) u (second-fine a e i) (one a e l h q z p r)
 
     -- the class of what was made
-    -- of a code that has no captures and no diagnostic
     made-none : (a : ℕ) (e : List ℕ) → (a ≡ 12 → ⊥) → ((x : ℕ) → countClass a x ≡ 0) → ((x v : ℕ) → lim a x v ≡ lim a 0 v) → ((x y : ℕ) → numbersClass c a x y ≡ 0) → Made a 0 e → effectClass n f c 5 t e k ≡ 0
     made-none a e q p s r g =
         class-none n f c e k a (g .0) q (p (field t e k 17)) (λ v. ap (λ (o : Option ℕ). wordClass o (field t e k v)) (s (field t e k 17) v) ∙ g .1 v) (r (field t e k 15) (field t e k 16))
 
     -- a Create: destination, kind, reason
-    -- a kind that is read is one of six
     create : code im k ≡ 9 → effectClass n f c 5 t (putEffect t d k (Create (placeAt im (secondPlace im k)) (Kinds.kindAt (detail im k)) (reason im k))) k ≡ 0
     unfolding putEffect effectLimit middleLimit placeLimit countClass numbersClass Classes.uses usedParts usedWords has wordClass limitOf
     create e =
@@ -287,7 +270,6 @@ module _ (im : Image) (small : (i : ℕ) → word im i < 4294967296) (ok : refus
     by-code (suc (suc (suc (suc (suc (suc (suc (suc (suc (suc (suc (suc (suc (suc (suc (suc (suc (suc a)))))))))))))))))) e = absurd (let z = code-range im ok k here in omega arith)
 
     -- so of its own
-    -- whatever that is
     pub candidate-right : effectClass n f c 5 t (decodedCandidate im k d) k ≡ 0
     unfolding decodedCandidate effectAt
     candidate-right = by-code (code im k) refl
@@ -295,13 +277,11 @@ module _ (im : Image) (small : (i : ℕ) → word im i < 4294967296) (ok : refus
   -- ---- the instruction
 
   -- a candidate leaves the records of the others
-  -- one record is written
   others : (k j : ℕ) (d : List ℕ) → (k ≡ j → ⊥) → (v : ℕ) → field candidateTable (decodedCandidate im k d) j v ≡ field candidateTable d j v
   unfolding decodedCandidate
   others k j d e v = effect-record candidateTable d k (effectAt im k) j v e
 
   -- each candidate's record earns nothing, once all are written
-  -- into zeros
   written-right : (c : List ℕ) (j : ℕ) → j < countOf im candidates → effectClass (countOf im identifiers) (countOf im functions) c 5 candidateTable (decodedCandidates im (countOf im candidates) (zeros 6272)) j ≡ 0
   unfolding decodedCandidates
   written-right c =
@@ -322,7 +302,6 @@ module _ (im : Image) (small : (i : ℕ) → word im i < 4294967296) (ok : refus
       ∙ written-right c j l
 
   -- a place in its ranges earns nothing
-  -- the lvalue is one
   place-right : (n : ℕ) (p : Place) → Fine n p → placeClass n p ≡ 0
   unfolding placeClass
   place-right n p g =

@@ -32,7 +32,6 @@ restored w (ok a u) h = h
 restored w (refused n u) h = h
 
 -- a number that passes both tests is from 6 to 11
--- as tests they are computed
 later : (n : ℕ) → T (ltb 5 n && ltb n 12) → (6 ≤ n) × (n ≤ 11)
 later n h = go (ltb 5 n) (ltb n 12) refl refl h
   where
@@ -100,6 +99,5 @@ pub accepted-bytes : (bs : List ℕ) → ((k : ℕ) → getD bs k 0 < 256) → r
 accepted-bytes bs h e = accepted-call (wordsOf bs) (words-small bs h) (words-accepted bs e)
 
 -- and their number is one of 6 to 11, or none
--- by the words that they make
 pub bytes-later : (bs : List ℕ) → ((k : ℕ) → getD bs k 0 < 256) → refusalOf bs ≡ 0 → (outcome (imageCall (wordsOf bs)) .applied .refusal ≡ 0) ⊎ ((6 ≤ outcome (imageCall (wordsOf bs)) .applied .refusal) × (outcome (imageCall (wordsOf bs)) .applied .refusal ≤ 11))
 bytes-later bs h e = refused-later (wordsOf bs) (words-small bs h) (words-accepted bs e)

@@ -29,7 +29,6 @@ use Rattle.laws_image_accepted.specs.Laws.Facts.{few-identifiers, few-ca
 
 module _ (im : Image) where
   -- the 1,024 values
-  -- writes keep the length
   pub values-length : length (decodedValues im (countOf im values) (zeros 1024)) ≡ 1024
   unfolding decodedValues
   values-length = after-length (decodedValue im) (value-length im) (countOf im values) (zeros 1024) ∙ zeros-length 1024
@@ -42,7 +41,6 @@ module _ (im : Image) where
   rows-length (suc n) = fit-set 512 (after (decodedPair im) n (zeros 8192)) _ _ (rows-length n)
 
   -- the context
-  -- as long as every context
   pub context-length : length (decodedContext im (zeros 235973)) ≡ 235973
   unfolding decodedContext decodedFunctions decodedIdentifiers
   context-length =
@@ -86,7 +84,6 @@ module _ (im : Image) where
       call lentValues lentSets false lentContext (sessionOf im) lentCandidates (placeAt im (lvalue im)) (own im) (zeros 109760) (zeros (1024 + 16 * countOf im identifiers)) (zeros 22786)
 
   -- it is the call that the image makes
-  -- empty tables have their full sizes
   pub call-is : imageCall im ≡ lentCall
   unfolding jobCall jobOf filled
   call-is = λ i.
@@ -114,7 +111,6 @@ module _ (im : Image) where
         (let l = rows-length (countOf im pairs) in let m = few-identifiers im ok in omega arith)
 
     -- so the sets say how many identifiers there are
-    -- as the call reads it off
     pub sets-identifiers : Words.identifiers lentSets ≡ countOf im identifiers
     unfolding Words.identifiers
     sets-identifiers = ap (λ (x : ℕ). x / 16) sets-length ∙ (let z : 16 * countOf im identifiers / 16 ≡ countOf im identifiers = omega arith in z)
@@ -127,7 +123,6 @@ module _ (im : Image) where
         (let l = records-length in let m = few-candidates im ok in omega arith)
 
     -- so their words say how many candidates there are
-    -- as the call reads it off
     pub candidates-count : candidateCount lentCandidates ≡ countOf im candidates
     candidates-count = ap (λ (x : ℕ). x / 98) candidates-length ∙ (let z : 98 * countOf im candidates / 98 ≡ countOf im candidates = omega arith in z)
 

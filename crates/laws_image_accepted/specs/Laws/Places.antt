@@ -18,7 +18,6 @@ module _ (im : Image) (small : (i : ℕ) → word im i < 4294967296) (ok : refus
       (r .0, r .1, r .2, cell-small im small places k 3, cell-small im small places k 4)
 
   -- so is each place of a run that does not pass their end
-  -- context places, places mutated inside, captures
   pub run-fine : (first count : ℕ) → ((j : ℕ) → j < count → first + j < countOf im places) → All (Fine (countOf im identifiers)) (placesFrom im first count)
   unfolding placesFrom
   run-fine first count h = all-from (Fine (countOf im identifiers)) count first (placeAt im) (λ j l. place-fine (first + j) (h j l))

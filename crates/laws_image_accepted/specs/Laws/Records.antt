@@ -26,19 +26,16 @@ use Rattle.def_image.specs.Decode.{listFrom}
 -- ---- classes
 
 -- the lower of two classes is none where neither is earned
--- the whole earns the lowest class of any
 pub lower-both : (a b : ℕ) → a ≡ 0 → b ≡ 0 → lower a b ≡ 0
 lower-both a b e f = sym (lower-none a b e) ∙ f
 
 -- so is the lowest of many
--- one after the other
 pub lowest-both : (n : ℕ) (f : ℕ → ℕ) → ((k : ℕ) → k < n → f k ≡ 0) → lowestBelow n f ≡ 0
 unfolding lowestBelow
 lowest-both zero f h = refl
 lowest-both (suc n) f h = lower-both (lowestBelow n f) (f n) (lowest-both n f (λ k l. h k (omega arith))) (h n (le-refl (suc n)))
 
 -- a test that does not hold earns nothing
--- whatever its class
 pub earns-not : (n : ℕ) (b : Bool) → b ≡ false → earns n b ≡ 0
 earns-not n b e = ap (earns n) e
 
@@ -57,17 +54,14 @@ word-none x e = ap (λ (b : Bool). earns 4 (not b)) (eq-eqb x 0 e)
 -- ---- one record
 
 -- every word of a record earns nothing, by a limit for each
--- words past the record read as zero
 abbrev pub Good : Table → ℕ → (ℕ → Option ℕ) → List ℕ → Type 0
 Good t i lim c = (v : ℕ) → wordClass (lim v) (field t c i v) ≡ 0
 
 -- every word of a record is zero
--- as before the image is read
 abbrev pub Zero : Table → ℕ → List ℕ → Type 0
 Zero t i c = (v : ℕ) → field t c i v ≡ 0
 
 -- a list of zeros has only such records
--- whatever the table
 pub zero-record : (t : Table) (i : ℕ) (c : List ℕ) → ((k : ℕ) → getD c k 0 ≡ 0) → Zero t i c
 zero-record t i c h v = go (within t i v) refl
   where
@@ -87,13 +81,11 @@ abbrev pub Limits : (ℕ → Option ℕ) → ℕ → ℕ → Type 0
 Limits lim w n = (lim w ≡ some n) × (lim (w + 1) ≡ some 8) × (lim (w + 2) ≡ some 2) × (lim (w + 3) ≡ any) × (lim (w + 4) ≡ any)
 
 -- a place whose words are in their ranges
--- for a number of identifiers
 abbrev pub Fine : ℕ → Place → Type 0
 Fine n p = (p .identifier < n) × (p .effect < 8) × (p .reactive < 2) × (p .span .start < 4294967296) × (p .span .end < 4294967296)
 
 module _ (t : Table) (i : ℕ) (lim : ℕ → Option ℕ) where
   -- a record of zeros, where zero is below every limit
-  -- every record begins so
   pub zero-good : (c : List ℕ) → ((v : ℕ) → wordClass (lim v) 0 ≡ 0) → Zero t i c → Good t i lim c
   zero-good c h z v = ap (wordClass (lim v)) (z v) ∙ h v
 
@@ -118,12 +110,10 @@ module _ (t : Table) (i : ℕ) (lim : ℕ → Option ℕ) where
       go false e = kept (put-out t c i w x e)
 
   -- a word with a limit that is said
-  -- it lies below it
   pub put-below : (c : List ℕ) (w x l : ℕ) → lim w ≡ some l → x < l → Good t i lim c → Good t i lim (putField t c i w x)
   put-below c w x l e h = put-good c w x (ap (λ (o : Option ℕ). wordClass o x) e ∙ word-below l x h)
 
   -- a place in its ranges is written
-  -- five words
   pub place-good : (c : List ℕ) (w n : ℕ) (p : Place) → Limits lim w n → Fine n p → Good t i lim c → Good t i lim (putPlace t c i w p)
   unfolding putPlace
   place-good c w n p l f g =
@@ -133,7 +123,6 @@ module _ (t : Table) (i : ℕ) (lim : ℕ → Option ℕ) where
       (put-below _ (w + 1) (p .effect) 8 (l .1) (f .1) (put-below c w (p .identifier) n (l .0) (f .0) g))))
 
   -- a run of such places is written
-  -- one after the other
   pub run-good : (c : List ℕ) (w k n : ℕ) (ps : List Place) → ((m : ℕ) → m < k + length ps → Limits lim (w + m * 5) n) → All (Fine n) ps → Good t i lim c → Good t i lim (putPlaces t c i w k ps)
   unfolding putPlaces
   run-good c w k n [] l f g = g
@@ -142,7 +131,6 @@ module _ (t : Table) (i : ℕ) (lim : ℕ → Option ℕ) where
       (place-good c (w + k * 5) n p (l k (let y : k < k + suc (length ps) = omega arith in y)) (f .0) g)
 
 -- the limits of a run are those of its places
--- five words each
 run-at : (n count m j v : ℕ) → v ≡ m * 5 + j → j < 5 → m < count → runLimit n count v ≡ placeLimit n j
 unfolding runLimit
 run-at n count m j v e h l =
@@ -151,7 +139,6 @@ run-at n count m j v e h l =
     ite-lt (v / 5) count (placeLimit n (v % 5)) none (omega arith) ∙ ap (placeLimit n) b
 
 -- so each place of a run that begins at word w has its five limits
--- where the limits from w on are those of the run
 pub run-limits : (lim : ℕ → Option ℕ) (w n count : ℕ) → ((v : ℕ) → w ≤ v → lim v ≡ runLimit n count (v - w)) → (m : ℕ) → m < count → Limits lim (w + m * 5) n
 unfolding placeLimit
 run-limits lim w n count h m l = (
@@ -166,7 +153,6 @@ run-limits lim w n count h m l = (
     at j k = h (w + m * 5 + j) (omega arith) ∙ run-at n count m j (w + m * 5 + j - w) (omega arith) k l
 
 -- what holds of f at each number of a run holds of the whole list
--- places of an image are read so
 pub all-from : {A : Type 0} (P : A → Type 0) (n k : ℕ) (f : ℕ → A) → ((j : ℕ) → j < n → P (f (k + j))) → All P (listFrom n k f)
 unfolding listFrom
 all-from P zero k f h = tt
@@ -179,7 +165,6 @@ all-from P (suc n) k f h = (
 
 module _ (g : ℕ → List ℕ → List ℕ) (Z : ℕ → List ℕ → Type 0) (stay : (k j : ℕ) (d : List ℕ) → (k ≡ j → ⊥) → Z j d → Z j (g k d)) (c : List ℕ) (start : (j : ℕ) → Z j c) where
   -- a record that is not written yet is as it was
-  -- those before it leave it
   pub rest-stays : (n j : ℕ) → n ≤ j → Z j (after g n c)
   unfolding after
   rest-stays zero j l = start j
@@ -187,14 +172,12 @@ module _ (g : ℕ → List ℕ → List ℕ) (Z : ℕ → List ℕ → Type 0) (
 
   module _ (P : ℕ → List ℕ → Type 0) (keep : (k j : ℕ) (d : List ℕ) → (k ≡ j → ⊥) → P j d → P j (g k d)) (long : (k : ℕ) (d : List ℕ) → length (g k d) ≡ length d) where
     -- all keep the length
-    -- each does
     same-length : (n : ℕ) → length (after g n c) ≡ length c
     unfolding after
     same-length zero = refl
     same-length (suc n) = long n (after g n c) ∙ same-length n
 
     -- a record that is written is as its write makes it
-    -- those after it leave it
     pub each-done : (n : ℕ) → ((k : ℕ) (d : List ℕ) → k < n → length d ≡ length c → Z k d → P k (g k d)) → (j : ℕ) → j < n → P j (after g n c)
     unfolding after
     each-done zero make j l = absurd (omega arith)

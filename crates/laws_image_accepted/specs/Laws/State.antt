@@ -44,7 +44,6 @@ use Rattle.laws_image_accepted.specs.Laws.Lengths.{values-length, rows-l
 -- ---- numbers
 
 -- a number that is one of the list, and handed out if it is fresh
--- for a count of identifiers and a next number
 abbrev Ok : ℕ → ℕ → ℕ → Type 0
 Ok n m v = (notANumber n v ≡ false) × (notYetHandedOut m v ≡ false)
 
@@ -61,7 +60,6 @@ ok-number n m v a b h = (or-neither (not (leb 1 v)) _ (ap not (le-leb 1 v a)) (a
 -- ---- values
 
 -- what holds of each word of a list holds of it after a write of such a word
--- a word past the end is not written
 set-all : (Q : ℕ → ℕ → Type 0) (c : List ℕ) (w x : ℕ) → Q w x → ((v : ℕ) → Q v (getD c v 0)) → (v : ℕ) → Q v (getD (set c w x) v 0)
 set-all Q c w x h g v =
     ⊎-elim
@@ -76,7 +74,6 @@ abbrev Right : ℕ → ℕ → ℕ → ℕ → Type 0
 Right n m v x = (wordOutOfRange n v x ≡ false) × (wordUnfit m v x ≡ false)
 
 -- no entry
--- as before the image is read
 right-zero : (n m v : ℕ) → Right n m v 0
 unfolding wordOutOfRange wordUnfit hasEntry
 right-zero n m v = (refl, refl)
@@ -98,17 +95,14 @@ right-entry n m v a o r =
 
 module _ (im : Image) (ok : refusalOfWords im ≡ 0) where
   -- how many identifiers are in the list
-  -- an entry is tested by it
   abbrev n : ℕ
   n = countOf im identifiers
 
   -- the next number
-  -- an entry is tested by it too
   abbrev m : ℕ
   m = next im
 
   -- every word of the values, after the first k of the image's
-  -- one after the other
   values-done : (k : ℕ) → k ≤ countOf im values → (v : ℕ) → Right n m v (getD (after (decodedValue im) k (zeros 1024)) v 0)
   unfolding after decodedValue putValue
   values-done zero l v = subst (Right n m v) (sym (zero-word 1024 v)) (right-zero n m v)
@@ -128,7 +122,6 @@ module _ (im : Image) (ok : refusalOfWords im ≡ 0) where
   -- ---- sets
 
   -- the members of a set that may be absent
-  -- a set that is absent has none
   bits-all : (o : Option ℕ) → All (Ok n m) (valuesOf o) → All (Ok n m) (members (bitsOf o))
   unfolding members digitsFrom
   bits-all none a = tt
@@ -150,7 +143,6 @@ module _ (im : Image) (ok : refusalOfWords im ≡ 0) where
   rows k = after (decodedPair im) k (zeros 8192)
 
   -- every member of every row is right, after the first k pairs
-  -- a pair adds its value to what its row has
   members-done : (k : ℕ) → k ≤ countOf im pairs → (i : ℕ) → All (Ok n m) (valuesOf (setAt (rows k) i))
   unfolding after decodedPair
   members-done zero l i = subst (λ (o : Option ℕ). All (Ok n m) (valuesOf o)) (sym (no-set 8192 i)) tt
@@ -165,7 +157,6 @@ module _ (im : Image) (ok : refusalOfWords im ≡ 0) where
       right h (inr r) = ok-number n m (pairValue im k) h (r .1) (pair-fresh im ok k l h)
 
   -- a write of a row leaves the words of the others
-  -- sixteen words are written
   word-other : (rs : List ℕ) (i s j w : ℕ) → (i ≡ j → ⊥) → w < 16 → rowWord (putSet rs i s) j w ≡ rowWord rs j w
   unfolding putSet putRow putWord setWord rowWord
   word-other rs i s j w d l = words-other (putWord i (bitOr s 1)) (i * 16) (λ u x. wordOf (bitOr s 1) u) (λ u c. refl) 16 0 rs (j * 16 + w) (λ u a b e. d (omega arith))
@@ -187,13 +178,11 @@ module _ (im : Image) (ok : refusalOfWords im ≡ 0) where
   -- ---- the rows that the call is lent
 
   -- a word of an identifier's row is not cut off
-  -- sixteen words for each
   row-kept : (i w : ℕ) → i < n → w < 16 → rowWord (lentSets im) i w ≡ rowWord (decodedSets im (countOf im pairs) (zeros 8192)) i w
   unfolding rowWord
   row-kept i w h l = getD-take (16 * n) (decodedSets im (countOf im pairs) (zeros 8192)) (i * 16 + w) 0 (omega arith)
 
   -- so its set is as it was written
-  -- the same words make the same set
   set-kept : (i : ℕ) → i < n → setAt (lentSets im) i ≡ setAt (decodedSets im (countOf im pairs) (zeros 8192)) i
   unfolding setAt rowNumber rowWord
   set-kept i h = ap (λ (x : ℕ). marked (x % 2) x) (number-same 16 (lentSets im) (decodedSets im (countOf im pairs) (zeros 8192)) (i * 16) (i * 16) (λ w l. row-kept i w h l))
@@ -205,7 +194,6 @@ module _ (im : Image) (ok : refusalOfWords im ≡ 0) where
   members-right i h = subst (λ (o : Option ℕ). All (Ok n m) (valuesOf o)) (sym (set-kept i h)) (members-done (countOf im pairs) (let z : countOf im pairs ≤ countOf im pairs = omega arith in z) i)
 
   -- such a row that is not defined is zero
-  -- no word of it is used
   blank-right : (i : ℕ) → i < n → isSome (setAt (lentSets im) i) ≡ false → rowInUse (lentSets im) i ≡ false
   unfolding decodedSets rowInUse
   blank-right i h e =
@@ -214,7 +202,6 @@ module _ (im : Image) (ok : refusalOfWords im ≡ 0) where
       (row-kept i w h l ∙ blank-done (countOf im pairs) (let z : countOf im pairs ≤ countOf im pairs = omega arith in z) i (ap isSome (sym (set-kept i h)) ∙ e) w l)))
 
   -- a row earns no 3
-  -- each member is a number
   row-in-range : (i : ℕ) → i < n → rowOutOfRange n (lentSets im) i ≡ false
   unfolding rowOutOfRange
   row-in-range i h = list-no (notANumber n) (valuesOf (setAt (lentSets im) i)) (all-map (valuesOf (setAt (lentSets im) i)) (λ v o. o .0) (members-right i h))

@@ -36,34 +36,29 @@ module _ {W A : Type 0} where
   refuse-at n w = refl
 
 -- nothing is done
--- the end of a branch without effect
 pub done-ok : {W : Type 0} (w : W) → done w ≡ answer 0 tt w
 unfolding done return answer
 done-ok w = refl
 
 module _ {W A B : Type 0} where
   -- one after the other: the first is refused
-  -- so is the whole
   pub bind-refused : (m : M W A) (k : A → M W B) (r : ℕ) (w u : W) (a : A) (b : B) → m w ≡ answer r a u → ¬ (r ≡ 0) → (m >>= k) w ≡ answer r b u
   unfolding _>>=_ andThen answer
   bind-refused m k zero w u a b e h = absurd (h refl)
   bind-refused m k (suc r) w u a b e h = ap (λ (y : Res W A). andThen y k) e
 
   -- the first goes on
-  -- the second takes its answer and its world
   pub bind-goes : (m : M W A) (k : A → M W B) (r : ℕ) (w u : W) (a : A) (x : Res W B) → m w ≡ answer r a u → r ≡ 0 → k a u ≡ x → (m >>= k) w ≡ x
   unfolding _>>=_ andThen answer
   bind-goes m k zero w u a x e h g = ap (λ (y : Res W A). andThen y k) e ∙ g
   bind-goes m k (suc r) w u a x e h g = absurd (omega arith)
 
   -- the first is never refused
-  -- reads of the world and writes to it
   pub bind-ok : (m : M W A) (k : A → M W B) (w u : W) (a : A) (x : Res W B) → m w ≡ ok a u → k a u ≡ x → (m >>= k) w ≡ x
   unfolding _>>=_ andThen
   bind-ok m k w u a x e g = ap (λ (y : Res W A). andThen y k) e ∙ g
 
   -- the same three where the answer says nothing
-  -- one after the other
   pub then-refused : (m : M W A) (n : M W B) (r : ℕ) (w u : W) (a : A) (b : B) → m w ≡ answer r a u → ¬ (r ≡ 0) → (m >> n) w ≡ answer r b u
   unfolding _>>_
   then-refused m n r w u a b e h = bind-refused m (λ _. n) r w u a b e h
@@ -77,7 +72,6 @@ module _ {W A B : Type 0} where
   then-ok m n w u a x e g = bind-ok m (λ _. n) w u a x e g
 
 -- the test of a branch is known
--- code tests as the definition does
 module _ {W A : Type 0} where
   pub if-true : (b : Bool) (m n : M W A) (w : W) (x : Res W A) → b ≡ true → m w ≡ x → (if b then m else n) w ≡ x
   unfolding if_then_else_
@@ -96,7 +90,6 @@ module _ {W A : Type 0} where
   if-gt a b m n w x h e = if-false _ m n w x (lt-leb a b h) e
 
 -- a list, from its first element on
--- a loop does one element at a time
 module _ {W A : Type 0} where
   pub each-refused : (f : A → M W Done) (x : A) (l xs : List A) (r : ℕ) (w u : W) → l ≡ x ∷ xs → f x w ≡ answer r tt u → ¬ (r ≡ 0) → each l f w ≡ answer r tt u
   unfolding each

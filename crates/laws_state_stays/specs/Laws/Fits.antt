@@ -41,12 +41,10 @@ abbrev pub Good : ℕ → ℕ → ℕ → Type 0
 Good n next v = (notANumber n v ≡ false) × (notYetHandedOut next v ≡ false)
 
 -- a word of the values that earns neither 3 nor 4
--- at the number v
 abbrev pub WordFit : ℕ → ℕ → ℕ → ℕ → Type 0
 WordFit n next v x = (wordOutOfRange n v x ≡ false) × (wordUnfit next v x ≡ false)
 
 -- 1,024 words, none of which earns anything
--- the values of an accepted state
 pub record ValuesFit (n next : ℕ) (vs : List ℕ) : Type 0 where
   pub long : length vs ≡ 1024
   pub word : (v : ℕ) → v < 1024 → WordFit n next v (getD vs v 0)
@@ -58,13 +56,11 @@ pub record RowFit (n next : ℕ) (ss : List ℕ) (i : ℕ) : Type 0 where
   pub unused : isSome (setAt ss i) ≡ false → (w : ℕ) → w < 16 → rowWord ss i w ≡ 0
 
 -- n rows, none of which earns anything
--- the sets of an accepted state
 pub record SetsFit (n next : ℕ) (ss : List ℕ) : Type 0 where
   pub long : Fit n ss
   pub row : (i : ℕ) → i < n → RowFit n next ss i
 
 -- the count of identifiers and the session's two words in range
--- of an accepted state
 pub record SessionFit (n next access : ℕ) : Type 0 where
   pub most : n ≤ 512
   pub low : 1 ≤ next
@@ -238,7 +234,6 @@ word-other ss i s j w d l =
     words-other (putWord i (bitOr s 1)) (i * 16) (λ w x. Rows.wordOf (bitOr s 1) w) (λ w l. refl) 16 0 ss (j * 16 + w) (λ u a b e. d (omega arith))
 
 -- a set of good members may be written
--- wherever it is written
 pub set-stays : (n next : ℕ) (ss : List ℕ) (i s : ℕ) → All (Good n next) (members s) → SetsFit n next ss → SetsFit n next (putSet ss i s)
 set-stays n next ss i s a y = record {
   long = fit-set n ss i s (y .long);

@@ -29,7 +29,6 @@ module _ (vs ss ws ts : List ℕ) (s : Session) where
       go (suc n) z = h
 
   -- the third state after a merge that was not refused: accepted with the session that stays, whether the second added or not
-  -- one that was refused leaves it as it was lent
   pub merge-third-stays : (vc sc : List ℕ) → merge vs ss ws ts s vc sc .refusal ≡ 0 → Stays (merge vs ss ws ts s vc sc)
   unfolding merge refusing
   merge-third-stays vc sc = go (lower (thirdRefusal ss vc sc) (pairRefusal vs ss ws ts s)) refl

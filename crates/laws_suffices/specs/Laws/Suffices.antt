@@ -53,7 +53,6 @@ earns-none n true e = absurd (omega arith)
 earns-none n false e = refl
 
 -- the lowest of some classes is none only if each is
--- one after the other
 lowest-0 : (n : ℕ) (f : ℕ → ℕ) → lowestBelow n f ≡ 0 → (k : ℕ) → k < n → f k ≡ 0
 unfolding lowestBelow
 lowest-0 zero f e k l = absurd (omega arith)
@@ -64,33 +63,28 @@ lowest-0 (suc n) f e k l =
 -- ---- candidates
 
 -- as many effects are read as are asked for
--- one of each record
 effects-count : (t : Table) (c : List ℕ) (k n : ℕ) → length (effectsIn t c k n) ≡ n
 unfolding effectsIn
 effects-count t c k zero = refl
 effects-count t c k (suc n) = ap suc (effects-count t c (suc k) n)
 
 -- what holds of the effect of each record holds of all that are read
--- one after the other
 effects-all : (P : AliasingEffect → Type 0) (t : Table) (c : List ℕ) (k n : ℕ) → ((j : ℕ) → j < k + n → P (effectIn t c j)) → All P (effectsIn t c k n)
 unfolding effectsIn
 effects-all P t c k zero h = tt
 effects-all P t c k (suc n) h = (h k (omega arith), effects-all P t c (suc k) n (λ j l. h j (omega arith)))
 
 -- as many identifiers are read as places are asked for
--- a run of numbers, five words apart
 identifiers-count : (t : Table) (c : List ℕ) (i w k n : ℕ) → length (Places.identifiers (placesIn t c i w k n)) ≡ n
 identifiers-count t c i w k n = ap length (places-numbers t c i w k n) ∙ numbers-count t c i w 5 k n
 
 -- as many places are read as are asked for
--- a place of five words each
 places-count : (t : Table) (c : List ℕ) (i w k n : ℕ) → length (placesIn t c i w k n) ≡ n
 unfolding placesIn
 places-count t c i w k zero = refl
 places-count t c i w k (suc n) = ap suc (places-count t c i w (suc k) n)
 
 -- an effect has at most sixteen captures in its key if a CreateFunction has
--- no other has any
 captures-of : (h : Head) (cs : List Place) → (codeOf (effectWith h cs) ≡ 13 → length (Places.identifiers cs) ≤ 16) → length (effectKey (effectWith h cs) .captures) ≤ 16
 unfolding effectWith
 captures-of (Head.Freeze p r) cs k = omega arith
@@ -118,7 +112,6 @@ unfolding countClass uses usedParts
 count-16 n e = ltb-false 16 n (earns-none 1 (ltb 16 n) e)
 
 -- one record of a list of words
--- a candidate
 module _ (t : Table) (xs : List ℕ) (i : ℕ) where
   -- the effect of a record is a CreateFunction only where the record's code is that of one
   -- an Apply and what is past the last code read as Render
@@ -161,7 +154,6 @@ function-inside n c f e =
     omega arith
 
 -- no function of a context that earns no class earns one
--- the counts are right, so all tables were tested
 context-function : (n functions : ℕ) (c : List ℕ) (next : ℕ) → contextClass n functions c next ≡ 0 → (f : ℕ) → f < functions → functionClass n c f ≡ 0
 unfolding contextClass tablesClass functionsClass
 context-function n functions c next e f l = go (countsWrong n functions c) refl
@@ -184,7 +176,6 @@ module _ (n functions : ℕ) (c xs : List ℕ) (count : ℕ) (p : Place) (own : 
   few = ltb-false 64 count (earns-none 1 (ltb 64 count) (lower-0 _ _ e .0))
 
   -- none of its candidates earns a class
-  -- each was tested
   candidate-0 : (k : ℕ) → k < count → effectClass n functions c 5 candidateTable xs k ≡ 0
   unfolding instructionClass
   candidate-0 = lowest-0 count (effectClass n functions c 5 candidateTable xs) (lower-0 _ _ (lower-0 _ _ e .1) .0)
@@ -230,7 +221,6 @@ ends-listed c (ok a w) = omega arith
 ends-listed c (refused n w) = omega arith
 
 -- such a call answers with at most 1,120 effects, so each has its record in the output list
--- as many as it lists without limits, or none
 pub nothing-lost : (c : Call) → callClass c ≡ 0 → c .session .entries ≤ 4294967295 → outcome c .applied .count ≤ 1120
 unfolding outcome
 nothing-lost c e h =

@@ -23,7 +23,6 @@ use Rattle.lent_context.specs.Lent.{linkOf, putLink, hasTrackedSideEffec
 -- ---- plain reads: the code widens a number, and reads a word
 
 -- whether a freeze is transitive is one test of a word
--- the options stand first
 pub transitive-is : (c : List ℕ) (x : ℕ) → x ≡ getD c 0 0 → not (eqb x 0) ≡ isTransitive c
 unfolding isTransitive
 transitive-is c x e = ap (λ (y : ℕ). not (eqb y 0)) e
@@ -79,7 +78,6 @@ module _ (t : Table) (c : List ℕ) (f w : ℕ) where
   count-is i x e g = g ∙ ap (λ (j : ℕ). field t c j w) e
 
   -- a word at a place that is five times a number
-  -- both numbers are widened
   pub word-is : (i v x : ℕ) → i ≡ f → v ≡ w → x ≡ field t c i (v * 5) → x ≡ field t c f (w * 5)
   word-is i v x e h g = g ∙ ap₂ (λ (j u : ℕ). field t c j (u * 5)) e h
 
@@ -92,24 +90,20 @@ module _ (t : Table) (c : List ℕ) (f w : ℕ) where
 
 module _ (f i k : ℕ) (c : List ℕ) (a w x : ℕ) (e : a ≡ f) (g : w ≡ k * 5) (h : x ≡ field Layout.contexts c a w) where
   -- the identifier of the place is the word that the code read
-  -- in the numbers of the definition
   here : field Layout.contexts c f (k * 5) ≡ x
   here = ap₂ (λ (u v : ℕ). field Layout.contexts c u v) (sym e) (sym g) ∙ sym h
 
   -- a place of another identifier stays
-  -- the first way through
   pub read-other : (x ≡ i → ⊥) → c ≡ readPlace f i k c
   unfolding readPlace
   read-other n = sym (ap (λ (b : Bool). ite (b && eqb (field Layout.contexts c f (k * 5 + 1)) Places.Capture) (putField Layout.contexts c f (k * 5 + 1) Places.Read) c) (ap (λ (y : ℕ). eqb y i) here ∙ ne-eqb x i n))
 
   module _ (s : x ≡ i) (y : ℕ) (q : y ≡ field Layout.contexts c a (w + 1)) where
     -- the place's effect is the word that the code read
-    -- in the numbers of the definition
     there : field Layout.contexts c f (k * 5 + 1) ≡ y
     there = ap₂ (λ (u v : ℕ). field Layout.contexts c u (v + 1)) (sym e) (sym g) ∙ sym q
 
     -- one that is no Capture stays
-    -- the second way
     pub read-kept : (y ≡ 3 → ⊥) → c ≡ readPlace f i k c
     unfolding readPlace
     read-kept n =
@@ -117,7 +111,6 @@ module _ (f i k : ℕ) (c : List ℕ) (a w x : ℕ) (e : a ≡ f) (g : w ≡ k *
         (and-false (eqb (field Layout.contexts c f (k * 5)) i) (eqb (field Layout.contexts c f (k * 5 + 1)) 3) (ap (λ (z : ℕ). eqb z 3) there ∙ ne-eqb y 3 n)))
 
     -- a Capture of the identifier is made Read
-    -- the third way
     pub read-made : y ≡ 3 → (d : List ℕ) → d ≡ putField Layout.contexts c a (w + 1) 2 → d ≡ readPlace f i k c
     unfolding readPlace
     read-made n d p =
@@ -126,7 +119,6 @@ module _ (f i k : ℕ) (c : List ℕ) (a w x : ℕ) (e : a ≡ f) (g : w ≡ k *
         (and-true (eqb (field Layout.contexts c f (k * 5)) i) (eqb (field Layout.contexts c f (k * 5 + 1)) 3) (ap (λ (z : ℕ). eqb z i) here ∙ eq-eqb x i s) (ap (λ (z : ℕ). eqb z 3) there ∙ eq-eqb y 3 n)))
 
 -- one more place, as a loop counts
--- what is left to do
 pub reads-more : (f i k n : ℕ) (c d : List ℕ) → k < n → d ≡ readPlace f i k c → readPlaces f i k (n - k) c ≡ readPlaces f i (k + 1) (n - (k + 1)) d
 unfolding readPlaces
 reads-more f i k n c d h e =

@@ -26,13 +26,11 @@ use Rattle.lent_context.specs.Lent.{effectsIn, internedCount, findEffect
 -- ---- one interned effect
 
 -- the count of interned effects is a word
--- the code reads it by its place
 pub interned-is : (c : List ℕ) (x : ℕ) → x ≡ getD c 12483 0 → x ≡ internedCount c
 unfolding internedCount
 interned-is c x e = e
 
 -- a test that failed ends a chain of tests
--- the code returns there
 stop : (p q : Bool) → p ≡ false → false ≡ (p && q)
 stop p q e = sym (ap (λ (b : Bool). b && q) e)
 
@@ -58,7 +56,6 @@ code-of-key (Impure p d) = refl
 code-of-key (Render p) = refl
 
 -- keys of different codes differ
--- the code is the first test
 codes-differ : (a b : EffectKey) → (a .code ≡ b .code → ⊥) → false ≡ eqKey a b
 unfolding eqKey
 codes-differ a b n =
@@ -68,28 +65,24 @@ codes-differ a b n =
     (ne-eqb (a .code) (b .code) n)
 
 -- the code of a key that the code holds
--- whatever captures stand beside it
 code-with : (key : Key) (is : List ℕ) → keyWith key is .code ≡ key .code
 unfolding keyWith
 code-with key is = refl
 
 module _ (c : List ℕ) (k : ℕ) (key : Key) (is : List ℕ) (i : ℕ) (e : i ≡ k) where
   -- an effect of another code is not under the key
-  -- the first way through the code
   pub under-other : (x : ℕ) → x ≡ codeOf (effectIn Layout.interned c i) → (key .code ≡ x → ⊥) → false ≡ eqKey (keyWith key is) (effectKey (effectIn Layout.interned c k))
   under-other x h n =
       codes-differ (keyWith key is) (effectKey (effectIn Layout.interned c k))
       (λ q. n (sym (code-with key is) ∙ q ∙ code-of-key (effectIn Layout.interned c k) ∙ ap (λ (j : ℕ). codeOf (effectIn Layout.interned c j)) (sym e) ∙ sym h))
 
   -- an effect of the key's code is compared with it
-  -- the second way
   pub under-compared : (r : Bool) → r ≡ eqKey (keyWith key is) (effectKey (effectIn Layout.interned c i)) → r ≡ eqKey (keyWith key is) (effectKey (effectIn Layout.interned c k))
   under-compared r h = h ∙ ap (λ (j : ℕ). eqKey (keyWith key is) (effectKey (effectIn Layout.interned c j))) e
 
 -- ---- the search of interned effects
 
 -- the effects that are left, with one to look at
--- as a loop counts
 pub effects-more : (t : Table) (c : List ℕ) (k n : ℕ) → k < n → effectsIn t c k (n - k) ≡ effectIn t c k ∷ effectsIn t c (k + 1) (n - (k + 1))
 unfolding effectsIn
 effects-more t c k n h =
@@ -105,25 +98,21 @@ effects-none t c k n h =
     ap (effectsIn t c k) m
 
 -- a search ends at an effect under the key
--- the first one is the answer
 search-ends : (e : AliasingEffect) (es : List AliasingEffect) (k : EffectKey) → eqKey k (effectKey e) ≡ true → firstUnder (e ∷ es) k ≡ some e
 unfolding firstUnder
 search-ends e es k h = ap (λ (b : Bool). elim b as (λ x. Option AliasingEffect) [ true ↦ some e | false ↦ firstUnder es k ]) h
 
 -- a search passes over an effect under another key
--- the rest is searched
 search-goes : (e : AliasingEffect) (es : List AliasingEffect) (k : EffectKey) → eqKey k (effectKey e) ≡ false → firstUnder (e ∷ es) k ≡ firstUnder es k
 unfolding firstUnder
 search-goes e es k h = ap (λ (b : Bool). elim b as (λ x. Option AliasingEffect) [ true ↦ some e | false ↦ firstUnder es k ]) h
 
 -- a search of nothing finds nothing
--- no effect is under the key
 search-none : (k : EffectKey) → firstUnder [] k ≡ none
 unfolding firstUnder
 search-none k = refl
 
 -- a turn passes over effect k
--- what is left to search is what is left after it
 pub effect-passed : (c : List ℕ) (key : EffectKey) (k n : ℕ) (b : Bool) → k < n → b ≡ eqKey key (effectKey (effectIn Layout.interned c k)) → b ≡ false
     → firstUnder (effectsIn Layout.interned c k (n - k)) key ≡ firstUnder (effectsIn Layout.interned c (k + 1) (n - (k + 1))) key
 effect-passed c key k n b l h z =
@@ -141,7 +130,6 @@ module _ (c : List ℕ) (e : Head) (ws : List ℕ) (key : Key) (n k : ℕ) (hk :
       ap₂ (λ (m : ℕ) (q : EffectKey). firstUnder (effectsIn Layout.interned c 0 m) q) (sym (a ∙ hn)) (sym (hk (capturesOf ws))) ∙ inv
 
   -- the search ends at effect k
-  -- the code answers with its place
   pub effect-found : (b : Bool) → k < n → b ≡ eqKey (keyWith key (identifiers (capturesOf ws))) (effectKey (effectIn Layout.interned c k)) → b ≡ true
       → findEffect c (effectKey (effectWith e (capturesOf ws))) ≡ some (effectIn Layout.interned c k)
   effect-found b l h z =
@@ -150,7 +138,6 @@ module _ (c : List ℕ) (e : Head) (ws : List ℕ) (key : Key) (n k : ℕ) (hk :
       ∙ search-ends (effectIn Layout.interned c k) (effectsIn Layout.interned c (k + 1) (n - (k + 1))) (keyWith key (identifiers (capturesOf ws))) (sym h ∙ z)
 
   -- the search ends without an effect
-  -- all were looked at
   pub effect-nowhere : n ≤ k → findEffect c (effectKey (effectWith e (capturesOf ws))) ≡ none
   effect-nowhere l =
       search-left
@@ -161,7 +148,6 @@ module _ (c : List ℕ) (e : Head) (ws : List ℕ) (key : Key) (n k : ℕ) (hk :
 
 module _ (c : List ℕ) (key : EffectKey) (n : ℕ) where
   -- the numbers that are left, with one to look at
-  -- as a loop counts
   numbers-more : n < 512 → firstCached (512 - n) n (keyAt c) key ≡ elim (isKey key (keyAt c n)) as (λ x. Option ℕ) [ true ↦ some n | false ↦ firstCached (512 - (n + 1)) (n + 1) (keyAt c) key ]
   unfolding firstCached
   numbers-more l =
@@ -170,13 +156,11 @@ module _ (c : List ℕ) (key : EffectKey) (n : ℕ) where
       ∙ ap (λ (z : ℕ). elim (isKey key (keyAt c n)) as (λ x. Option ℕ) [ true ↦ some n | false ↦ firstCached (512 - (n + 1)) z (keyAt c) key ]) (sym (add-one n))
 
   -- the key that the code reads is the number's
-  -- its number is widened
   key-read : (b : Bool) (i : ℕ) → i ≡ n → b ≡ isKey key (keyIn Layout.cached c i) → isKey key (keyAt c n) ≡ b
   unfolding keyAt
   key-read b i e h = ap (λ (j : ℕ). isKey key (keyIn Layout.cached c j)) (sym e) ∙ sym h
 
   -- a turn passes over number n
-  -- what is left to search is what is left after it
   pub number-passed : (b : Bool) (i : ℕ) → n < 512 → i ≡ n → b ≡ isKey key (keyIn Layout.cached c i) → b ≡ false
       → firstCached (512 - n) n (keyAt c) key ≡ firstCached (512 - (n + 1)) (n + 1) (keyAt c) key
   number-passed b i l e h z =
@@ -185,7 +169,6 @@ module _ (c : List ℕ) (key : EffectKey) (n : ℕ) where
 
   module _ (inv : firstCached (512 - 1) 1 (keyAt c) key ≡ firstCached (512 - n) n (keyAt c) key) where
     -- the search ends at number n
-    -- the lowest under the key
     pub number-found : (b : Bool) (i : ℕ) → n < 512 → i ≡ n → b ≡ isKey key (keyIn Layout.cached c i) → b ≡ true → some n ≡ findNumber c key
     unfolding findNumber
     number-found b i l e h z =
@@ -193,7 +176,6 @@ module _ (c : List ℕ) (key : EffectKey) (n : ℕ) where
         ∙ ap (λ (t : Bool). elim t as (λ x. Option ℕ) [ true ↦ some n | false ↦ firstCached (512 - (n + 1)) (n + 1) (keyAt c) key ]) (key-read b i e h ∙ z))
 
     -- the search ends without a number
-    -- all were looked at
     pub number-nowhere : 512 ≤ n → none ≡ findNumber c key
     unfolding findNumber firstCached
     number-nowhere l =
@@ -201,7 +183,6 @@ module _ (c : List ℕ) (key : EffectKey) (n : ℕ) where
         sym (inv ∙ ap (λ (z : ℕ). firstCached z n (keyAt c) key) m)
 
 -- a number gets a key
--- the number is widened
 pub key-put : (c d : List ℕ) (n : ℕ) (key : EffectKey) (i : ℕ) → i ≡ n → d ≡ Keys.putKey Layout.cached c i key → d ≡ putKey c n key
 unfolding putKey
 key-put c d n key i e h = h ∙ ap (λ (j : ℕ). Keys.putKey Layout.cached c j key) e

@@ -23,13 +23,11 @@ zeros-at (suc n) zero = refl
 zeros-at (suc n) (suc k) = zeros-at n k
 
 -- a list whose words are zero is the zeros
--- the end of a loop that clears
 pub clear-end : (ws vs : List ℕ) (k : ℕ) → length vs ≡ length ws → ((j : ℕ) → j < k → getD vs j 0 ≡ 0) → length vs ≤ k → vs ≡ zeros (length ws)
 clear-end ws vs k l h e =
     ext-getD 0 vs (zeros (length ws)) (l ∙ sym (zeros-length (length ws))) (λ j q. h j (omega arith) ∙ sym (zeros-at (length ws) j))
 
 -- one more word is zero
--- those before stay
 pub clear-more : (vs us : List ℕ) (k : ℕ) → us ≡ set vs k 0 → k < length vs → ((j : ℕ) → j < k → getD vs j 0 ≡ 0) → (j : ℕ) → j < k + 1 → getD us j 0 ≡ 0
 clear-more vs us k e l h j q =
     ap (λ (x : List ℕ). getD x j 0) e
@@ -38,7 +36,6 @@ clear-more vs us k e l h j q =
 -- ---- copying
 
 -- one more word is copied, as a loop counts
--- what is left to do
 pub copy-more : (c ws us : List ℕ) (start at n k a b x : ℕ) → k < n → a ≡ start + k → b ≡ at + k → x ≡ getD c a 0 → us ≡ set ws b x → copied c (start + k) (at + k) (n - k) ws ≡ copied c (start + (k + 1)) (at + (k + 1)) (n - (k + 1)) us
 unfolding copied
 copy-more c ws us start at n k a b x h p q g e =
@@ -61,7 +58,6 @@ copy-end c ws us start at n k h e =
     sym (e ∙ ap (λ (y : ℕ). copied c (start + k) (at + k) y us) m) ∙ ap₂ (λ (x y : ℕ). copied c x y (n - 0) ws) s t ∙ ap (λ (y : ℕ). copied c start at y ws) z
 
 -- the length stays
--- a copy writes words that are there
 pub copied-length : (c : List ℕ) (start at n : ℕ) (ws : List ℕ) → length (copied c start at n ws) ≡ length ws
 unfolding copied
 copied-length c start at zero ws = refl

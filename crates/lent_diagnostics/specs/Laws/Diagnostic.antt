@@ -24,12 +24,10 @@ use Rattle.lent_diagnostics.specs.Numbered.{internedOf}
 -- ---- tests, one after the other
 
 -- a test that failed ends a chain of tests
--- the code returns there
 stop : (p q : Bool) → p ≡ false → false ≡ (p && q)
 stop p q e = sym (ap (λ (b : Bool). b && q) e)
 
 -- a test that passed leaves the rest of the chain
--- the code goes on
 pass : (p q r : Bool) → p ≡ true → r ≡ q → r ≡ (p && q)
 pass p q r e h = h ∙ sym (ap (λ (b : Bool). b && q) e)
 
@@ -37,39 +35,33 @@ pass p q r e h = h ∙ sym (ap (λ (b : Bool). b && q) e)
 
 module _ (a b : Span) where
   -- spans of different starts differ
-  -- the first way through the code
   pub span-differs : (a .start ≡ b .start → ⊥) → false ≡ eqSpan a b
   unfolding eqSpan
   span-differs n = stop (eqb (a .start) (b .start)) (eqb (a .end) (b .end)) (ne-eqb (a .start) (b .start) n)
 
   -- spans of one start are equal where their ends are
-  -- the second way
   pub span-ends : a .start ≡ b .start → eqb (a .end) (b .end) ≡ eqSpan a b
   unfolding eqSpan
   span-ends e = pass (eqb (a .start) (b .start)) (eqb (a .end) (b .end)) (eqb (a .end) (b .end)) (eq-eqb (a .start) (b .start) e) refl
 
 module _ (a b : Diagnostic) where
   -- the help of a diagnostic, by its case
-  -- the last test of an identity
   abbrev sameHelp : Bool → Bool
   sameHelp true = eqb (a .sentence) (b .sentence)
   sameHelp false = eqb (a .name) (b .name)
 
   -- the tests of an identity, one after the other
-  -- as the definition has them
   identity-tests : (eqb (a .identifier) (b .identifier) && (eqb (a .case) (b .case) && sameHelp (eqb (a .case) 0))) ≡ sameIdentity a b
   unfolding sameIdentity
   identity-tests = refl
 
   -- diagnostics of different identifiers differ
-  -- the first way through the code
   pub identifier-differs : (a .identifier ≡ b .identifier → ⊥) → false ≡ sameIdentity a b
   identifier-differs n =
       stop (eqb (a .identifier) (b .identifier)) (eqb (a .case) (b .case) && sameHelp (eqb (a .case) 0)) (ne-eqb (a .identifier) (b .identifier) n) ∙ identity-tests
 
   module _ (e : a .identifier ≡ b .identifier) where
     -- diagnostics of different cases differ
-    -- the second way
     pub case-differs : (a .case ≡ b .case → ⊥) → false ≡ sameIdentity a b
     case-differs n =
         pass (eqb (a .identifier) (b .identifier)) (eqb (a .case) (b .case) && sameHelp (eqb (a .case) 0)) false (eq-eqb (a .identifier) (b .identifier) e)
@@ -78,7 +70,6 @@ module _ (a b : Diagnostic) where
 
     module _ (f : a .case ≡ b .case) where
       -- the help decides, by the case
-      -- what the last two ways have in common
       help-decides : (t : Bool) → eqb (a .case) 0 ≡ t → sameHelp t ≡ sameIdentity a b
       help-decides t h =
           pass (eqb (a .identifier) (b .identifier)) (eqb (a .case) (b .case) && sameHelp (eqb (a .case) 0)) (sameHelp t) (eq-eqb (a .identifier) (b .identifier) e)
@@ -86,36 +77,30 @@ module _ (a b : Diagnostic) where
           ∙ identity-tests
 
       -- in case 0 the sentences decide
-      -- the third way
       pub sentence-decides : a .case ≡ 0 → eqb (a .sentence) (b .sentence) ≡ sameIdentity a b
       sentence-decides z = help-decides true (eq-eqb (a .case) 0 z)
 
       -- else the names decide
-      -- the fourth way
       pub name-decides : (a .case ≡ 0 → ⊥) → eqb (a .name) (b .name) ≡ sameIdentity a b
       name-decides z = help-decides false (ne-eqb (a .case) 0 z)
 
   -- what decides where both spans are equal: there is no label, or the names are equal
-  -- the last test of labels
   abbrev sameTexts : Bool → Bool → Bool
   sameTexts p q = (p && q) || eqb (a .name) (b .name)
 
   -- the tests of labels, one after the other
-  -- as the definition has them
   label-tests : (eqSpan (a .access) (b .access) && (eqSpan (a .own) (b .own) && sameTexts (eqSpan (a .access) noSpan) (eqSpan (a .own) noSpan))) ≡ sameLabels a b
   unfolding sameLabels
   label-tests = refl
 
   module _ (x : Bool) (hx : x ≡ eqSpan (a .access) (b .access)) where
     -- labels of different accesses differ
-    -- the first way through the code
     pub access-differs : not x ≡ true → false ≡ sameLabels a b
     access-differs n =
         stop (eqSpan (a .access) (b .access)) (eqSpan (a .own) (b .own) && sameTexts (eqSpan (a .access) noSpan) (eqSpan (a .own) noSpan)) (sym hx ∙ not-true x n) ∙ label-tests
 
     module _ (nx : not x ≡ false) (y : Bool) (hy : y ≡ eqSpan (a .own) (b .own)) where
       -- labels of different own spans differ
-      -- the second way
       pub own-differs : not y ≡ true → false ≡ sameLabels a b
       own-differs n =
           pass (eqSpan (a .access) (b .access)) (eqSpan (a .own) (b .own) && sameTexts (eqSpan (a .access) noSpan) (eqSpan (a .own) noSpan)) false (sym hx ∙ not-false x nx)
@@ -124,7 +109,6 @@ module _ (a b : Diagnostic) where
 
       module _ (ny : not y ≡ false) (u : Bool) (hu : u ≡ eqSpan (a .access) noSpan) where
         -- the texts decide
-        -- what the last three ways have in common
         texts-decide : (r : Bool) → r ≡ sameTexts (eqSpan (a .access) noSpan) (eqSpan (a .own) noSpan) → r ≡ sameLabels a b
         texts-decide r h =
             pass (eqSpan (a .access) (b .access)) (eqSpan (a .own) (b .own) && sameTexts (eqSpan (a .access) noSpan) (eqSpan (a .own) noSpan)) r (sym hx ∙ not-false x nx)
@@ -132,42 +116,35 @@ module _ (a b : Diagnostic) where
             ∙ label-tests
 
         -- an access is labelled, so the names decide
-        -- the third way
         pub access-labelled : not u ≡ true → eqb (a .name) (b .name) ≡ sameLabels a b
         access-labelled n = texts-decide (eqb (a .name) (b .name)) (sym (ap (λ (p : Bool). sameTexts p (eqSpan (a .own) noSpan)) (sym hu ∙ not-true u n)))
 
         module _ (nu : not u ≡ false) (v : Bool) (hv : v ≡ eqSpan (a .own) noSpan) where
           -- the place itself is labelled, so the names decide
-          -- the fourth way
           pub own-labelled : not v ≡ true → eqb (a .name) (b .name) ≡ sameLabels a b
           own-labelled n = texts-decide (eqb (a .name) (b .name)) (sym (ap₂ (λ (p q : Bool). sameTexts p q) (sym hu ∙ not-false u nu) (sym hv ∙ not-true v n)))
 
           -- there is no label
-          -- the fifth way
           pub none-labelled : not v ≡ false → true ≡ sameLabels a b
           none-labelled n = texts-decide true (sym (ap₂ (λ (p q : Bool). sameTexts p q) (sym hu ∙ not-false u nu) (sym hv ∙ not-false v n)))
 
 module _ (n : ℕ) (x : Numbered) (d : Diagnostic) where
   -- a record of another identity is not the instance
-  -- the first way through the code
   pub instance-differs : (n ≡ x .identity → ⊥) → false ≡ (eqb n (x .identity) && sameLabels d (x .diagnostic))
   instance-differs h = stop (eqb n (x .identity)) (sameLabels d (x .diagnostic)) (ne-eqb n (x .identity) h)
 
   -- for a record of the identity the labels decide
-  -- the second way
   pub instance-labels : (r : Bool) → n ≡ x .identity → r ≡ sameLabels d (x .diagnostic) → r ≡ (eqb n (x .identity) && sameLabels d (x .diagnostic))
   instance-labels r h g = pass (eqb n (x .identity)) (sameLabels d (x .diagnostic)) r (eq-eqb n (x .identity) h) g
 
 -- ---- records of diagnostics
 
 -- the count of diagnostics is a word
--- the code reads it by its place
 pub instances-are : (c : List ℕ) (x : ℕ) → x ≡ getD c 12484 0 → x ≡ instanceCount c
 unfolding instanceCount
 instances-are c x e = e
 
 -- a record is read word by word
--- its number is widened
 pub diagnostic-read : (c : List ℕ) (k i x0 x1 x2 x3 x4 x5 x6 x7 x8 : ℕ) → i ≡ k
     → x0 ≡ field Layout.diagnostics c i 0 → x1 ≡ field Layout.diagnostics c i 1 → x2 ≡ field Layout.diagnostics c i 2 → x3 ≡ field Layout.diagnostics c i 3 → x4 ≡ field Layout.diagnostics c i 4
     → x5 ≡ field Layout.diagnostics c i 5 → x6 ≡ field Layout.diagnostics c i 6 → x7 ≡ field Layout.diagnostics c i 7 → x8 ≡ field Layout.diagnostics c i 8
@@ -188,7 +165,6 @@ diagnostic-read c k i x0 x1 x2 x3 x4 x5 x6 x7 x8 e h0 h1 h2 h3 h4 h5 h6 h7 h8 =
     }
 
 -- a record is written word by word
--- its number is widened
 pub diagnostic-written : (c c0 c1 c2 c3 c4 c5 c6 c7 c8 : List ℕ) (k i n : ℕ) (d : Diagnostic) → i ≡ k
     → c0 ≡ putField Layout.diagnostics c i 0 n → c1 ≡ putField Layout.diagnostics c0 i 1 (d .identifier) → c2 ≡ putField Layout.diagnostics c1 i 2 (d .case)
     → c3 ≡ putField Layout.diagnostics c2 i 3 (d .sentence) → c4 ≡ putField Layout.diagnostics c3 i 4 (d .name) → c5 ≡ putField Layout.diagnostics c4 i 5 (d .access .start)
@@ -198,7 +174,6 @@ unfolding putDiagnostic
 diagnostic-written c c0 c1 c2 c3 c4 c5 c6 c7 c8 k i n d e h0 h1 h2 h3 h4 h5 h6 h7 h8 = cc
 
 -- the diagnostics that are left, with one to look at
--- as a loop counts
 diagnostics-more : (c : List ℕ) (k n : ℕ) → k < n → diagnosticsIn c k (n - k) ≡ diagnosticIn c k ∷ diagnosticsIn c (k + 1) (n - (k + 1))
 unfolding diagnosticsIn
 diagnostics-more c k n h =
@@ -221,7 +196,6 @@ larger-three : (a b c : ℕ) → max a (max (suc b) c) ≡ max (max (b + 1) a) c
 larger-three a b c = omega arith
 
 -- one more diagnostic
--- what is found so far takes its identity
 pub identities-more : (c : List ℕ) (k n i x most r : ℕ) → k < n → i ≡ k → x ≡ field Layout.diagnostics c i 0 → r ≡ max (x + 1) most
     → max most (identities (diagnosticsIn c k (n - k))) ≡ max r (identities (diagnosticsIn c (k + 1) (n - (k + 1))))
 unfolding identities diagnosticIn
@@ -245,14 +219,12 @@ identities-end c k n most hn l inv =
 
 module _ (c : List ℕ) (d : Diagnostic) (k n : ℕ) where
   -- the search of an identity, with one record to look at
-  -- as a loop counts
   identity-next : k < n → firstIdentity (diagnosticsIn c k (n - k)) d
       ≡ elim (sameIdentity d (diagnosticIn c k .diagnostic)) as (λ x. Option ℕ) [ true ↦ some (diagnosticIn c k .identity) | false ↦ firstIdentity (diagnosticsIn c (k + 1) (n - (k + 1))) d ]
   unfolding firstIdentity
   identity-next l = ap (λ (ds : List Interned). firstIdentity ds d) (diagnostics-more c k n l)
 
   -- a turn passes over record k
-  -- what is left to search is what is left after it
   pub identity-passed : (x : Numbered) (b : Bool) → k < n → internedOf x ≡ diagnosticIn c k → b ≡ sameIdentity d (x .diagnostic) → b ≡ false
       → firstIdentity (diagnosticsIn c k (n - k)) d ≡ firstIdentity (diagnosticsIn c (k + 1) (n - (k + 1))) d
   identity-passed x b l g h z =
@@ -270,7 +242,6 @@ module _ (c : List ℕ) (d : Diagnostic) (k n : ℕ) where
         ap (λ (m : ℕ). firstIdentity (diagnosticsIn c 0 m) d) (sym (a ∙ hn)) ∙ inv
 
     -- the search ends at record k
-    -- the code answers with its identity
     pub identity-found : (x : Numbered) (b : Bool) → k < n → internedOf x ≡ diagnosticIn c k → b ≡ sameIdentity d (x .diagnostic) → b ≡ true → some (x .identity) ≡ findIdentity c d
     identity-found x b l g h z =
         ap (λ (y : Interned). some (y .identity)) g
@@ -279,7 +250,6 @@ module _ (c : List ℕ) (d : Diagnostic) (k n : ℕ) where
         (ap (λ (y : Interned). sameIdentity d (y .diagnostic)) (sym g) ∙ sym h ∙ z))
 
     -- the search ends without a record
-    -- all were looked at
     pub identity-nowhere : n ≤ k → none ≡ findIdentity c d
     unfolding firstIdentity
     identity-nowhere l = sym (identity-left ∙ ap (λ (ds : List Interned). firstIdentity ds d) (diagnostics-none c k n l))
@@ -291,7 +261,6 @@ module _ (c : List ℕ) (m : ℕ) (d : Diagnostic) (k n : ℕ) where
   isInstance x = eqb m (x .identity) && sameLabels d (x .diagnostic)
 
   -- the search of an instance, with one record to look at
-  -- as a loop counts
   instance-next : k < n → firstInstance k (diagnosticsIn c k (n - k)) m d
       ≡ elim (isInstance (diagnosticIn c k)) as (λ x. Option ℕ) [ true ↦ some k | false ↦ firstInstance (k + 1) (diagnosticsIn c (k + 1) (n - (k + 1))) m d ]
   unfolding firstInstance
@@ -300,7 +269,6 @@ module _ (c : List ℕ) (m : ℕ) (d : Diagnostic) (k n : ℕ) where
       ∙ ap (λ (z : ℕ). elim (isInstance (diagnosticIn c k)) as (λ x. Option ℕ) [ true ↦ some k | false ↦ firstInstance z (diagnosticsIn c (k + 1) (n - (k + 1))) m d ]) (sym (add-one k))
 
   -- a turn passes over record k
-  -- what is left to search is what is left after it
   pub instance-passed : (x : Numbered) (b : Bool) → k < n → internedOf x ≡ diagnosticIn c k → b ≡ (eqb m (x .identity) && sameLabels d (x .diagnostic)) → b ≡ false
       → firstInstance k (diagnosticsIn c k (n - k)) m d ≡ firstInstance (k + 1) (diagnosticsIn c (k + 1) (n - (k + 1))) m d
   instance-passed x b l g h z =
@@ -317,14 +285,12 @@ module _ (c : List ℕ) (m : ℕ) (d : Diagnostic) (k n : ℕ) where
         ap (λ (u : ℕ). firstInstance 0 (diagnosticsIn c 0 u) m d) (sym (a ∙ hn)) ∙ inv
 
     -- the search ends at record k
-    -- the code answers with its place
     pub instance-found : (x : Numbered) (b : Bool) → k < n → internedOf x ≡ diagnosticIn c k → b ≡ (eqb m (x .identity) && sameLabels d (x .diagnostic)) → b ≡ true → some k ≡ findInstance c m d
     instance-found x b l g h z =
         sym (instance-left ∙ instance-next l
         ∙ ap (λ (t : Bool). elim t as (λ x. Option ℕ) [ true ↦ some k | false ↦ firstInstance (k + 1) (diagnosticsIn c (k + 1) (n - (k + 1))) m d ]) (ap isInstance (sym g) ∙ sym h ∙ z))
 
     -- the search ends without a record
-    -- all were looked at
     pub instance-nowhere : n ≤ k → none ≡ findInstance c m d
     unfolding firstInstance
     instance-nowhere l = sym (instance-left ∙ ap (λ (ds : List Interned). firstInstance k ds m d) (diagnostics-none c k n l))

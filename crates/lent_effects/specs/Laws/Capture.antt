@@ -17,7 +17,6 @@ use Rattle.lent_effects.specs.Laws.Head.{lower-or-not}
 -- ---- the loops over captures
 
 -- a loop that writes captures begins with all of them
--- none is written yet
 pub put-start : (t : Table) (c : List ℕ) (i : ℕ) (ws : List ℕ) (n : ℕ) → n ≡ field oneRun ws 0 0 → putPlaces t c i 18 0 (placesIn oneRun ws 0 1 0 (n - 0)) ≡ putPlaces t c i 18 0 (capturesOf ws)
 unfolding countedPlaces
 put-start t c i ws n h =
@@ -25,7 +24,6 @@ put-start t c i ws n h =
     ap (λ (m : ℕ). putPlaces t c i 18 0 (placesIn oneRun ws 0 1 0 m)) e
 
 -- a turn writes one of them
--- what is left is what was left after it
 pub put-more : (t : Table) (c d : List ℕ) (i : ℕ) (ws : List ℕ) (k n : ℕ) (p : Place) → k < n → p ≡ placeIn oneRun ws 0 (1 + k * 5) → d ≡ putPlace t c i (18 + k * 5) p
     → putPlaces t d i 18 (k + 1) (placesIn oneRun ws 0 1 (k + 1) (n - (k + 1))) ≡ putPlaces t c i 18 k (placesIn oneRun ws 0 1 k (n - k))
 unfolding putPlaces
@@ -35,13 +33,11 @@ put-more t c d i ws k n p l e g =
     ∙ ap (putPlaces t c i 18 k) (sym (places-more oneRun ws 0 1 k n l))
 
 -- at the end none is left
--- the list is as it stands
 pub put-none : (t : Table) (c : List ℕ) (i : ℕ) (ws : List ℕ) (k n : ℕ) → n ≤ k → c ≡ putPlaces t c i 18 k (placesIn oneRun ws 0 1 k (n - k))
 unfolding putPlaces
 put-none t c i ws k n l = ap (putPlaces t c i 18 k) (sym (places-none oneRun ws 0 1 k n l))
 
 -- a turn of the loop that copies captures writes one word
--- what is left is what was left after it
 pub copied-more : (t : Table) (c : List ℕ) (i k : ℕ) (ws vs : List ℕ) (x : ℕ) → k < 81 → x ≡ field t c i (17 + k) → vs ≡ set ws k x → copiedFrom t c i (k + 1) (81 - (k + 1)) vs ≡ copiedFrom t c i k (81 - k) ws
 unfolding copiedFrom
 copied-more t c i k ws vs x l e g =
@@ -51,12 +47,10 @@ copied-more t c i k ws vs x l e g =
     ∙ ap (λ (y : ℕ). copiedFrom t c i k y ws) m
 
 -- and keeps the slice's length
--- a lent slice keeps its own
 pub copied-kept : (ws vs : List ℕ) (k x : ℕ) → vs ≡ set ws k x → length vs ≡ length ws
 copied-kept ws vs k x e = ap length e ∙ length-set ws k x
 
 -- at the end none is left
--- the slice is as it stands
 pub copied-none : (t : Table) (c : List ℕ) (i k : ℕ) (ws : List ℕ) → 81 ≤ k → ws ≡ copiedFrom t c i k (81 - k) ws
 unfolding copiedFrom
 copied-none t c i k ws l =
@@ -67,7 +61,6 @@ copied-none t c i k ws l =
 
 module _ (t : Table) (c : List ℕ) (i : ℕ) where
   -- a word before those that are copied stays
-  -- each word is written once
   copied-before : (k n : ℕ) (ws : List ℕ) (v : ℕ) → v < k → getD (copiedFrom t c i k n ws) v 0 ≡ getD ws v 0
   unfolding copiedFrom
   copied-before k zero ws v l = refl
@@ -76,7 +69,6 @@ module _ (t : Table) (c : List ℕ) (i : ℕ) where
       ∙ getD-set-other ws k v (field t c i (17 + k)) 0 (λ e. omega arith)
 
   -- a word that is copied is the record's
-  -- where the slice has room for it
   copied-at : (k n : ℕ) (ws : List ℕ) (v : ℕ) → k + n ≤ length ws → k ≤ v → v < k + n → getD (copiedFrom t c i k n ws) v 0 ≡ field t c i (17 + v)
   unfolding copiedFrom
   copied-at k zero ws v r l u = absurd (let z : v < k + 0 = u in omega arith)
@@ -106,7 +98,6 @@ module _ (t : Table) (c : List ℕ) (i : ℕ) where
       (lower-or-not v 81)
 
   -- a place of the slice is the record's, 17 words on
-  -- five words
   copied-place : (d : List ℕ) → ((v : ℕ) → field oneRun d 0 v ≡ field t c i (17 + v)) → (w u : ℕ) → u ≡ 17 + w → placeIn oneRun d 0 w ≡ placeIn t c i u
   unfolding placeIn
   copied-place d h w u e =
@@ -118,7 +109,6 @@ module _ (t : Table) (c : List ℕ) (i : ℕ) where
       (h (w + 4) ∙ ap (field t c i) (let z : 17 + (w + 4) ≡ u + 4 = omega arith in z))
 
   -- and so is a run of places
-  -- one after the other
   copied-places : (d : List ℕ) → ((v : ℕ) → field oneRun d 0 v ≡ field t c i (17 + v)) → (k n : ℕ) → placesIn oneRun d 0 1 k n ≡ placesIn t c i 18 k n
   unfolding placesIn
   copied-places d h k zero = refl
@@ -126,7 +116,6 @@ module _ (t : Table) (c : List ℕ) (i : ℕ) where
       ap₂ (λ (p : Place) (ps : List Place). p ∷ ps) (copied-place d h (1 + k * 5) (18 + k * 5) (omega arith)) (copied-places d h (suc k) n)
 
   -- the captures of a slice that record i was copied to are the record's
-  -- the record may change afterwards
   pub captures-copied : (ws : List ℕ) → t .width ≡ 98 → length ws ≡ 81 → capturesOf (copiedCaptures t c i ws) ≡ countedPlaces t c i 17
   unfolding countedPlaces
   captures-copied ws a b =

@@ -29,19 +29,16 @@ pub lower-or-not : (a b : ℕ) → (a < b) ⊎ (b ≤ a)
 lower-or-not a b = told (ltb a b) (λ e. ltb-true a b e) (λ e. ltb-false a b e)
   where
     -- what the test says, either way
-    -- it computes
     told : (d : Bool) → (d ≡ true → a < b) → (d ≡ false → b ≤ a) → (a < b) ⊎ (b ≤ a)
     told true p q = inl (p refl)
     told false p q = inr (q refl)
 
 -- a test of each number below n
--- antt computes it where the numbers are given
 abbrev allBelow : (ℕ → Bool) → ℕ → Bool
 allBelow f zero = true
 allBelow f (suc n) = f n && allBelow f n
 
 -- where they all passed, each did
--- a law of the codes is one computed test
 below-all : (f : ℕ → Bool) (n : ℕ) → T (allBelow f n) → (k : ℕ) → k < n → T (f k)
 below-all f zero t k h = absurd (not-suc-le-zero h)
 below-all f (suc n) t k h =
@@ -51,12 +48,10 @@ below-all f (suc n) t k h =
     (lower-or-not k n)
 
 -- a number that is not the least of those left is above it
--- the last arm of a match goes up from arm to arm
 next : (a n : ℕ) → a ≤ n → (n ≡ a → ⊥) → suc a ≤ n
 next a n l d = omega arith
 
 -- of the numbers 12 to 16 the one that no arm names
--- it is the code of an Apply
 twelve : (n : ℕ) → 12 ≤ n → n < 17 → (n ≡ 13 → ⊥) → (n ≡ 14 → ⊥) → (n ≡ 15 → ⊥) → (n ≡ 16 → ⊥) → n ≡ 12
 twelve n l u a b c d = omega arith
 
@@ -64,103 +59,86 @@ twelve n l u a b c d = omega arith
 
 module _ (t : Table) (c : List ℕ) (i n : ℕ) (h : n ≡ field t c i 0) where
   -- the head at the place that the code says
-  -- each arm knows the code
   at-code : (k : ℕ) → n ≡ k → getD (heads t c i) k (Head.Render (placeIn t c i 1)) ≡ headIn t c i
   unfolding headIn
   at-code k e = ap (λ (m : ℕ). getD (heads t c i) m (Head.Render (placeIn t c i 1))) (sym e ∙ h)
 
   -- code 0: Freeze
-  -- the words that this head holds
   pub head-0 : (p : Place) (r : ℕ) → n ≡ 0 → p ≡ placeIn t c i 1 → r ≡ field t c i 12 → Head.Freeze p r ≡ headIn t c i
   unfolding heads
   head-0 p r e h1 h2 = (λ j. Head.Freeze (h1 j) (h2 j)) ∙ at-code 0 e
 
   -- code 1: Mutate
-  -- the words that this head holds
   pub head-1 : (p : Place) (r : ℕ) → n ≡ 1 → p ≡ placeIn t c i 1 → r ≡ field t c i 13 → Head.Mutate p r ≡ headIn t c i
   unfolding heads
   head-1 p r e h1 h2 = (λ j. Head.Mutate (h1 j) (h2 j)) ∙ at-code 1 e
 
   -- code 2: MutateConditionally
-  -- the words that this head holds
   pub head-2 : (p : Place) → n ≡ 2 → p ≡ placeIn t c i 1 → Head.MutateConditionally p ≡ headIn t c i
   unfolding heads
   head-2 p e h1 = (λ j. Head.MutateConditionally (h1 j)) ∙ at-code 2 e
 
   -- code 3: MutateTransitive
-  -- the words that this head holds
   pub head-3 : (p : Place) → n ≡ 3 → p ≡ placeIn t c i 1 → Head.MutateTransitive p ≡ headIn t c i
   unfolding heads
   head-3 p e h1 = (λ j. Head.MutateTransitive (h1 j)) ∙ at-code 3 e
 
   -- code 4: MutateTransitiveConditionally
-  -- the words that this head holds
   pub head-4 : (p : Place) → n ≡ 4 → p ≡ placeIn t c i 1 → Head.MutateTransitiveConditionally p ≡ headIn t c i
   unfolding heads
   head-4 p e h1 = (λ j. Head.MutateTransitiveConditionally (h1 j)) ∙ at-code 4 e
 
   -- code 5: Capture
-  -- the words that this head holds
   pub head-5 : (p : Place) (q : Place) → n ≡ 5 → p ≡ placeIn t c i 1 → q ≡ placeIn t c i 6 → Head.Capture p q ≡ headIn t c i
   unfolding heads
   head-5 p q e h1 h2 = (λ j. Head.Capture (h1 j) (h2 j)) ∙ at-code 5 e
 
   -- code 6: Alias
-  -- the words that this head holds
   pub head-6 : (p : Place) (q : Place) → n ≡ 6 → p ≡ placeIn t c i 1 → q ≡ placeIn t c i 6 → Head.Alias p q ≡ headIn t c i
   unfolding heads
   head-6 p q e h1 h2 = (λ j. Head.Alias (h1 j) (h2 j)) ∙ at-code 6 e
 
   -- code 7: MaybeAlias
-  -- the words that this head holds
   pub head-7 : (p : Place) (q : Place) → n ≡ 7 → p ≡ placeIn t c i 1 → q ≡ placeIn t c i 6 → Head.MaybeAlias p q ≡ headIn t c i
   unfolding heads
   head-7 p q e h1 h2 = (λ j. Head.MaybeAlias (h1 j) (h2 j)) ∙ at-code 7 e
 
   -- code 8: Assign
-  -- the words that this head holds
   pub head-8 : (p : Place) (q : Place) → n ≡ 8 → p ≡ placeIn t c i 1 → q ≡ placeIn t c i 6 → Head.Assign p q ≡ headIn t c i
   unfolding heads
   head-8 p q e h1 h2 = (λ j. Head.Assign (h1 j) (h2 j)) ∙ at-code 8 e
 
   -- code 9: Create
-  -- the words that this head holds
   pub head-9 : (q : Place) (k : ValueKind) (r : ℕ) → n ≡ 9 → q ≡ placeIn t c i 6 → k ≡ kindAt (field t c i 11) → r ≡ field t c i 12 → Head.Create q k r ≡ headIn t c i
   unfolding heads
   head-9 q k r e h1 h2 h3 = (λ j. Head.Create (h1 j) (h2 j) (h3 j)) ∙ at-code 9 e
 
   -- code 10: CreateFrom
-  -- the words that this head holds
   pub head-10 : (p : Place) (q : Place) → n ≡ 10 → p ≡ placeIn t c i 1 → q ≡ placeIn t c i 6 → Head.CreateFrom p q ≡ headIn t c i
   unfolding heads
   head-10 p q e h1 h2 = (λ j. Head.CreateFrom (h1 j) (h2 j)) ∙ at-code 10 e
 
   -- code 11: ImmutableCapture
-  -- the words that this head holds
   pub head-11 : (p : Place) (q : Place) → n ≡ 11 → p ≡ placeIn t c i 1 → q ≡ placeIn t c i 6 → Head.ImmutableCapture p q ≡ headIn t c i
   unfolding heads
   head-11 p q e h1 h2 = (λ j. Head.ImmutableCapture (h1 j) (h2 j)) ∙ at-code 11 e
 
   -- code 13: CreateFunction
-  -- the words that this head holds
   pub head-13 : (f : ℕ) (q : Place) → n ≡ 13 → f ≡ field t c i 14 → q ≡ placeIn t c i 6 → Head.CreateFunction f q ≡ headIn t c i
   unfolding heads
   head-13 f q e h1 h2 = (λ j. Head.CreateFunction (h1 j) (h2 j)) ∙ at-code 13 e
 
   -- code 14: MutateFrozen
-  -- the words that this head holds
   pub head-14 : (p : Place) (d : AliasingDiagnostic) → n ≡ 14 → p ≡ placeIn t c i 1 → d ≡ diagnostic t c i → Head.MutateFrozen p d ≡ headIn t c i
   unfolding heads
   head-14 p d e h1 h2 = (λ j. Head.MutateFrozen (h1 j) (h2 j)) ∙ at-code 14 e
 
   -- code 15: MutateGlobal
-  -- the words that this head holds
   pub head-15 : (p : Place) (d : AliasingDiagnostic) → n ≡ 15 → p ≡ placeIn t c i 1 → d ≡ diagnostic t c i → Head.MutateGlobal p d ≡ headIn t c i
   unfolding heads
   head-15 p d e h1 h2 = (λ j. Head.MutateGlobal (h1 j) (h2 j)) ∙ at-code 15 e
 
   -- code 16: Impure
-  -- the words that this head holds
   pub head-16 : (p : Place) (d : AliasingDiagnostic) → n ≡ 16 → p ≡ placeIn t c i 1 → d ≡ diagnostic t c i → Head.Impure p d ≡ headIn t c i
   unfolding heads
   head-16 p d e h1 h2 = (λ j. Head.Impure (h1 j) (h2 j)) ∙ at-code 16 e
@@ -188,19 +166,16 @@ module _ (t : Table) (c : List ℕ) (i n : ℕ) (h : n ≡ field t c i 0) where
   codeAt m = codeOf (effectWith (getD (heads t c i) m (Head.Render (placeIn t c i 1))) (countedPlaces t c i 17))
 
   -- the record's effect is that of its code's word
-  -- the word was read as n
   code-at : codeAt n ≡ codeOf (effectIn t c i)
   unfolding effectIn headIn
   code-at = ap codeAt h
 
   -- up to 17 each code but 12 is that of its effect
-  -- one computed test
   code-test : T (allBelow (λ m. eqb m 12 || eqb m (codeAt m)) 18)
   unfolding effectWith heads
   code-test = tt
 
   -- the code is a word past the last
-  -- it reads as Render
   pub code-past : 17 < n → 17 ≡ codeOf (effectIn t c i)
   unfolding effectWith heads
   code-past l =
@@ -208,13 +183,11 @@ module _ (t : Table) (c : List ℕ) (i n : ℕ) (h : n ≡ field t c i 0) where
       ∙ code-at
 
   -- the code is that of an Apply
-  -- it reads as Render
   pub code-apply : n ≡ 12 → 17 ≡ codeOf (effectIn t c i)
   unfolding effectWith heads
   code-apply e = sym (ap codeAt e) ∙ code-at
 
   -- any other code is that of its effect
-  -- the heads stand in the order of their codes
   pub code-known : n ≤ 17 → (n ≡ 12 → ⊥) → n ≡ codeOf (effectIn t c i)
   code-known l d = eqb→eq n (codeAt n) (passed _ _ (ne-eqb n 12 d) (below-all (λ m. eqb m 12 || eqb m (codeAt m)) 18 code-test n (let z : n < 18 = omega arith in z))) ∙ code-at
     where

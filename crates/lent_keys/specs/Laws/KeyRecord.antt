@@ -26,7 +26,6 @@ use Rattle.lent_keys.specs.Laws.Number.{numbers-more, numbers-none, numb
 -- ---- a key compared with that of a record
 
 -- the identifiers of the captures beside a key, of those that it takes
--- a run of the slice
 pub taken-numbers : (b : Bool) (ws : List ℕ) (x n : ℕ) → x ≡ field oneRun ws 0 0 → n ≡ ite b x 0 → ite b (identifiers (capturesOf ws)) [] ≡ numbersIn oneRun ws 0 1 5 0 n
 unfolding countedPlaces
 taken-numbers b ws x n h e =
@@ -35,7 +34,6 @@ taken-numbers b ws x n h e =
     ∙ ap (numbersIn oneRun ws 0 1 5 0) (sym (e ∙ ap (λ (y : ℕ). ite b y 0) h))
 
 -- the identifiers of a record's captures, of those that its key takes
--- a run of the record
 record-numbers : (b : Bool) (t : Table) (c : List ℕ) (i x n : ℕ) → x ≡ field t c i 17 → n ≡ ite b x 0 → ite b (identifiers (countedPlaces t c i 17)) [] ≡ numbersIn t c i 18 5 0 n
 unfolding countedPlaces
 record-numbers b t c i x n h e =
@@ -46,20 +44,17 @@ record-numbers b t c i x n h e =
 module _ (t : Table) (c : List ℕ) (i : ℕ) (key other : Key) (ws : List ℕ) (e : Head)
     (g : e ≡ headIn t c i) (h : (cs : List Place) → keyWith other (identifiers cs) ≡ effectKey (effectWith e cs)) where
   -- the key of a record's effect
-  -- of its head and its captures
   effect-key : keyWith other (identifiers (countedPlaces t c i 17)) ≡ effectKey (effectIn t c i)
   unfolding effectIn
   effect-key = h (countedPlaces t c i 17) ∙ ap (λ (x : Head). effectKey (effectWith x (countedPlaces t c i 17))) g
 
   -- the record's effect has another key
-  -- it differs in more than the captures
   pub effect-differs : (x : Bool) → x ≡ sameHead key other → not x ≡ true → false ≡ eqKey (keyWith key (identifiers (capturesOf ws))) (effectKey (effectIn t c i))
   effect-differs x p n =
       keys-differ key other (identifiers (capturesOf ws)) (identifiers (countedPlaces t c i 17)) (sym p ∙ not-true x n)
       ∙ ap (eqKey (keyWith key (identifiers (capturesOf ws)))) effect-key
 
   -- the record's effect has the key where the captures are the same
-  -- those that each key takes
   pub effect-compared : (x r : Bool) (y n z m : ℕ) → x ≡ sameHead key other → not x ≡ false → y ≡ field oneRun ws 0 0 → n ≡ ite (key .captured) y 0 → z ≡ field t c i 17 → m ≡ ite (other .captured) z 0
       → r ≡ eqList (numbersIn oneRun ws 0 1 5 0 n) (numbersIn t c i 18 5 0 m) → r ≡ eqKey (keyWith key (identifiers (capturesOf ws))) (effectKey (effectIn t c i))
   effect-compared x r y n z m p q hy hn hz hm k =
@@ -70,7 +65,6 @@ module _ (t : Table) (c : List ℕ) (i : ℕ) (key other : Key) (ws : List ℕ) 
 -- ---- a key as a record
 
 -- the key of a record, of the words that were read
--- for any captures beside it
 pub reads-head : (t : Table) (c : List ℕ) (i n k r d : ℕ) (f o g : Found)
     → n ≡ field t c i 1 → optionOf f ≡ optionIn t c i 2 → optionOf o ≡ optionIn t c i 4 → k ≡ field t c i 6 → r ≡ field t c i 7 → optionOf g ≡ optionIn t c i 8 → d ≡ field t c i 10
     → (is : List ℕ) → keyWith (record { code = n; from = f; into = o; kind = k; reason = r; function = g; identity = d; captured = true }) is ≡ keyHeadIn t c i is
@@ -103,13 +97,11 @@ module _ (t : Table) (c : List ℕ) (i : ℕ) (key other : Key) (ws : List ℕ) 
       ∙ sym (ap (isKey k) (ite-ne (field t c i 0) 0 none (some (keyHeadIn t c i (numbersIn t c i 12 1 0 (field t c i 11)))) (λ e. z (f ∙ e))))
 
   -- all its captures count
-  -- the record says how many there are
   all-taken : (is : List ℕ) → ite (other .captured) is [] ≡ is
   unfolding keyWith keyHeadIn
   all-taken is = ap (λ (k : EffectKey). k .captures) (h is)
 
   -- the record holds another key
-  -- it differs in more than the captures
   pub record-differs : (y : Bool) → y ≡ sameHead key other → not y ≡ true → false ≡ isKey (keyWith key (identifiers (capturesOf ws))) (keyIn t c i)
   record-differs y p n =
       keys-differ key other (identifiers (capturesOf ws)) (numbersIn t c i 12 1 0 (field t c i 11)) (sym p ∙ not-true y n)
@@ -128,12 +120,10 @@ module _ (t : Table) (c : List ℕ) (i : ℕ) (key other : Key) (ws : List ℕ) 
 
 module _ (t : Table) (c : List ℕ) (i : ℕ) (ws : List ℕ) where
   -- a loop that writes identifiers begins with all of them
-  -- none is written yet
   pub write-start : (n : ℕ) → putNumbers t c i 12 1 0 (numbersIn oneRun ws 0 1 5 0 (n - 0)) ≡ putNumbers t c i 12 1 0 (numbersIn oneRun ws 0 1 5 0 n)
   write-start n = ap (putNumbers t c i 12 1 0) (numbers-all oneRun ws 0 1 5 n)
 
   -- a turn writes one of them
-  -- what is left is what was left after it
   pub write-more : (d : List ℕ) (k n m x : ℕ) → k < n → x ≡ field oneRun ws 0 (1 + k * 5) → m ≡ k → d ≡ putField t c i (12 + m) x
       → putNumbers t d i 12 1 (k + 1) (numbersIn oneRun ws 0 1 5 (k + 1) (n - (k + 1))) ≡ putNumbers t c i 12 1 k (numbersIn oneRun ws 0 1 5 k (n - k))
   unfolding putNumbers
@@ -144,13 +134,11 @@ module _ (t : Table) (c : List ℕ) (i : ℕ) (ws : List ℕ) where
       ∙ ap (putNumbers t c i 12 1 k) (sym (numbers-more oneRun ws 0 1 5 k n l))
 
   -- at the end none is left
-  -- the list is as it stands
   pub write-none : (k n : ℕ) → n ≤ k → c ≡ putNumbers t c i 12 1 k (numbersIn oneRun ws 0 1 5 k (n - k))
   unfolding putNumbers
   write-none k n l = ap (putNumbers t c i 12 1 k) (sym (numbers-none oneRun ws 0 1 5 k n l))
 
 -- the writes of a key before its captures
--- word by word
 pub writes-head : (t : Table) (c c1 c2 c3 c4 c5 c6 c7 c8 : List ℕ) (i : ℕ) (key : Key)
     → c1 ≡ putField t c i 0 1 → c2 ≡ putField t c1 i 1 (key .code) → c3 ≡ putOption t c2 i 2 (optionOf (key .from)) → c4 ≡ putOption t c3 i 4 (optionOf (key .into))
     → c5 ≡ putField t c4 i 6 (key .kind) → c6 ≡ putField t c5 i 7 (key .reason) → c7 ≡ putOption t c6 i 8 (optionOf (key .function)) → c8 ≡ putField t c7 i 10 (key .identity)

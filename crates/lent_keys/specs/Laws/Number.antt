@@ -19,7 +19,6 @@ use Rattle.lent_keys.specs.Laws.Option.{stop, pass}
 -- ---- runs of numbers
 
 -- where a number of a run stands fits 64 bits
--- the code multiplies and adds without a test
 pub number-fits : (w k s : ℕ) → w < 4294967296 → k < 4294967296 → s < 4294967296 → w + k * s < 18446744073709551616
 number-fits w k s h m n =
     let x : k ≤ 4294967295 = omega arith in
@@ -28,13 +27,11 @@ number-fits w k s h m n =
     omega arith
 
 -- a number of a run is read
--- the three numbers of its place are widened first
 pub reads-number : (t : Table) (c : List ℕ) (i w s k a b d x : ℕ) → a ≡ w → b ≡ k → d ≡ s → x ≡ field t c i (a + b * d) → x ≡ field t c i (w + k * s)
 reads-number t c i w s k a b d x e f g h = cc
 
 module _ (t : Table) (c : List ℕ) (i w s : ℕ) where
   -- a run that is not done begins with its number k
-  -- a loop reads it and counts on
   pub numbers-more : (k n : ℕ) → k < n → numbersIn t c i w s k (n - k) ≡ field t c i (w + k * s) ∷ numbersIn t c i w s (k + 1) (n - (k + 1))
   unfolding numbersIn
   numbers-more k n h =
@@ -44,7 +41,6 @@ module _ (t : Table) (c : List ℕ) (i w s : ℕ) where
       ∙ ap (λ (m : ℕ). field t c i (w + k * s) ∷ numbersIn t c i w s m (n - (k + 1))) q
 
   -- a run that is done has no number left
-  -- the loop ends
   pub numbers-none : (k n : ℕ) → n ≤ k → numbersIn t c i w s k (n - k) ≡ []
   unfolding numbersIn
   numbers-none k n h =
@@ -52,14 +48,12 @@ module _ (t : Table) (c : List ℕ) (i w s : ℕ) where
       ap (λ (m : ℕ). numbersIn t c i w s k m) p
 
   -- a run begins with all its numbers
-  -- none is counted yet
   pub numbers-all : (n : ℕ) → numbersIn t c i w s 0 (n - 0) ≡ numbersIn t c i w s 0 n
   numbers-all n =
       let p : n - 0 ≡ n = omega arith in
       ap (λ (m : ℕ). numbersIn t c i w s 0 m) p
 
   -- a run is as long as was asked for
-  -- the count of captures is their number
   pub numbers-count : (k n : ℕ) → length (numbersIn t c i w s k n) ≡ n
   unfolding numbersIn
   numbers-count k zero = refl
@@ -73,21 +67,18 @@ module _ (t : Table) (c : List ℕ) (i w s : ℕ) where
   numbers-taken false n = refl
 
 -- the identifiers of a run of places are a run of numbers
--- five words apart
 pub places-numbers : (t : Table) (c : List ℕ) (i w k n : ℕ) → identifiers (placesIn t c i w k n) ≡ numbersIn t c i w 5 k n
 unfolding placesIn placeIn numbersIn
 places-numbers t c i w k zero = refl
 places-numbers t c i w k (suc n) = ap (λ (l : List ℕ). field t c i (w + k * 5) ∷ l) (places-numbers t c i w (suc k) n)
 
 -- runs with the same words are the same
--- with laws of what a write leaves
 pub numbers-cong : (t : Table) (c d : List ℕ) (i w s k n : ℕ) → ((v : ℕ) → field t d i v ≡ field t c i v) → numbersIn t d i w s k n ≡ numbersIn t c i w s k n
 unfolding numbersIn
 numbers-cong t c d i w s k zero h = refl
 numbers-cong t c d i w s k (suc n) h = ap₂ (λ (x : ℕ) (l : List ℕ). x ∷ l) (h (w + k * s)) (numbers-cong t c d i w s (suc k) n h)
 
 -- lists of other lengths differ
--- the code compares the counts first
 lengths-differ : (xs ys : List ℕ) → (length xs ≡ length ys → ⊥) → false ≡ eqList xs ys
 unfolding eqList
 lengths-differ [] [] n = absurd (n refl)
@@ -96,7 +87,6 @@ lengths-differ (x ∷ xs) [] n = refl
 lengths-differ (x ∷ xs) (y ∷ ys) n = last (eqb x y) (eqList xs ys) (lengths-differ xs ys (λ e. n (ap suc e)))
   where
     -- a chain whose last test failed
-    -- whatever the first says
     last : (p q : Bool) → false ≡ q → false ≡ (p && q)
     last true q e = e
     last false q e = refl
@@ -105,7 +95,6 @@ lengths-differ (x ∷ xs) (y ∷ ys) n = last (eqb x y) (eqList xs ys) (lengths-
 -- a loop's invariant is that what is left decides
 module _ (t : Table) (c : List ℕ) (i w s : ℕ) (u : Table) (d : List ℕ) (j v r : ℕ) where
   -- whether what is left of both is equal
-  -- n numbers from the k-th on
   unfoldable pub alike : ℕ → ℕ → Bool
   alike k n = eqList (numbersIn t c i w s k (n - k)) (numbersIn u d j v r k (n - k))
 
@@ -117,19 +106,16 @@ module _ (t : Table) (c : List ℕ) (i w s : ℕ) (u : Table) (d : List ℕ) (j 
       (λ e. h (sym (numbers-count t c i w s 0 n) ∙ e ∙ numbers-count u d j v r 0 m))
 
   -- the loop begins with all numbers
-  -- the counts are equal
   pub alike-start : (n m : ℕ) → n ≡ m → alike 0 n ≡ eqList (numbersIn t c i w s 0 n) (numbersIn u d j v r 0 m)
   unfolding alike
   alike-start n m e = ap₂ eqList (numbers-all t c i w s n) (numbers-all u d j v r n ∙ ap (λ (k : ℕ). numbersIn u d j v r 0 k) e)
 
   -- what is left begins with the k-th of each
-  -- a turn compares them
   alike-more : (k n : ℕ) → k < n → alike k n ≡ (eqb (field t c i (w + k * s)) (field u d j (v + k * r)) && alike (k + 1) n)
   unfolding alike eqList
   alike-more k n l = ap₂ eqList (numbers-more t c i w s k n l) (numbers-more u d j v r k n l)
 
   -- they are equal
-  -- the loop goes on
   pub alike-next : (k n x y : ℕ) → k < n → x ≡ field t c i (w + k * s) → y ≡ field u d j (v + k * r) → x ≡ y → alike (k + 1) n ≡ alike k n
   alike-next k n x y l e f g =
       pass (eqb (field t c i (w + k * s)) (field u d j (v + k * r))) (alike (k + 1) n) (alike (k + 1) n)
@@ -137,7 +123,6 @@ module _ (t : Table) (c : List ℕ) (i w s : ℕ) (u : Table) (d : List ℕ) (j 
       ∙ sym (alike-more k n l)
 
   -- they differ
-  -- the loop ends with no
   pub alike-not : (k n x y : ℕ) → k < n → x ≡ field t c i (w + k * s) → y ≡ field u d j (v + k * r) → (x ≡ y → ⊥) → false ≡ alike k n
   alike-not k n x y l e f g =
       stop (eqb (field t c i (w + k * s)) (field u d j (v + k * r))) (alike (k + 1) n)
@@ -145,7 +130,6 @@ module _ (t : Table) (c : List ℕ) (i w s : ℕ) (u : Table) (d : List ℕ) (j 
       ∙ sym (alike-more k n l)
 
   -- none is left
-  -- the loop ends with yes
   pub alike-end : (k n : ℕ) → n ≤ k → true ≡ alike k n
   unfolding alike eqList
   alike-end k n l = sym (ap₂ eqList (numbers-none t c i w s k n l) (numbers-none u d j v r k n l))

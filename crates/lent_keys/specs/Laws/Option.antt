@@ -17,13 +17,11 @@ use Rattle.lent_keys.specs.KeyRecords.{optionOf, optionIn, putOption}
 -- ---- tests, one after the other
 
 -- a test that failed ends a chain of tests
--- the code returns there
 pub stop : (p q : Bool) → p ≡ false → false ≡ (p && q)
 stop true q e = sym e ∙ absurd (let z : _≡_ {A = ℕ} 0 1 = cc in omega arith)
 stop false q e = refl
 
 -- a test that passed leaves the rest of the chain
--- the code goes on
 pub pass : (p q r : Bool) → p ≡ true → r ≡ q → r ≡ (p && q)
 pass true q r e h = h
 pass false q r e h = absurd (let z : _≡_ {A = ℕ} 0 1 = cc in omega arith)
@@ -37,25 +35,21 @@ and-assoc false q r = refl
 -- ---- numbers that may be absent
 
 -- both absent
--- they are equal
 pub option-none : (a b : Found) → a ≡ Nowhere → b ≡ Nowhere → true ≡ eqOption (optionOf a) (optionOf b)
 unfolding eqOption
 option-none a b p q = sym (ap₂ (λ (x y : Found). eqOption (optionOf x) (optionOf y)) p q)
 
 -- the first is absent
--- they differ
 pub option-left : (a b : Found) (y : ℕ) → a ≡ Nowhere → b ≡ At y → false ≡ eqOption (optionOf a) (optionOf b)
 unfolding eqOption
 option-left a b y p q = sym (ap₂ (λ (x y : Found). eqOption (optionOf x) (optionOf y)) p q)
 
 -- the second is absent
--- they differ
 pub option-right : (a b : Found) (x : ℕ) → a ≡ At x → b ≡ Nowhere → false ≡ eqOption (optionOf a) (optionOf b)
 unfolding eqOption
 option-right a b x p q = sym (ap₂ (λ (x y : Found). eqOption (optionOf x) (optionOf y)) p q)
 
 -- none is absent
--- the numbers decide
 pub option-both : (a b : Found) (x y : ℕ) → a ≡ At x → b ≡ At y → eqb x y ≡ eqOption (optionOf a) (optionOf b)
 unfolding eqOption
 option-both a b x y p q = sym (ap₂ (λ (x y : Found). eqOption (optionOf x) (optionOf y)) p q)
@@ -75,7 +69,6 @@ option-present t c i w m n x y e h z f g =
     ∙ sym (ite-ne (field t c i w) 0 none (some (field t c i (w + 1))) (λ q. z (h ∙ ap (field t c i) e ∙ q)))
 
 -- an absent number is written
--- two zeros
 pub writes-absent : (t : Table) (c c1 c2 : List ℕ) (i w m n : ℕ) (o : Found) → o ≡ Nowhere → m ≡ w → n ≡ w → c1 ≡ putField t c i m 0 → c2 ≡ putField t c1 i (n + 1) 0 → c2 ≡ putOption t c i w (optionOf o)
 unfolding putOption
 writes-absent t c c1 c2 i w m n o g e f h k =
@@ -83,7 +76,6 @@ writes-absent t c c1 c2 i w m n o g e f h k =
     ∙ sym (ap (λ (x : Found). putOption t c i w (optionOf x)) g)
 
 -- a number is written
--- a one before it
 pub writes-present : (t : Table) (c c1 c2 : List ℕ) (i w m n x : ℕ) (o : Found) → o ≡ At x → m ≡ w → n ≡ w → c1 ≡ putField t c i m 1 → c2 ≡ putField t c1 i (n + 1) x → c2 ≡ putOption t c i w (optionOf o)
 unfolding putOption
 writes-present t c c1 c2 i w m n x o g e f h k =

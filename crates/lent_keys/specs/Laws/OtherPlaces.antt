@@ -23,13 +23,11 @@ use Rattle.lent_keys.specs.KeyRecords.{optionOf, keyWith, isOther}
 -- ---- the two ways through the test
 
 -- an absent number is not another
--- such a key names no such place
 pub other-none : (o : Found) (x : ℕ) → o ≡ Found.Nowhere → false ≡ isOther (optionOf o) x
 unfolding isOther
 other-none o x e = sym (ap (λ (f : Found). isOther (optionOf f) x) e)
 
 -- one that is there is compared
--- by its number
 pub other-some : (o : Found) (x y : ℕ) → o ≡ Found.At y → not (eqb y x) ≡ isOther (optionOf o) x
 unfolding isOther
 other-some o x y e = sym (ap (λ (f : Found). isOther (optionOf f) x) e)
@@ -43,7 +41,6 @@ Is none x = Unit {0}
 Is (some y) x = y ≡ x
 
 -- what holds of every head of a list, and of another, holds of what is read from it
--- past its end the other is read
 all-read : (P : Head → Type 0) (l : List Head) (d : Head) → All P l → P d → (n : ℕ) → P (getD l n d)
 all-read P [] d a p n = p
 all-read P (h ∷ hs) d a p zero = a .0
@@ -51,7 +48,6 @@ all-read P (h ∷ hs) d a p (suc n) = all-read P hs d (a .1) p n
 
 module _ (t : Table) (c : List ℕ) (i : ℕ) where
   -- a head whose key has its first place at word 1 and its second at word 6
-  -- where it has them
   abbrev Named : Head → Type 0
   Named h = (cs : List Place) → Is (effectKey (effectWith h cs) .from) (field t c i 1) × Is (effectKey (effectWith h cs) .into) (field t c i 6)
 
@@ -64,7 +60,6 @@ module _ (t : Table) (c : List ℕ) (i : ℕ) where
       (λ cs. (refl, tt)) (field t c i 0)
 
 -- a number that is another than x is not one that is x where it is there
--- so the two are not equal
 differs : (a o : Option ℕ) (x : ℕ) → Is o x → isOther a x ≡ true → eqOption a o ≡ false
 unfolding isOther eqOption
 differs none o x h e = absurd (false≢true e)
@@ -74,7 +69,6 @@ differs (some y) (some z) x h e = ap (eqb y) h ∙ not-true (eqb y x) e
 -- ---- keys with other places
 
 -- two keys with other destinations
--- the third of eight tests
 into-differs : (a b : EffectKey) → eqOption (a .into) (b .into) ≡ false → eqKey a b ≡ false
 unfolding eqKey
 into-differs a b h =
@@ -84,7 +78,6 @@ into-differs a b h =
     rest = eqb (a .kind) (b .kind) && (eqb (a .reason) (b .reason) && (eqOption (a .function) (b .function) && (eqb (a .identity) (b .identity) && eqList (a .captures) (b .captures))))
 
 -- two keys with other places, or sources
--- the second test
 from-differs : (a b : EffectKey) → eqOption (a .from) (b .from) ≡ false → eqKey a b ≡ false
 unfolding eqKey
 from-differs a b h = and-false (eqb (a .code) (b .code)) _ (ap (λ (q : Bool). q && rest) h)
@@ -94,7 +87,6 @@ from-differs a b h = and-false (eqb (a .code) (b .code)) _ (ap (λ (q : Bool). q
 
 module _ (t : Table) (c : List ℕ) (i : ℕ) (key : Key) (is : List ℕ) where
   -- another destination than the record's
-  -- the first way through the code
   pub other-into : (x : ℕ) (b : Bool) → x ≡ field t c i 6 → b ≡ isOther (optionOf (key .into)) x → b ≡ true → false ≡ eqKey (keyWith key is) (effectKey (effectIn t c i))
   unfolding keyWith effectIn
   other-into x b f e h =
@@ -102,7 +94,6 @@ module _ (t : Table) (c : List ℕ) (i : ℕ) (key : Key) (is : List ℕ) where
       (differs (optionOf (key .into)) (effectKey (effectWith (headIn t c i) (countedPlaces t c i 17)) .into) (field t c i 6) (named t c i (countedPlaces t c i 17) .1) (ap (isOther (optionOf (key .into))) (sym f) ∙ sym e ∙ h)))
 
   -- another place, or source
-  -- the second way
   pub other-from : (x : ℕ) (b : Bool) → x ≡ field t c i 1 → b ≡ isOther (optionOf (key .from)) x → b ≡ true → false ≡ eqKey (keyWith key is) (effectKey (effectIn t c i))
   unfolding keyWith effectIn
   other-from x b f e h =

@@ -21,48 +21,39 @@ module _ (a b : Key) where
   after6 = eqOption (optionOf (a .function)) (optionOf (b .function)) && eqb (a .identity) (b .identity)
 
   -- and after the kinds
-  -- one test more
   abbrev after5 : Bool
   after5 = eqb (a .reason) (b .reason) && after6
 
   -- and after the destinations
-  -- one test more
   abbrev after4 : Bool
   after4 = eqb (a .kind) (b .kind) && after5
 
   -- and after the sources
-  -- one test more
   abbrev after3 : Bool
   after3 = eqOption (optionOf (a .into)) (optionOf (b .into)) && after4
 
   -- and after the codes
-  -- one test more
   abbrev after2 : Bool
   after2 = eqOption (optionOf (a .from)) (optionOf (b .from)) && after3
 
   -- the codes are equal, and the rest answers
-  -- the first test
   past-code : (r : Bool) → a .code ≡ b .code → r ≡ after2 → r ≡ sameHead a b
   unfolding sameHead
   past-code r e h = pass (eqb (a .code) (b .code)) after2 r (eq-eqb (a .code) (b .code) e) h
 
   -- the sources are equal, and the rest answers
-  -- the second test
   past-from : (r x : Bool) → x ≡ eqOption (optionOf (a .from)) (optionOf (b .from)) → not x ≡ false → r ≡ after3 → r ≡ after2
   past-from r x e n h = pass (eqOption (optionOf (a .from)) (optionOf (b .from))) after3 r (sym e ∙ not-false x n) h
 
   -- the destinations are equal, and the rest answers
-  -- the third test
   past-into : (r x : Bool) → x ≡ eqOption (optionOf (a .into)) (optionOf (b .into)) → not x ≡ false → r ≡ after4 → r ≡ after3
   past-into r x e n h = pass (eqOption (optionOf (a .into)) (optionOf (b .into))) after4 r (sym e ∙ not-false x n) h
 
   -- the kinds are equal, and the rest answers
-  -- the fourth test
   past-kind : (r : Bool) → a .kind ≡ b .kind → r ≡ after5 → r ≡ after4
   past-kind r e h = pass (eqb (a .kind) (b .kind)) after5 r (eq-eqb (a .kind) (b .kind) e) h
 
   -- the reasons are equal, and the rest answers
-  -- the fifth test
   past-reason : (r : Bool) → a .reason ≡ b .reason → r ≡ after6 → r ≡ after5
   past-reason r e h = pass (eqb (a .reason) (b .reason)) after6 r (eq-eqb (a .reason) (b .reason) e) h
 
@@ -108,7 +99,6 @@ module _ (a b : Key) where
       (stop (eqOption (optionOf (a .function)) (optionOf (b .function))) (eqb (a .identity) (b .identity)) (sym e ∙ not-true z n))))))
 
   -- all but the last are equal
-  -- the identities decide
   pub same-identity : (x y z : Bool) → a .code ≡ b .code → x ≡ eqOption (optionOf (a .from)) (optionOf (b .from)) → not x ≡ false
       → y ≡ eqOption (optionOf (a .into)) (optionOf (b .into)) → not y ≡ false → a .kind ≡ b .kind → a .reason ≡ b .reason
       → z ≡ eqOption (optionOf (a .function)) (optionOf (b .function)) → not z ≡ false → eqb (a .identity) (b .identity) ≡ sameHead a b
@@ -118,7 +108,6 @@ module _ (a b : Key) where
       (pass (eqOption (optionOf (a .function)) (optionOf (b .function))) (eqb (a .identity) (b .identity)) (eqb (a .identity) (b .identity)) (sym e ∙ not-false z n) refl)))))
 
   -- two keys are equal where they are but for their captures, and the captures are
-  -- the code compares the captures last
   pub key-parts : (is js : List ℕ) → eqKey (keyWith a is) (keyWith b js) ≡ (sameHead a b && eqList (ite (a .captured) is []) (ite (b .captured) js []))
   unfolding eqKey keyWith sameHead
   key-parts is js =
@@ -135,11 +124,9 @@ module _ (a b : Key) where
       l = eqList (ite (a .captured) is []) (ite (b .captured) js [])
 
   -- keys that differ in more than their captures
-  -- the captures are not compared
   pub keys-differ : (is js : List ℕ) → sameHead a b ≡ false → false ≡ eqKey (keyWith a is) (keyWith b js)
   keys-differ is js h = stop (sameHead a b) (eqList (ite (a .captured) is []) (ite (b .captured) js [])) h ∙ sym (key-parts is js)
 
   -- keys that differ in their captures at most
-  -- the captures decide
   pub keys-captures : (is js : List ℕ) (r : Bool) → sameHead a b ≡ true → r ≡ eqList (ite (a .captured) is []) (ite (b .captured) js []) → r ≡ eqKey (keyWith a is) (keyWith b js)
   keys-captures is js r h e = pass (sameHead a b) (eqList (ite (a .captured) is []) (ite (b .captured) js [])) r h e ∙ sym (key-parts is js)

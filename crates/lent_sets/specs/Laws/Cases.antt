@@ -10,29 +10,24 @@ use Rattle.base_sets.specs.Members.{members, digitsFrom}
 use Rattle.lent_sets.specs.Rows.{bit, seek, upto, rowWord, setWord, number, rowNumber, wordOf, setAt, putWord, putRow, putSet, copySet, appendSet, member, nextMember, left, orWord, addSet}
 
 -- two rows, of which none is defined
--- where every case starts
 abbrev two : List ℕ
 two = replicate 32 0
 
 -- row 1 has the values 5 and 700
--- values of the first and of a later word
 abbrev one : List ℕ
 one = putSet two 1 (bitOr (2 ^ 5) (2 ^ 700))
 
 -- whether a set is there and is s
--- a test that antt computes
 abbrev is : Option ℕ → ℕ → Bool
 is none s = false
 is (some t) s = eqb t s
 
 -- whether no set is there
--- the other test
 abbrev not-there : Option ℕ → Bool
 not-there none = true
 not-there (some t) = false
 
 -- whether two lists of numbers are the same
--- for members and words
 abbrev same : List ℕ → List ℕ → Bool
 same [] [] = true
 same [] (y ∷ ys) = false

@@ -39,7 +39,6 @@ defined-is rs i w e =
 
 module _ (rs : List ℕ) (i v : ℕ) where
   -- what is left of v's word from v on
-  -- the code looks at just this
   abbrev rest : ℕ
   rest = rowWord rs i (v / 64) / 2 ^ (v % 64)
 

@@ -27,7 +27,6 @@ record-ends i n a h =
     omega arith
 
 -- the end of a record fits 64 bits, with room for a base of 32 bits
--- the code multiplies and adds without a test
 pub record-fits : (i n a : ℕ) → i < n → n < 4294967296 → a < 4294967296 → i * a + a ≤ 18446744065119617025
 record-fits i n a h m k =
     let x : n ≤ 4294967295 = omega arith in
@@ -49,7 +48,6 @@ same-record a i w j v p q e = sym (quotient i w p) ∙ ap (λ (x : ℕ). x / a) 
         omega arith
 
 -- and they are one word of it
--- the remainder tells the word
 same-word : (a i w j v : ℕ) → w < a → v < a → i * a + w ≡ j * a + v → w ≡ v
 same-word a i w j v p q e = sym (remainder i w p) ∙ ap (λ (x : ℕ). x % a) e ∙ remainder j v q
   where
@@ -77,31 +75,26 @@ or-either true b e = inl refl
 or-either false b e = inr e
 
 -- a word that the table has
--- the record and the word are below their bounds
 pub within-yes : (t : Table) (i w : ℕ) → i < t .count → w < t .width → within t i w ≡ true
 unfolding within
 within-yes t i w p q = and-true (ltb i (t .count)) (ltb w (t .width)) (lt-ltb i (t .count) p) (lt-ltb w (t .width) q)
 
 -- a record that the table does not have
--- the code returns at the first test
 pub within-no-record : (t : Table) (i w : ℕ) → t .count ≤ i → within t i w ≡ false
 unfolding within
 within-no-record t i w p = ap (λ (b : Bool). b && ltb w (t .width)) (le-ltb i (t .count) p)
 
 -- a word that no record of the table has
--- the code returns at the second test
 pub within-no-word : (t : Table) (i w : ℕ) → t .width ≤ w → within t i w ≡ false
 unfolding within
 within-no-word t i w p = and-false (ltb i (t .count)) (ltb w (t .width)) (le-ltb w (t .width) p)
 
 -- the record of a word that the table has
--- its number is below the count
 pub within-record : (t : Table) (i w : ℕ) → within t i w ≡ true → i < t .count
 unfolding within
 within-record t i w h = ltb-true i (t .count) (and-left (ltb i (t .count)) (ltb w (t .width)) h)
 
 -- the word of a record that the table has
--- it is below the width
 pub within-word : (t : Table) (i w : ℕ) → within t i w ≡ true → w < t .width
 unfolding within
 within-word t i w h = ltb-true w (t .width) (and-right (ltb i (t .count)) (ltb w (t .width)) h)
@@ -115,13 +108,11 @@ decided false = inr refl
 -- ---- where words stand
 
 -- no word of a table stands before it
--- a write into the table leaves what stands there
 pub index-begins : (t : Table) (i w : ℕ) → t .base ≤ index t i w
 unfolding index
 index-begins t i w = omega arith
 
 -- no word of a table stands at its end or after it
--- a write into the table leaves what stands there
 pub index-ends : (t : Table) (i w : ℕ) → within t i w ≡ true → index t i w < end t
 unfolding index end
 index-ends t i w h =
@@ -130,7 +121,6 @@ index-ends t i w h =
     omega arith
 
 -- words of a table at one place are in one record
--- a write into one record leaves the others
 pub index-record : (t : Table) (i w j v : ℕ) → within t i w ≡ true → within t j v ≡ true → index t i w ≡ index t j v → i ≡ j
 unfolding index
 index-record t i w j v p q e =
@@ -138,7 +128,6 @@ index-record t i w j v p q e =
     (let z : i * t .width + w ≡ j * t .width + v = omega arith in z)
 
 -- and they are one word of it
--- a write of one word leaves the others
 pub index-word : (t : Table) (i w j v : ℕ) → within t i w ≡ true → within t j v ≡ true → index t i w ≡ index t j v → w ≡ v
 unfolding index
 index-word t i w j v p q e =
@@ -148,31 +137,26 @@ index-word t i w j v p q e =
 -- ---- one word: read and written
 
 -- a word that the table has is the list's at its place
--- the code reads it there
 pub field-in : (t : Table) (c : List ℕ) (i w : ℕ) → within t i w ≡ true → field t c i w ≡ getD c (index t i w) 0
 unfolding field
 field-in t c i w h = ap (λ (b : Bool). ite b (getD c (index t i w) 0) 0) h
 
 -- a word that the table does not have is 0
--- the code returns it without a read
 pub field-out : (t : Table) (c : List ℕ) (i w : ℕ) → within t i w ≡ false → field t c i w ≡ 0
 unfolding field
 field-out t c i w h = ap (λ (b : Bool). ite b (getD c (index t i w) 0) 0) h
 
 -- a word that the table has is written at its place
--- the code writes it there
 pub put-in : (t : Table) (c : List ℕ) (i w x : ℕ) → within t i w ≡ true → putField t c i w x ≡ set c (index t i w) x
 unfolding putField
 put-in t c i w x h = ap (λ (b : Bool). ite b (set c (index t i w) x) c) h
 
 -- a word that the table does not have is not written
--- the code returns without a write
 pub put-out : (t : Table) (c : List ℕ) (i w x : ℕ) → within t i w ≡ false → putField t c i w x ≡ c
 unfolding putField
 put-out t c i w x h = ap (λ (b : Bool). ite b (set c (index t i w) x) c) h
 
 -- a write keeps the list's length
--- lent slices keep theirs
 pub put-length : (t : Table) (c : List ℕ) (i w x : ℕ) → length (putField t c i w x) ≡ length c
 put-length t c i w x =
     ⊎-elim
@@ -181,7 +165,6 @@ put-length t c i w x =
     (decided (within t i w))
 
 -- what was written is read, inside the table and the list
--- the record then says what the caller gave
 pub put-same : (t : Table) (c : List ℕ) (i w x : ℕ) → within t i w ≡ true → index t i w < length c → field t (putField t c i w x) i w ≡ x
 put-same t c i w x h l =
     field-in t (putField t c i w x) i w h
@@ -198,7 +181,6 @@ put-read t c i w x k n =
     (decided (within t i w))
 
 -- lists with the same number at a word's place have the same word
--- a place counts only where the table has the word
 pub field-cong : (u : Table) (c d : List ℕ) (j v : ℕ) → (within u j v ≡ true → getD d (index u j v) 0 ≡ getD c (index u j v) 0) → field u d j v ≡ field u c j v
 field-cong u c d j v n =
     ⊎-elim
@@ -209,14 +191,12 @@ field-cong u c d j v n =
 -- ---- the ways through the code
 
 -- the code's read: the base and the width as indices
--- it reads only after both tests
 pub reads-field : (t : Table) (c : List ℕ) (i w a b x : ℕ) → a ≡ t .base → b ≡ t .width → i < t .count → w < t .width → x ≡ getD c (a + i * b + w) 0 → x ≡ field t c i w
 unfolding index
 reads-field t c i w a b x p q h l e =
     e ∙ ap₂ (λ (m n : ℕ). getD c (m + i * n + w) 0) p q ∙ sym (field-in t c i w (within-yes t i w h l))
 
 -- the code's write: the base and the width as indices
--- it writes only after both tests
 pub writes-field : (t : Table) (c d : List ℕ) (i w x a b : ℕ) → a ≡ t .base → b ≡ t .width → i < t .count → w < t .width → d ≡ set c (a + i * b + w) x → d ≡ putField t c i w x
 unfolding index
 writes-field t c d i w x a b p q h l e =
@@ -225,7 +205,6 @@ writes-field t c d i w x a b p q h l e =
 -- ---- why places differ
 
 -- a place before a table or after it is no word of it
--- what a write into the table leaves
 outside-not : (t : Table) (k : ℕ) → (k < t .base) ⊎ (end t ≤ k) → (i w : ℕ) → within t i w ≡ true → index t i w ≡ k → ⊥
 outside-not t k o i w h e =
     let p : t .base ≤ index t i w = index-begins t i w in
@@ -233,7 +212,6 @@ outside-not t k o i w h e =
     ⊎-elim {C = ⊥} (λ l. omega arith) (λ l. omega arith) o
 
 -- a word of a table is no word of one that stands apart
--- several tables stand in one list
 apart-not : (t u : Table) → apart t u ≡ true → (j v : ℕ) → within u j v ≡ true → (i w : ℕ) → within t i w ≡ true → index t i w ≡ index u j v → ⊥
 unfolding apart
 apart-not t u a j v g =
@@ -246,21 +224,18 @@ apart-not t u a j v g =
     (or-either (leb (end t) (u .base)) (leb (end u) (t .base)) a))
 
 -- a word of a record is no word of another record
--- records follow one another
 record-not : (t : Table) (i j : ℕ) → (i ≡ j → ⊥) → (v : ℕ) → within t j v ≡ true → (w : ℕ) → within t i w ≡ true → index t i w ≡ index t j v → ⊥
 record-not t i j n v g w h e = n (index-record t i w j v h g e)
 
 -- ---- what a write of a word leaves
 
 -- every other word of the table
--- one word changes and no more
 pub put-other : (t : Table) (c : List ℕ) (i w x j v : ℕ) → ((i ≡ j) × (w ≡ v) → ⊥) → field t (putField t c i w x) j v ≡ field t c j v
 put-other t c i w x j v n =
     field-cong t c (putField t c i w x) j v
     (λ g. put-read t c i w x (index t j v) (λ h e. n (index-record t i w j v h g e, index-word t i w j v h g e)))
 
 -- every word of another record
--- a loop over records changes one at a time
 pub put-record : (t : Table) (c : List ℕ) (i w x j v : ℕ) → (i ≡ j → ⊥) → field t (putField t c i w x) j v ≡ field t c j v
 put-record t c i w x j v n = put-other t c i w x j v (λ e. n (e .0))
 
@@ -272,12 +247,10 @@ put-apart t u c i w x j v a =
     (λ g. put-read t c i w x (index u j v) (apart-not t u a j v g i w))
 
 -- every place of the list before the table or after it
--- counts and other words stand there
 pub put-outside : (t : Table) (c : List ℕ) (i w x k : ℕ) → (k < t .base) ⊎ (end t ≤ k) → getD (putField t c i w x) k 0 ≡ getD c k 0
 put-outside t c i w x k o = put-read t c i w x k (outside-not t k o i w)
 
 -- a write of the list before a table or after it leaves each of the table's words
--- a count that stands there changes without them
 pub set-outside : (u : Table) (c : List ℕ) (k x j v : ℕ) → (k < u .base) ⊎ (end u ≤ k) → field u (set c k x) j v ≡ field u c j v
 set-outside u c k x j v o =
     field-cong u c (set c k x) j v
@@ -286,7 +259,6 @@ set-outside u c k x j v o =
 -- ---- places
 
 -- a write of a place leaves each place of the list that is no word of its record
--- five writes of a word
 pub place-read : (t : Table) (c : List ℕ) (i w : ℕ) (p : Place) (k : ℕ) → ((v : ℕ) → within t i v ≡ true → index t i v ≡ k → ⊥) → getD (putPlace t c i w p) k 0 ≡ getD c k 0
 unfolding putPlace
 place-read t c i w p k n =
@@ -297,14 +269,12 @@ place-read t c i w p k n =
     ∙ put-read t c i w (p .identifier) k (n w)
 
 -- the same of a run of places
--- one after the other
 pub places-read : (t : Table) (c : List ℕ) (i w k : ℕ) (ps : List Place) (m : ℕ) → ((v : ℕ) → within t i v ≡ true → index t i v ≡ m → ⊥) → getD (putPlaces t c i w k ps) m 0 ≡ getD c m 0
 unfolding putPlaces
 places-read t c i w k [] m n = refl
 places-read t c i w k (p ∷ ps) m n = places-read t (putPlace t c i (w + k * 5) p) i w (suc k) ps m n ∙ place-read t c i (w + k * 5) p m n
 
 -- a write of a place keeps the list's length
--- lent slices keep theirs
 pub place-length : (t : Table) (c : List ℕ) (i w : ℕ) (p : Place) → length (putPlace t c i w p) ≡ length c
 unfolding putPlace
 place-length t c i w p =
@@ -315,52 +285,44 @@ place-length t c i w p =
     ∙ put-length t c i w (p .identifier)
 
 -- and so does a write of a run of places
--- one after the other
 pub places-length : (t : Table) (c : List ℕ) (i w k : ℕ) (ps : List Place) → length (putPlaces t c i w k ps) ≡ length c
 unfolding putPlaces
 places-length t c i w k [] = refl
 places-length t c i w k (p ∷ ps) = places-length t (putPlace t c i (w + k * 5) p) i w (suc k) ps ∙ place-length t c i (w + k * 5) p
 
 -- a write of a place leaves every word of a table that stands apart
--- as a write of a word does
 pub place-apart : (t u : Table) (c : List ℕ) (i w : ℕ) (p : Place) (j v : ℕ) → apart t u ≡ true → field u (putPlace t c i w p) j v ≡ field u c j v
 place-apart t u c i w p j v a =
     field-cong u c (putPlace t c i w p) j v
     (λ g. place-read t c i w p (index u j v) (apart-not t u a j v g i))
 
 -- and so does a write of a run of places
--- one after the other
 pub places-apart : (t u : Table) (c : List ℕ) (i w k : ℕ) (ps : List Place) (j v : ℕ) → apart t u ≡ true → field u (putPlaces t c i w k ps) j v ≡ field u c j v
 places-apart t u c i w k ps j v a =
     field-cong u c (putPlaces t c i w k ps) j v
     (λ g. places-read t c i w k ps (index u j v) (apart-not t u a j v g i))
 
 -- a write of a place leaves every place of the list before the table or after it
--- counts and other words stand there
 pub place-outside : (t : Table) (c : List ℕ) (i w : ℕ) (p : Place) (k : ℕ) → (k < t .base) ⊎ (end t ≤ k) → getD (putPlace t c i w p) k 0 ≡ getD c k 0
 place-outside t c i w p k o = place-read t c i w p k (outside-not t k o i)
 
 -- and so does a write of a run of places
--- one after the other
 pub places-outside : (t : Table) (c : List ℕ) (i w k : ℕ) (ps : List Place) (m : ℕ) → (m < t .base) ⊎ (end t ≤ m) → getD (putPlaces t c i w k ps) m 0 ≡ getD c m 0
 places-outside t c i w k ps m o = places-read t c i w k ps m (outside-not t m o i)
 
 -- a write of a place leaves every word of another record
--- as a write of a word does
 pub place-record : (t : Table) (c : List ℕ) (i w : ℕ) (p : Place) (j v : ℕ) → (i ≡ j → ⊥) → field t (putPlace t c i w p) j v ≡ field t c j v
 place-record t c i w p j v n =
     field-cong t c (putPlace t c i w p) j v
     (λ g. place-read t c i w p (index t j v) (record-not t i j n v g))
 
 -- and so does a write of a run of places
--- one after the other
 pub places-record : (t : Table) (c : List ℕ) (i w k : ℕ) (ps : List Place) (j v : ℕ) → (i ≡ j → ⊥) → field t (putPlaces t c i w k ps) j v ≡ field t c j v
 places-record t c i w k ps j v n =
     field-cong t c (putPlaces t c i w k ps) j v
     (λ g. places-read t c i w k ps (index t j v) (record-not t i j n v g))
 
 -- a place of five given words
--- the code makes it of the words that it read
 pub place-of : (t : Table) (c : List ℕ) (i w a b d e f : ℕ)
     → a ≡ field t c i w → b ≡ field t c i (w + 1) → d ≡ field t c i (w + 2) → e ≡ field t c i (w + 3) → f ≡ field t c i (w + 4)
     → _≡_ {A = Place} (record { identifier = a; effect = b; reactive = d; span = record { start = e; end = f } }) (placeIn t c i w)
@@ -385,13 +347,11 @@ unfolding putPlace
 writes-place t c c1 c2 c3 c4 c5 i first k p m n x y e1 e2 e3 e4 e5 = cc
 
 -- lists with the same words in a record have the same place there
--- with laws of what a write leaves
 pub place-cong : (t : Table) (c d : List ℕ) (i w : ℕ) → ((v : ℕ) → field t d i v ≡ field t c i v) → placeIn t d i w ≡ placeIn t c i w
 unfolding placeIn
 place-cong t c d i w h = place-of t c i w _ _ _ _ _ (h w) (h (w + 1)) (h (w + 2)) (h (w + 3)) (h (w + 4))
 
 -- and the same run of places
--- one after the other
 pub places-cong : (t : Table) (c d : List ℕ) (i w k n : ℕ) → ((v : ℕ) → field t d i v ≡ field t c i v) → placesIn t d i w k n ≡ placesIn t c i w k n
 unfolding placesIn
 places-cong t c d i w k zero h = refl
@@ -400,7 +360,6 @@ places-cong t c d i w k (suc n) h = ap₂ (λ (p : Place) (ps : List Place). p �
 -- ---- loops over a run of places
 
 -- a run that is not done begins with its place k
--- a loop reads it and counts on
 pub places-more : (t : Table) (c : List ℕ) (i w k n : ℕ) → k < n → placesIn t c i w k (n - k) ≡ placeIn t c i (w + k * 5) ∷ placesIn t c i w (k + 1) (n - (k + 1))
 unfolding placesIn
 places-more t c i w k n h =
@@ -410,7 +369,6 @@ places-more t c i w k n h =
     ∙ ap (λ (m : ℕ). placeIn t c i (w + k * 5) ∷ placesIn t c i w m (n - (k + 1))) q
 
 -- a run that is done has no place left
--- the loop ends
 pub places-none : (t : Table) (c : List ℕ) (i w k n : ℕ) → n ≤ k → placesIn t c i w k (n - k) ≡ []
 unfolding placesIn
 places-none t c i w k n h =
@@ -427,7 +385,6 @@ inside t c i w h l =
     omega arith
 
 -- a write of a word leaves the other words of its record
--- words of one place are told by their numbers
 put-beside : (t : Table) (c : List ℕ) (i w x v : ℕ) → (w ≡ v → ⊥) → field t (putField t c i w x) i v ≡ field t c i v
 put-beside t c i w x v n = put-other t c i w x i v (λ e. n (e .1))
 

@@ -11,7 +11,6 @@ use Rattle.lent_work.specs.Marks.{isMarked, marked}
 
 module _ (m : Marks) (i : ℕ) where
   -- an identifier past the last has no mark
-  -- the first way through both functions
   pub unmarked-past : 512 ≤ i → false ≡ isMarked m i
   unfolding isMarked
   unmarked-past h = sym (ite-ge i 512 _ _ h)
@@ -21,7 +20,6 @@ module _ (m : Marks) (i : ℕ) where
   marked-past h = sym (ite-ge i 512 _ _ h)
 
   -- the word that holds its bit
-  -- the second way
   pub marked-in : (w : ℕ) → i < 512 → w ≡ i / 64 → eqb (getD (m .words) w 0 / 2 ^ (i % 64) % 2) 1 ≡ isMarked m i
   unfolding isMarked
   marked-in w h e = ap (λ (x : ℕ). eqb (getD (m .words) x 0 / 2 ^ (i % 64) % 2) 1) e ∙ sym (ite-lt i 512 _ _ h)

@@ -32,30 +32,25 @@ use Rattle.lent_keys.specs.Laws.KeyFrames.{option-cong, key-cong, key-apart, ke
 -- ---- the tables that lead somewhere
 
 -- a table has the same words in both lists
--- what a change leaves
 abbrev pub Same : Table → List ℕ → List ℕ → Type 0
 Same u c d = (j v : ℕ) → field u d j v ≡ field u c j v
 
 -- with the same words for them, cached keys are the same
--- a key is a record of words
 pub keys-same : (c d : List ℕ) → Same Layout.cached c d → (n : ℕ) → keyAt d n ≡ keyAt c n
 unfolding keyAt
 keys-same c d h n = key-cong Layout.cached c d n (h n)
 
 -- and so are links
--- a link is two words
 pub links-same : (c d : List ℕ) → Same Layout.links c d → (v : ℕ) → linkOf d v ≡ linkOf c v
 unfolding linkOf
 links-same c d h v = option-cong Layout.links c d v 0 (h v)
 
 -- and the context places of functions
--- their count stands with the function
 pub contexts-same : (c d : List ℕ) → Same Layout.contexts c d → Same Layout.functions c d → (f : ℕ) → contextOf d f ≡ contextOf c f
 unfolding contextOf
 contexts-same c d h g f = places-cong Layout.contexts c d f 0 0 (field Layout.functions d f 1) (h f) ∙ ap (placesIn Layout.contexts c f 0 0) (g f 1)
 
 -- a context with the same words in these four tables leads nowhere else
--- what adds an effect or a diagnostic is so
 pub same-links : (c d : List ℕ) → Same Layout.cached c d → Same Layout.links c d → Same Layout.contexts c d → Same Layout.functions c d → SameLinks lent c d
 same-links c d p q r s = record {
   keys = λ n k e. sym (keys-same c d p n) ∙ e;
@@ -72,7 +67,6 @@ unfolding findEffect
 effect-found c k e h = found-key (effectsIn Layout.interned c 0 (internedCount c)) k e h
 
 -- an effect added leaves every table that stands apart and has no count in it
--- it is a record of its own table, and a count
 effect-leaves : (u : Table) (c : List ℕ) (e : AliasingEffect) → apart Layout.interned u ≡ true → (Layout.internedCount < u .base) ⊎ (end u ≤ Layout.internedCount) → Same u c (addEffect c e)
 unfolding addEffect
 effect-leaves u c e a o j v =
@@ -93,13 +87,11 @@ effect-same c e =
 -- ---- diagnostics
 
 -- what each write of a word of record k keeps, a write of a diagnostic keeps
--- nine words, one after the other
 pub diagnostic-keeps : (k : ℕ) (P : List ℕ → Type 0) → ((d : List ℕ) (w x : ℕ) → P d → P (putField Layout.diagnostics d k w x)) → (c : List ℕ) (n : ℕ) (d : Diagnostic) → P c → P (putDiagnostic c k n d)
 unfolding putDiagnostic
 diagnostic-keeps k P s c n d h = s _ _ _ (s _ _ _ (s _ _ _ (s _ _ _ (s _ _ _ (s _ _ _ (s _ _ _ (s _ _ _ (s _ _ _ h))))))))
 
 -- a diagnostic added leaves every table that stands apart and has no count in it
--- it is a record of its own table, and a count
 diagnostic-leaves : (u : Table) (c : List ℕ) (n : ℕ) (d : Diagnostic) → apart Layout.diagnostics u ≡ true → (Layout.diagnosticCount < u .base) ⊎ (end u ≤ Layout.diagnosticCount) → Same u c (addDiagnostic c n d)
 unfolding addDiagnostic
 diagnostic-leaves u c n d a o j v =
@@ -120,7 +112,6 @@ diagnostic-same c n d =
 -- ---- context places made Read
 
 -- what each write of a place's effect keeps, making places Read keeps
--- of each place one word is written at most
 module _ (f i : ℕ) (P : List ℕ → Type 0) (s : (d : List ℕ) (k x : ℕ) → P d → P (putField Layout.contexts d f (k * 5 + 1) x)) where
   read-place : (k : ℕ) (c : List ℕ) → P c → P (readPlace f i k c)
   unfolding readPlace
@@ -136,13 +127,11 @@ module _ (f i : ℕ) (P : List ℕ → Type 0) (s : (d : List ℕ) (k x : ℕ) �
   read-places k (suc n) c h = read-places (suc k) n (readPlace f i k c) (read-place k c h)
 
   -- all the places of a function
-  -- as many as the function has
   pub read-keeps : (c : List ℕ) → P c → P (makeRead c f i)
   unfolding makeRead
   read-keeps c h = read-places 0 (field Layout.functions c f 1) c h
 
 -- they leave every table that stands apart
--- they are words of the context places
 pub read-leaves : (u : Table) (c : List ℕ) (f i : ℕ) → apart Layout.contexts u ≡ true → Same u c (makeRead c f i)
 read-leaves u c f i a j v =
     read-keeps f i (λ (d : List ℕ). field u d j v ≡ field u c j v) (λ d k x h. put-apart Layout.contexts u d f (k * 5 + 1) x j v a ∙ h) c refl
@@ -155,7 +144,6 @@ read-identifier c f i g k =
     (λ d m x h. put-other Layout.contexts d f (m * 5 + 1) x g (0 + k * 5) (λ e. let z : m * 5 + 1 ≡ 0 + k * 5 = e .1 in omega arith) ∙ h) c refl
 
 -- places with the same identifiers in their words have the same identifiers
--- one after the other
 run-identifiers : (t : Table) (c d : List ℕ) (i w k n : ℕ) → ((m : ℕ) → field t d i (w + m * 5) ≡ field t c i (w + m * 5)) → identifiers (placesIn t d i w k n) ≡ identifiers (placesIn t c i w k n)
 unfolding placesIn placeIn
 run-identifiers t c d i w k zero h = refl
@@ -170,7 +158,6 @@ read-contexts c f i g =
     ∙ ap (λ (n : ℕ). identifiers (placesIn Layout.contexts c g 0 0 n)) (read-leaves Layout.functions c f i refl g 1)
 
 -- context places made Read lead nowhere new
--- the identifiers stay
 pub read-same : (c : List ℕ) (f i : ℕ) → SameLinks lent c (makeRead c f i)
 unfolding apart end
 read-same c f i = record {
@@ -188,26 +175,22 @@ unfolding findNumber
 number-found c k n h = found-number 511 1 (keyAt c) k n h
 
 -- a key written leaves every table that stands apart
--- it is a record of its own table
 pub key-leaves : (u : Table) (c : List ℕ) (n : ℕ) (k : EffectKey) → apart Layout.cached u ≡ true → Same u c (putKey c n k)
 unfolding putKey
 key-leaves u c n k a j v = key-apart Layout.cached u c n k j v a
 
 -- a key written leaves the other keys
--- each has a record of its own
 pub key-put : (c : List ℕ) (n m : ℕ) (k j : EffectKey) → keyAt (putKey c n k) m ≡ some j → (n ≡ m) ⊎ (keyAt c m ≡ some j)
 unfolding keyAt putKey
 key-put c n m k j e =
     ⊎-elim inl (λ d. inr (sym (key-cong Layout.cached c (Keys.putKey Layout.cached c n k) m (λ v. key-record Layout.cached c n k m v d)) ∙ e)) (same-or-not n m)
 
 -- and it leaves the links
--- a table of their own
 pub key-links : (c : List ℕ) (n : ℕ) (k : EffectKey) (v f : ℕ) → linkOf (putKey c n k) v ≡ some f → linkOf c v ≡ some f
 unfolding apart end
 key-links c n k v f e = sym (links-same c (putKey c n k) (key-leaves Layout.links c n k refl) v) ∙ e
 
 -- and the context places
--- two tables of their own
 pub key-contexts : (c : List ℕ) (n : ℕ) (k : EffectKey) (g : ℕ) → identifiers (contextOf (putKey c n k) g) ≡ identifiers (contextOf c g)
 unfolding apart end
 key-contexts c n k g = ap identifiers (contexts-same c (putKey c n k) (key-leaves Layout.contexts c n k refl) (key-leaves Layout.functions c n k refl) g)
@@ -215,25 +198,21 @@ key-contexts c n k g = ap identifiers (contexts-same c (putKey c n k) (key-leave
 -- ---- function links
 
 -- a link written leaves every table that stands apart
--- it is a record of its own table
 pub link-leaves : (u : Table) (c : List ℕ) (v f : ℕ) → apart Layout.links u ≡ true → Same u c (putLink c v f)
 unfolding putLink
 link-leaves u c v f a j w = option-apart Layout.links u c v 0 (some f) j w a
 
 -- and it leaves the keys
--- a table of their own
 pub link-keys : (c : List ℕ) (v f n : ℕ) (k : EffectKey) → keyAt (putLink c v f) n ≡ some k → keyAt c n ≡ some k
 unfolding apart end
 link-keys c v f n k e = sym (keys-same c (putLink c v f) (link-leaves Layout.cached c v f refl) n) ∙ e
 
 -- and the context places
--- two tables of their own
 pub link-contexts : (c : List ℕ) (v f g : ℕ) → identifiers (contextOf (putLink c v f) g) ≡ identifiers (contextOf c g)
 unfolding apart end
 link-contexts c v f g = ap identifiers (contexts-same c (putLink c v f) (link-leaves Layout.contexts c v f refl) (link-leaves Layout.functions c v f refl) g)
 
 -- a link written leaves the other links
--- each has a record of its own
 link-other : (c : List ℕ) (v f x : ℕ) → (v ≡ x → ⊥) → linkOf (putLink c v f) x ≡ linkOf c x
 unfolding linkOf putLink
 link-other c v f x d = option-cong Layout.links c (putOption Layout.links c v 0 (some f)) x 0 (λ w. option-record Layout.links c v 0 (some f) x w d)
@@ -261,7 +240,6 @@ link-same c v f h l =
     ap₂ (λ (x y : ℕ). ite (eqb x 0) none (some y)) p q
 
 -- what a link leads to after one is written: the function of that, or what it led to before
--- of lists that hold the whole table
 pub link-put : (c : List ℕ) (v f x g : ℕ) → end Layout.links ≤ length c → linkOf (putLink c v f) x ≡ some g → (f ≡ g) ⊎ (linkOf c x ≡ some g)
 link-put c v f x g l e = ⊎-elim same (λ d. inr (sym (link-other c v f x d) ∙ e)) (same-or-not v x)
   where

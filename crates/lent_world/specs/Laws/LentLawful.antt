@@ -46,12 +46,10 @@ pub record KeptFrom (c₀ c : List ℕ) : Type 0 where
   pub after : (k : ℕ) → 35269 + internedCount c * 98 ≤ k → getD c k 0 ≡ getD c₀ k 0
 
 -- every context is made of itself
--- before the first instruction
 pub kept-start : (c : List ℕ) → KeptFrom c c
 kept-start c = record { long = refl; grown = omega arith; fixed = λ k f. refl; after = λ k l. refl }
 
 -- what keeps every place but those from the count of diagnostics to the interned effects keeps all this
--- four of the five changes write only there
 kept-apart : (c₀ c d : List ℕ) → length d ≡ length c → ((k : ℕ) → (k < 12484) ⊎ (35269 ≤ k) → getD d k 0 ≡ getD c k 0) → KeptFrom c₀ c → KeptFrom c₀ d
 unfolding internedCount
 kept-apart c₀ c d l h p = record {
@@ -64,7 +62,6 @@ kept-apart c₀ c d l h p = record {
 -- ---- the five changes
 
 -- an effect added is a record after those interned already, and the count is one more
--- past the end of the list neither is written
 pub effect-kept : (c₀ c : List ℕ) (e : AliasingEffect) → KeptFrom c₀ c → KeptFrom c₀ (addEffect c e)
 unfolding addEffect internedCount end index
 effect-kept c₀ c e p = record {
@@ -138,7 +135,6 @@ diagnostic-kept c₀ c n d p = kept-apart c₀ c (set b 12484 (m + 1)) (length-s
     rest k o = getD-set-other b 12484 k (m + 1) 0 (other k o) ∙ word k (outside 32965 35269 k (omega arith) (omega arith) o)
 
 -- context places made Read are words of their table
--- it stands between
 pub read-kept : (c₀ c : List ℕ) (f i : ℕ) → KeptFrom c₀ c → KeptFrom c₀ (makeRead c f i)
 unfolding end
 read-kept c₀ c f i p =
@@ -147,7 +143,6 @@ read-kept c₀ c f i p =
     (λ k o. read-keeps f i (λ (d : List ℕ). getD d k 0 ≡ getD c k 0) (λ d m x h. put-outside Layout.contexts d f (m * 5 + 1) x k (outside 12485 17605 k (omega arith) (omega arith) o) ∙ h) c refl) p
 
 -- a key written is a record of its table
--- it stands between
 pub key-kept : (c₀ c : List ℕ) (n : ℕ) (k : EffectKey) → KeptFrom c₀ c → KeptFrom c₀ (putKey c n k)
 unfolding putKey end
 key-kept c₀ c n k p =
@@ -155,7 +150,6 @@ key-kept c₀ c n k p =
     (λ m o. key-outside Layout.cached c n k m (outside 18629 32965 m (omega arith) (omega arith) o)) p
 
 -- a link written is a record of its table
--- it stands between
 pub link-kept : (c₀ c : List ℕ) (v f : ℕ) → KeptFrom c₀ c → KeptFrom c₀ (putLink c v f)
 unfolding putLink end
 link-kept c₀ c v f p =
@@ -215,7 +209,6 @@ lent-isolation n ins w u p q e c a =
     (record { values = p .values; sets = p .sets }) (record { values = q .values; sets = q .sets }) (kept-start (w .rest .context)) a
 
 -- refused with 6 to 11, or not at all
--- the depth of derivation never runs out
 abbrev pub InRange : Res (World lent) Done → Type 0
 InRange (ok a w) = Unit {0}
 InRange (refused m w) = lib.Dec.T (ltb 5 m && ltb m 12)
@@ -227,7 +220,6 @@ after (ok a w) = w
 after (refused m w) = w
 
 -- what the run of an instruction ends with: refused with 6 to 11 or not at all, lists of the same lengths, and a context made of the one it began with
--- of n identifiers
 pub record LentEnded (n : ℕ) (c₀ : List ℕ) (x : Res (World lent) Done) : Type 0 where
   pub range : InRange x
   pub values : length (after x .state .values) ≡ 1024
@@ -235,7 +227,6 @@ pub record LentEnded (n : ℕ) (c₀ : List ℕ) (x : Res (World lent) Done) : T
   pub kept : KeptFrom c₀ (after x .rest .context)
 
 -- so ends every instruction, from every world of lent lists
--- whatever these hold
 pub lent-ends : (n : ℕ) (ins : Instruction) (w : World lent) → Sized n w → LentEnded n (w .rest .context) (run ins w)
 unfolding lent-lawful
 lent-ends n ins w p = go (run ins w) (run-ends (lent-lawful n (w .rest .context) (p .context)) ins w (record { values = p .values; sets = p .sets }) (kept-start (w .rest .context)))

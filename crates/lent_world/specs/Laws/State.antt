@@ -25,7 +25,6 @@ abbrev pub FitValues : List ℕ → Type 0
 FitValues t = length t ≡ 1024
 
 -- a write keeps it
--- lent slices keep their length
 pub fit-value : (t : List ℕ) (v : ℕ) (a : AbstractValue) → FitValues t → FitValues (putValue t v a)
 fit-value t v a h = CellLaws.put-length t v a ∙ h
 
@@ -36,13 +35,11 @@ unfolding valueAt putValue
 value-in t v a l = ap cellOf (getD-set-same t v (wordOf a) 0 l)
 
 -- past the end a write does nothing
--- the list has no such word
 value-past : (t : List ℕ) (v : ℕ) (a : AbstractValue) → length t ≤ v → putValue t v a ≡ t
 unfolding putValue
 value-past t v a l = set-out t v (wordOf a) l
 
 -- a write leaves the other values
--- each has a word of its own
 pub value-other : (t : List ℕ) (v : ℕ) (a : AbstractValue) (x : ℕ) → ¬ (v ≡ x) → valueAt (putValue t v a) x ≡ valueAt t x
 value-other t v a x h = CellLaws.value-other t v a x h
 
@@ -63,12 +60,10 @@ value-cong t u v a x f g e = ⊎-elim same (λ d. value-other t v a x d ∙ e �
 -- ---- sets
 
 -- a row for each of n identifiers
--- sixteen words each
 abbrev pub FitSets : ℕ → List ℕ → Type 0
 FitSets n t = length t ≡ 16 * n
 
 -- a write keeps it
--- lent slices keep their length
 pub fit-set : (n : ℕ) (t : List ℕ) (i s : ℕ) → FitSets n t → FitSets n (putSet t i s)
 fit-set n t i s h = RowLaws.fit-set n t i s h
 
@@ -78,7 +73,6 @@ pub set-cong : (n : ℕ) (t u : List ℕ) (i s j : ℕ) → FitSets n t → FitS
 set-cong n t u i s j f g e = RowLaws.set-cong n t u i s j f g e
 
 -- a write leaves the other rows
--- each has words of its own
 pub set-other : (t : List ℕ) (i s j : ℕ) → ¬ (i ≡ j) → setAt (putSet t i s) j ≡ setAt t j
 set-other t i s j h = RowLaws.set-other t i s j h
 

@@ -25,44 +25,37 @@ use Rattle.refuse_instruction.specs.Laws.Use.{only, only-kind, only-muta
 
 module _ (functions diagnostics code w u : ℕ) (o : Option ℕ) where
   -- the kind
-  -- one of six
   pub middle-kind : w ≡ 0 → u ≡ only 9 code → o ≡ usedIf u (some 6) → o ≡ middleLimit functions diagnostics code w
   unfolding middleLimit
   middle-kind e h q = q ∙ ap (λ (a : ℕ). usedIf a (some 6)) (h ∙ only-kind code) ∙ sym (ap (middleLimit functions diagnostics code) e)
 
   -- the reason
-  -- one of twelve
   pub middle-reason : w ≡ 1 → u ≡ uses code 3 → o ≡ usedIf u (some 12) → o ≡ middleLimit functions diagnostics code w
   unfolding middleLimit
   middle-reason e h q = q ∙ ap (λ (a : ℕ). usedIf a (some 12)) h ∙ sym (ap (middleLimit functions diagnostics code) e)
 
   -- the mutation reason
-  -- none or one
   pub middle-mutation : w ≡ 2 → u ≡ only 1 code → o ≡ usedIf u (some 2) → o ≡ middleLimit functions diagnostics code w
   unfolding middleLimit
   middle-mutation e h q = q ∙ ap (λ (a : ℕ). usedIf a (some 2)) (h ∙ only-mutation code) ∙ sym (ap (middleLimit functions diagnostics code) e)
 
   -- the function
-  -- below their number
   pub middle-function : w ≡ 3 → u ≡ only 13 code → o ≡ usedIf u (limitOf (functions + 1)) → o ≡ middleLimit functions diagnostics code w
   unfolding middleLimit
   middle-function e h q =
       q ∙ ap₂ (λ (a b : ℕ). usedIf a (limitOf b)) (h ∙ only-function code) (add-one functions) ∙ sym (ap (middleLimit functions diagnostics code) e)
 
   -- the identity of a diagnostic
-  -- there are no more than records
   pub middle-identity : w ≡ 4 → u ≡ uses code 6 → o ≡ usedIf u (some 256) → o ≡ middleLimit functions diagnostics code w
   unfolding middleLimit
   middle-identity e h q = q ∙ ap (λ (a : ℕ). usedIf a (some 256)) h ∙ sym (ap (middleLimit functions diagnostics code) e)
 
   -- the instance of a diagnostic
-  -- below their number
   pub middle-instance : w ≡ 5 → u ≡ uses code 6 → o ≡ usedIf u (limitOf (diagnostics + 1)) → o ≡ middleLimit functions diagnostics code w
   unfolding middleLimit
   middle-instance e h q = q ∙ ap₂ (λ (a b : ℕ). usedIf a (limitOf b)) h (add-one diagnostics) ∙ sym (ap (middleLimit functions diagnostics code) e)
 
   -- the count of captures
-  -- tested apart
   pub middle-count : w ≡ 6 → u ≡ only 13 code → o ≡ usedIf u any → o ≡ middleLimit functions diagnostics code w
   unfolding middleLimit
   middle-count e h q = q ∙ ap (λ (a : ℕ). usedIf a any) (h ∙ only-captures code) ∙ sym (ap (middleLimit functions diagnostics code) e)
@@ -78,7 +71,6 @@ from-seven : (w : ℕ) → 4 ≤ w → (w ≡ 4 → ⊥) → (w ≡ 5 → ⊥) �
 from-seven w l a b c = omega arith
 
 -- there are seven such words
--- nothing stands after them
 pub middle-past : (functions diagnostics code w : ℕ) → (w ≡ 0 → ⊥) → (w ≡ 1 → ⊥) → (w ≡ 2 → ⊥) → (w ≡ 3 → ⊥) → (w ≡ 4 → ⊥) → (w ≡ 5 → ⊥) → (w ≡ 6 → ⊥) → none ≡ middleLimit functions diagnostics code w
 unfolding middleLimit
 middle-past functions diagnostics code w a0 a1 a2 a3 a4 a5 a6 =
@@ -89,17 +81,14 @@ middle-past functions diagnostics code w a0 a1 a2 a3 a4 a5 a6 =
 
 module _ (identifiers functions diagnostics code n w : ℕ) where
   -- what is left of the tests after the first place
-  -- each way ends in one of them
   abbrev afterPlace : Option ℕ
   afterPlace = ite (ltb w 11) (usedIf (uses code 1) (placeLimit identifiers (w - 6))) (middleLimit functions diagnostics code (w - 11))
 
   -- what is left of the tests after the code
-  -- one test more
   abbrev afterCode : Option ℕ
   afterCode = ite (ltb w 6) (usedIf (uses code 0) (placeLimit identifiers (w - 1))) afterPlace
 
   -- the captures
-  -- the first way through the code
   pub limit-captures : (u : ℕ) (p o : Option ℕ) → 18 ≤ w → u ≡ only 13 code → p ≡ runLimit identifiers n (w - 18) → o ≡ usedIf u p → o ≡ effectLimit identifiers functions diagnostics code n w
   unfolding effectLimit
   limit-captures u p o l h g q =
@@ -107,24 +96,20 @@ module _ (identifiers functions diagnostics code n w : ℕ) where
       ∙ sym (ite-ge w 18 (ite (eqb w 0) (some 18) afterCode) (usedIf (uses code 7) (runLimit identifiers n (w - 18))) l)
 
   -- the code
-  -- the second way
   pub limit-code : w ≡ 0 → some 18 ≡ effectLimit identifiers functions diagnostics code n w
   unfolding effectLimit
   limit-code e = sym (ap (effectLimit identifiers functions diagnostics code n) e)
 
   -- a word after the code and before the captures
-  -- what the other ways have in common
   behind : w < 18 → (w ≡ 0 → ⊥) → afterCode ≡ effectLimit identifiers functions diagnostics code n w
   unfolding effectLimit
   behind l z = sym (ite-lt w 18 (ite (eqb w 0) (some 18) afterCode) (usedIf (uses code 7) (runLimit identifiers n (w - 18))) l ∙ ite-ne w 0 (some 18) afterCode z)
 
   -- the place, or the source
-  -- the third way
   pub limit-place : (u : ℕ) (p o : Option ℕ) → w < 18 → (w ≡ 0 → ⊥) → w < 6 → u ≡ uses code 0 → p ≡ placeLimit identifiers (w - 1) → o ≡ usedIf u p → o ≡ effectLimit identifiers functions diagnostics code n w
   limit-place u p o l z k h g q = q ∙ ap₂ usedIf h g ∙ sym (ite-lt w 6 (usedIf (uses code 0) (placeLimit identifiers (w - 1))) afterPlace k) ∙ behind l z
 
   -- the destination
-  -- the fourth way
   pub limit-destination : (u : ℕ) (p o : Option ℕ) → w < 18 → (w ≡ 0 → ⊥) → 6 ≤ w → w < 11 → u ≡ uses code 1 → p ≡ placeLimit identifiers (w - 6) → o ≡ usedIf u p → o ≡ effectLimit identifiers functions diagnostics code n w
   limit-destination u p o l z j k h g q =
       q ∙ ap₂ usedIf h g
@@ -132,7 +117,6 @@ module _ (identifiers functions diagnostics code n w : ℕ) where
       ∙ behind l z
 
   -- what stands between the places and the captures
-  -- the last way
   pub limit-middle : (o : Option ℕ) → w < 18 → (w ≡ 0 → ⊥) → 6 ≤ w → 11 ≤ w → o ≡ middleLimit functions diagnostics code (w - 11) → o ≡ effectLimit identifiers functions diagnostics code n w
   limit-middle o l z j k q =
       q
@@ -143,25 +127,21 @@ module _ (identifiers functions diagnostics code n w : ℕ) where
 
 module _ (code n : ℕ) where
   -- a code that is not the one is told by a flag of 0
-  -- and the one by another
   only-not : (one u : ℕ) → u ≡ only one code → (u ≡ 0 → ⊥) → only one code ≡ 1
   only-not one u h z =
       ⊎-elim (λ e. ite-eq code one 1 0 e) (λ e. absurd (z (h ∙ ite-ne code one 1 0 e))) (same-or-not code one)
 
   -- an effect without captures
-  -- the first way through the code
   pub count-none : (u : ℕ) → u ≡ only 13 code → u ≡ 0 → 0 ≡ countClass code n
   unfolding countClass
   count-none u h z = sym (ap (λ (a : ℕ). earns 2 (eqb a 1 && ltb 16 n)) (sym (only-captures code) ∙ sym h ∙ z))
 
   -- no more than sixteen
-  -- the second way
   pub count-fits : n ≤ 16 → 0 ≡ countClass code n
   unfolding countClass
   count-fits l = sym (ap (earns 2) (and-false (eqb (uses code 7) 1) (ltb 16 n) (le-ltb 16 n l)))
 
   -- more than sixteen
-  -- the last way
   pub count-over : (u : ℕ) → u ≡ only 13 code → (u ≡ 0 → ⊥) → 16 < n → 2 ≡ countClass code n
   unfolding countClass
   count-over u h z l =
@@ -169,13 +149,11 @@ module _ (code n : ℕ) where
 
 module _ (c : List ℕ) (code identity instance u : ℕ) (h : u ≡ uses code 6) where
   -- an effect without a diagnostic
-  -- the first way through the code
   pub numbers-none : (u ≡ 1 → ⊥) → 0 ≡ numbersClass c code identity instance
   unfolding numbersClass
   numbers-none z = sym (ap (λ (b : Bool). earns 3 (b && not (eqb identity (field Layout.diagnostics c instance 0)))) (ne-eqb (uses code 6) 1 (λ e. z (h ∙ e))))
 
   -- a diagnostic with the identity of its instance
-  -- the second way
   pub numbers-right : (j x : ℕ) → j ≡ instance → x ≡ field Layout.diagnostics c j 0 → identity ≡ x → 0 ≡ numbersClass c code identity instance
   unfolding numbersClass
   numbers-right j x e g q =
@@ -183,7 +161,6 @@ module _ (c : List ℕ) (code identity instance u : ℕ) (h : u ≡ uses code 6)
       (ap not (eq-eqb identity (field Layout.diagnostics c instance 0) (q ∙ g ∙ ap (λ (k : ℕ). field Layout.diagnostics c k 0) e)))))
 
   -- a diagnostic with another
-  -- the last way
   pub numbers-wrong : (j x : ℕ) → u ≡ 1 → j ≡ instance → x ≡ field Layout.diagnostics c j 0 → (identity ≡ x → ⊥) → 3 ≡ numbersClass c code identity instance
   unfolding numbersClass
   numbers-wrong j x z e g q =

@@ -24,7 +24,6 @@ use Rattle.refuse_instruction.specs.EffectClasses.{uses, effectLimit, co
 
 module _ (identifiers functions : ℕ) (c : List ℕ) (apply : ℕ) (t : Table) (xs : List ℕ) (i : ℕ) where
   -- the class of an effect that is no Apply
-  -- count, words, numbers
   abbrev parts : ℕ
   parts =
       lower (countClass (field t xs i 0) (field t xs i 17))
@@ -32,13 +31,11 @@ module _ (identifiers functions : ℕ) (c : List ℕ) (apply : ℕ) (t : Table) 
       (numbersClass c (field t xs i 0) (field t xs i 15) (field t xs i 16)))
 
   -- an Apply
-  -- the first way through the code
   pub effect-apply : (code : ℕ) → code ≡ field t xs i 0 → code ≡ 12 → apply ≡ effectClass identifiers functions c apply t xs i
   unfolding effectClass
   effect-apply code h e = sym (ite-eq (field t xs i 0) 12 apply parts (sym h ∙ e))
 
   -- any other effect
-  -- the second way
   pub effect-other : (code n d ws x y ns cs l r : ℕ) → code ≡ field t xs i 0 → (code ≡ 12 → ⊥) → n ≡ field t xs i 17 → d ≡ instanceCount c
       → ws ≡ recordClass t xs (effectLimit identifiers functions d code n) i → x ≡ field t xs i 15 → y ≡ field t xs i 16 → ns ≡ numbersClass c code x y → cs ≡ countClass code n
       → l ≡ lower ws ns → r ≡ lower cs l → r ≡ effectClass identifiers functions c apply t xs i
@@ -48,12 +45,10 @@ module _ (identifiers functions : ℕ) (c : List ℕ) (apply : ℕ) (t : Table) 
       ∙ sym (ite-ne (field t xs i 0) 12 apply parts (λ e. z (hc ∙ e)))
     where
       -- the words of the record, by the numbers that the code has read
-      -- each is a word of the record or of the context
       same : recordClass t xs (effectLimit identifiers functions d code n) i ≡ recordClass t xs (effectLimit identifiers functions (instanceCount c) (field t xs i 0) (field t xs i 17)) i
       same = ap (λ (m : ℕ). recordClass t xs (effectLimit identifiers functions m code n) i) hd ∙ ap₂ (λ (a b : ℕ). recordClass t xs (effectLimit identifiers functions (instanceCount c) a b) i) hc hn
 
   -- the parts of an effect earn nothing, or 2 to 4
-  -- whatever stands there
   parts-class : Class parts
   unfolding countClass numbersClass
   parts-class =
@@ -64,19 +59,16 @@ module _ (identifiers functions : ℕ) (c : List ℕ) (apply : ℕ) (t : Table) 
       (earns-class 3 (eqb (uses (field t xs i 0) 6) 1 && not (eqb (field t xs i 15) (field Layout.diagnostics c (field t xs i 16) 0))) (omega arith) (omega arith)))
 
   -- an effect earns what an Apply does, or what its parts do
-  -- the two ways
   chosen : (P : ℕ → Type 0) → P apply → P parts → (b : Bool) → P (ite b apply parts)
   chosen P p q true = p
   chosen P p q false = q
 
   -- an effect earns nothing, or 2 to 4, where an Apply does
-  -- interned effects
   pub effect-class : Class apply → Class (effectClass identifiers functions c apply t xs i)
   unfolding effectClass
   effect-class a = chosen Class a parts-class (eqb (field t xs i 0) 12)
 
   -- an effect earns nothing, or 2 or more, where an Apply does
-  -- candidates
   pub effect-later : Later apply → Later (effectClass identifiers functions c apply t xs i)
   unfolding effectClass
   effect-later a = chosen Later a (class-later parts parts-class) (eqb (field t xs i 0) 12)
@@ -85,7 +77,6 @@ module _ (identifiers functions : ℕ) (c : List ℕ) (apply : ℕ) (t : Table) 
 
 module _ (identifiers : ℕ) (p : Place) where
   -- the identifier is past the last
-  -- the first way through the code
   pub place-identifier : identifiers ≤ p .identifier → 3 ≡ placeClass identifiers p
   unfolding placeClass
   place-identifier l =
@@ -93,42 +84,35 @@ module _ (identifiers : ℕ) (p : Place) where
 
   module _ (k : p .identifier < identifiers) where
     -- the other two words decide
-    -- the identifier is in range
     rest : earns 3 (not (ltb (p .effect) 8) || not (ltb (p .reactive) 2)) ≡ placeClass identifiers p
     unfolding placeClass
     rest = sym (ap (earns 3) (or-second (not (ltb (p .identifier) identifiers)) (not (ltb (p .effect) 8) || not (ltb (p .reactive) 2)) (ap not (lt-ltb (p .identifier) identifiers k))))
 
     -- the effect is past the last
-    -- the second way
     pub place-effect : 8 ≤ p .effect → 3 ≡ placeClass identifiers p
     place-effect l = sym (ap (earns 3) (or-first (not (ltb (p .effect) 8)) (not (ltb (p .reactive) 2)) (ap not (le-ltb (p .effect) 8 l)))) ∙ rest
 
     module _ (j : p .effect < 8) where
       -- reactive is neither 0 nor 1
-      -- the third way
       pub place-reactive : 2 ≤ p .reactive → 3 ≡ placeClass identifiers p
       place-reactive l =
           sym (ap (earns 3) (or-second (not (ltb (p .effect) 8)) (not (ltb (p .reactive) 2)) (ap not (lt-ltb (p .effect) 8 j)) ∙ ap not (le-ltb (p .reactive) 2 l))) ∙ rest
 
       -- all are in range
-      -- the last way
       pub place-right : p .reactive < 2 → 0 ≡ placeClass identifiers p
       place-right l =
           sym (ap (earns 3) (or-neither (not (ltb (p .effect) 8)) (not (ltb (p .reactive) 2)) (ap not (lt-ltb (p .effect) 8 j)) (ap not (lt-ltb (p .reactive) 2 l)))) ∙ rest
 
   -- a place earns nothing or 3
-  -- whatever its words are
   pub place-class : Class (placeClass identifiers p)
   unfolding placeClass
   place-class = earns-class 3 (not (ltb (p .identifier) identifiers) || (not (ltb (p .effect) 8) || not (ltb (p .reactive) 2))) (omega arith) (omega arith)
 
 -- the own function is there, or there is none
--- the first way through the code
 pub own-right : (own functions : ℕ) → own ≤ functions → 0 ≡ earns 3 (not (leb own functions))
 own-right own functions l = sym (ap (λ (b : Bool). earns 3 (not b)) (le-leb own functions l))
 
 -- the own function is past the last
--- the second way
 pub own-wrong : (own functions : ℕ) → functions < own → 3 ≡ earns 3 (not (leb own functions))
 own-wrong own functions l = sym (ap (λ (b : Bool). earns 3 (not b)) (lt-leb own functions l))
 
@@ -136,7 +120,6 @@ own-wrong own functions l = sym (ap (λ (b : Bool). earns 3 (not b)) (lt-leb own
 
 module _ (identifiers functions : ℕ) (c xs : List ℕ) (count : ℕ) (lvalue : Place) (own : ℕ) where
   -- what an instruction earns beside its count
-  -- candidates, lvalue, own function
   abbrev beside : ℕ
   beside = lower (lowestBelow count (effectClass identifiers functions c 5 candidateTable xs)) (lower (placeClass identifiers lvalue) (earns 3 (not (leb own functions))))
 
@@ -152,7 +135,6 @@ module _ (identifiers functions : ℕ) (c xs : List ℕ) (count : ℕ) (lvalue :
       ∙ sym (ap (λ (b : Bool). lower (earns 2 b) beside) (lt-ltb 64 count l))
 
   -- no more than 64
-  -- the second way
   pub instruction-rest : (m a b d e r : ℕ) → count ≤ 64 → m ≡ count → a ≡ lowestBelow m (effectClass identifiers functions c 5 candidateTable xs) → b ≡ placeClass identifiers lvalue
       → d ≡ earns 3 (not (leb own functions)) → e ≡ lower b d → r ≡ lower a e → r ≡ instructionClass identifiers functions c xs count lvalue own
   unfolding instructionClass

@@ -16,49 +16,41 @@ use Rattle.base_tests.specs.Laws.Below.{any-at}
 use Rattle.refuse_instruction.specs.EffectClasses.{usedParts, uses}
 
 -- nothing is used past the last code
--- the table has no row there
 pub uses-past : (code j : ℕ) → 18 ≤ code → 0 ≡ uses code j
 unfolding uses usedParts
 uses-past code j h = sym (ap (λ (r : List ℕ). getD r j 0) (List·getD-eq-default usedParts [] h) ∙ List·getD-eq-default [] 0 {n = j} (omega arith))
 
 -- a rule that the table was computed to follow tells what a code uses
--- one test of eighteen rows for each part
 rule : (j : ℕ) (b : ℕ → ℕ) → anyBelow 18 (λ k. not (eqb (uses k j) (b k))) ≡ false → (code : ℕ) → code < 18 → b code ≡ uses code j
 rule j b t code l = sym (eqb-true (uses code j) (b code) (not-false (eqb (uses code j) (b code)) (any-at 18 (λ k. not (eqb (uses k j) (b k))) t code l)))
 
 -- ---- a place that is no destination
 
 -- the rule of places
--- as the code tests
 abbrev byPlace : ℕ → ℕ
 byPlace k = ite (eqb k 9) 0 (ite (eqb k 12) 0 (ite (eqb k 13) 0 1))
 
 -- the table follows it
--- computed for eighteen codes
 table-place : anyBelow 18 (λ k. not (eqb (uses k 0) (byPlace k))) ≡ false
 unfolding anyBelow uses usedParts
 table-place = refl
 
 -- Create has no place that is no destination
--- the second way through the code
 pub place-create : (code : ℕ) → code ≡ 9 → 0 ≡ uses code 0
 unfolding uses usedParts
 place-create code e = sym (ap (λ (k : ℕ). uses k 0) e)
 
 -- an Apply uses none
--- the third way
 pub place-apply : (code : ℕ) → code ≡ 12 → 0 ≡ uses code 0
 unfolding uses usedParts
 place-apply code e = sym (ap (λ (k : ℕ). uses k 0) e)
 
 -- CreateFunction has none
--- the fourth way
 pub place-function : (code : ℕ) → code ≡ 13 → 0 ≡ uses code 0
 unfolding uses usedParts
 place-function code e = sym (ap (λ (k : ℕ). uses k 0) e)
 
 -- any other code has one
--- the last way through the code
 pub place-other : (code : ℕ) → code < 18 → (code ≡ 9 → ⊥) → (code ≡ 12 → ⊥) → (code ≡ 13 → ⊥) → 1 ≡ uses code 0
 place-other code l a b c =
     sym (ite-ne code 9 0 (ite (eqb code 12) 0 (ite (eqb code 13) 0 1)) a ∙ ite-ne code 12 0 (ite (eqb code 13) 0 1) b ∙ ite-ne code 13 0 1 c)
@@ -67,29 +59,24 @@ place-other code l a b c =
 -- ---- a destination
 
 -- the rule of destinations
--- as the code tests
 abbrev byDestination : ℕ → ℕ
 byDestination k = ite (ltb k 5) 0 (ite (eqb k 12) 0 (ite (ltb 13 k) 0 1))
 
 -- the table follows it
--- computed for eighteen codes
 table-destination : anyBelow 18 (λ k. not (eqb (uses k 1) (byDestination k))) ≡ false
 unfolding anyBelow uses usedParts
 table-destination = refl
 
 -- the codes before Capture have none
--- the first way through the code
 pub destination-before : (code : ℕ) → code < 5 → 0 ≡ uses code 1
 destination-before code l = sym (ite-lt code 5 0 (ite (eqb code 12) 0 (ite (ltb 13 code) 0 1)) l) ∙ rule 1 byDestination table-destination code (omega arith)
 
 -- an Apply uses none
--- the second way
 pub destination-apply : (code : ℕ) → code ≡ 12 → 0 ≡ uses code 1
 unfolding uses usedParts
 destination-apply code e = sym (ap (λ (k : ℕ). uses k 1) e)
 
 -- the codes after CreateFunction have none
--- the third way
 pub destination-after : (code : ℕ) → 13 < code → 0 ≡ uses code 1
 destination-after code h =
     ⊎-elim
@@ -100,7 +87,6 @@ destination-after code h =
     (lt-or-ge code 18)
 
 -- the others have one
--- the last way
 pub destination-other : (code : ℕ) → 5 ≤ code → (code ≡ 12 → ⊥) → code ≤ 13 → 1 ≡ uses code 1
 destination-other code a b c =
     sym (ite-ge code 5 0 (ite (eqb code 12) 0 (ite (ltb 13 code) 0 1)) a ∙ ite-ne code 12 0 (ite (ltb 13 code) 0 1) b ∙ ite-ge 13 code 0 1 c)
@@ -109,30 +95,25 @@ destination-other code a b c =
 -- ---- a reason
 
 -- the rule of reasons
--- as the code tests
 abbrev byReason : ℕ → ℕ
 byReason k = ite (eqb k 0) 1 (ite (eqb k 9) 1 0)
 
 -- the table follows it
--- computed for eighteen codes
 table-reason : anyBelow 18 (λ k. not (eqb (uses k 3) (byReason k))) ≡ false
 unfolding anyBelow uses usedParts
 table-reason = refl
 
 -- Freeze has one
--- the first way through the code
 pub reason-freeze : (code : ℕ) → code ≡ 0 → 1 ≡ uses code 3
 unfolding uses usedParts
 reason-freeze code e = sym (ap (λ (k : ℕ). uses k 3) e)
 
 -- Create has one
--- the second way
 pub reason-create : (code : ℕ) → code ≡ 9 → 1 ≡ uses code 3
 unfolding uses usedParts
 reason-create code e = sym (ap (λ (k : ℕ). uses k 3) e)
 
 -- no other has one
--- the last way
 pub reason-other : (code : ℕ) → (code ≡ 0 → ⊥) → (code ≡ 9 → ⊥) → 0 ≡ uses code 3
 reason-other code a b =
     ⊎-elim
@@ -143,23 +124,19 @@ reason-other code a b =
 -- ---- a diagnostic
 
 -- the rule of diagnostics
--- as the code tests
 abbrev byDiagnostic : ℕ → ℕ
 byDiagnostic k = ite (ltb k 14) 0 (ite (ltb 16 k) 0 1)
 
 -- the table follows it
--- computed for eighteen codes
 table-diagnostic : anyBelow 18 (λ k. not (eqb (uses k 6) (byDiagnostic k))) ≡ false
 unfolding anyBelow uses usedParts
 table-diagnostic = refl
 
 -- the codes before MutateFrozen have none
--- the first way through the code
 pub diagnostic-before : (code : ℕ) → code < 14 → 0 ≡ uses code 6
 diagnostic-before code l = sym (ite-lt code 14 0 (ite (ltb 16 code) 0 1) l) ∙ rule 6 byDiagnostic table-diagnostic code (omega arith)
 
 -- the codes after Impure have none
--- the second way
 pub diagnostic-after : (code : ℕ) → 16 < code → 0 ≡ uses code 6
 diagnostic-after code h =
     ⊎-elim
@@ -168,7 +145,6 @@ diagnostic-after code h =
     (lt-or-ge code 18)
 
 -- the three between have one
--- the last way
 pub diagnostic-other : (code : ℕ) → 14 ≤ code → code ≤ 16 → 1 ≡ uses code 6
 diagnostic-other code a b =
     sym (ite-ge code 14 0 (ite (ltb 16 code) 0 1) a ∙ ite-ge 16 code 0 1 b) ∙ rule 6 byDiagnostic table-diagnostic code (omega arith)
@@ -176,12 +152,10 @@ diagnostic-other code a b =
 -- ---- parts of one effect alone
 
 -- the rule of one code
--- as the code tests
 abbrev pub only : ℕ → ℕ → ℕ
 only one k = ite (eqb k one) 1 0
 
 -- the rule holds of every code where it does of eighteen
--- past the last nothing is used
 only-rule : (j one : ℕ) → one < 18 → anyBelow 18 (λ k. not (eqb (uses k j) (only one k))) ≡ false → (code : ℕ) → only one code ≡ uses code j
 only-rule j one o t code =
     ⊎-elim
@@ -190,45 +164,37 @@ only-rule j one o t code =
     (lt-or-ge code 18)
 
 -- the table gives kinds to Create
--- computed for eighteen codes
 table-kind : anyBelow 18 (λ k. not (eqb (uses k 2) (only 9 k))) ≡ false
 unfolding anyBelow uses usedParts
 table-kind = refl
 
 -- kinds: Create
--- no other effect has one
 pub only-kind : (code : ℕ) → only 9 code ≡ uses code 2
 only-kind code = only-rule 2 9 (omega arith) table-kind code
 
 -- the table gives mutation reasons to Mutate
--- computed for eighteen codes
 table-mutation : anyBelow 18 (λ k. not (eqb (uses k 4) (only 1 k))) ≡ false
 unfolding anyBelow uses usedParts
 table-mutation = refl
 
 -- mutation reasons: Mutate
--- no other effect has one
 pub only-mutation : (code : ℕ) → only 1 code ≡ uses code 4
 only-mutation code = only-rule 4 1 (omega arith) table-mutation code
 
 -- the table gives functions to CreateFunction
--- computed for eighteen codes
 table-function : anyBelow 18 (λ k. not (eqb (uses k 5) (only 13 k))) ≡ false
 unfolding anyBelow uses usedParts
 table-function = refl
 
 -- functions: CreateFunction
--- no other effect has one
 pub only-function : (code : ℕ) → only 13 code ≡ uses code 5
 only-function code = only-rule 5 13 (omega arith) table-function code
 
 -- the table gives captures to CreateFunction
--- computed for eighteen codes
 table-captures : anyBelow 18 (λ k. not (eqb (uses k 7) (only 13 k))) ≡ false
 unfolding anyBelow uses usedParts
 table-captures = refl
 
 -- captures: CreateFunction
--- no other effect has them
 pub only-captures : (code : ℕ) → only 13 code ≡ uses code 7
 only-captures code = only-rule 7 13 (omega arith) table-captures code

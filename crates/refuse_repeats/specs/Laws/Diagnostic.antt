@@ -24,7 +24,6 @@ use Rattle.base_tests.specs.Laws.Bool.{or-first, or-second}
 use Rattle.refuse_repeats.specs.Repeats.{numberOr, rightIdentity, diagnosticTwice}
 
 -- the diagnostics that are left, with one to look at
--- as a loop counts
 diagnostics-more : (c : List ℕ) (k n : ℕ) → k < n → diagnosticsIn c k (n - k) ≡ diagnosticIn c k ∷ diagnosticsIn c (k + 1) (n - (k + 1))
 unfolding diagnosticsIn
 diagnostics-more c k n h =
@@ -40,7 +39,6 @@ diagnostics-none c k n h =
     ap (diagnosticsIn c k) m
 
 -- a loop begins with all n
--- none is passed yet
 diagnostics-all : (c : List ℕ) (n : ℕ) → diagnosticsIn c 0 n ≡ diagnosticsIn c 0 (n - 0)
 diagnostics-all c n =
     let a : n ≡ n - 0 = omega arith in
@@ -57,7 +55,6 @@ identities-end c k n most l inv =
 
 module _ (c : List ℕ) (d : Diagnostic) (k n : ℕ) (inv : findIdentity (diagnosticsIn c 0 (n - 0)) d ≡ findIdentity (diagnosticsIn c k (n - k)) d) where
   -- the search ends at record k
-  -- the code answers with its identity
   pub identity-found : (x : Numbered) (b : Bool) → k < n → internedOf x ≡ diagnosticIn c k → b ≡ sameIdentity d (x .diagnostic) → b ≡ true → some (x .identity) ≡ findIdentity (diagnosticsIn c 0 n) d
   unfolding findIdentity
   identity-found x b l g h z =
@@ -67,20 +64,17 @@ module _ (c : List ℕ) (d : Diagnostic) (k n : ℕ) (inv : findIdentity (diagno
       (ap (λ (y : Interned). sameIdentity d (y .diagnostic)) (sym g) ∙ sym h ∙ z))
 
   -- the search ends without a record
-  -- all were looked at
   pub identity-nowhere : n ≤ k → none ≡ findIdentity (diagnosticsIn c 0 n) d
   unfolding findIdentity
   identity-nowhere l = sym (ap (λ (ds : List Interned). findIdentity ds d) (diagnostics-all c n) ∙ inv ∙ ap (λ (ds : List Interned). findIdentity ds d) (diagnostics-none c k n l))
 
 module _ (c : List ℕ) (n : ℕ) (d : Diagnostic) (o : Found) (h : optionOf o ≡ findIdentity (diagnosticsIn c 0 n) d) where
   -- no message is equal
-  -- the next identity
   pub right-next : (r : ℕ) → o ≡ Nowhere → r ≡ identities (diagnosticsIn c 0 n) → r ≡ rightIdentity c n d
   unfolding rightIdentity
   right-next r e g = g ∙ ap (numberOr (identities (diagnosticsIn c 0 n))) (sym (ap optionOf e) ∙ h)
 
   -- a message is equal
-  -- its identity
   pub right-found : (x : ℕ) → o ≡ At x → x ≡ rightIdentity c n d
   unfolding rightIdentity
   right-found x e = ap (numberOr (identities (diagnosticsIn c 0 n))) (sym (ap optionOf e) ∙ h)
@@ -92,7 +86,6 @@ module _ (c : List ℕ) (m : ℕ) (d : Diagnostic) (k n : ℕ) (inv : findInstan
   isInstance x = eqb m (x .identity) && sameLabels d (x .diagnostic)
 
   -- the search ends at record k
-  -- one is enough
   pub instance-found : (x : Numbered) (b : Bool) → k < n → internedOf x ≡ diagnosticIn c k → b ≡ (eqb m (x .identity) && sameLabels d (x .diagnostic)) → b ≡ true → true ≡ isSome (findInstance 0 (diagnosticsIn c 0 n) m d)
   unfolding findInstance
   instance-found x b l g h z =
@@ -100,7 +93,6 @@ module _ (c : List ℕ) (m : ℕ) (d : Diagnostic) (k n : ℕ) (inv : findInstan
       ∙ ap (λ (t : Bool). elim t as (λ x. Option ℕ) [ true ↦ some k | false ↦ findInstance (suc k) (diagnosticsIn c (k + 1) (n - (k + 1))) m d ]) (ap isInstance (sym g) ∙ sym h ∙ z)))
 
   -- the search ends without a record
-  -- all were looked at
   pub instance-nowhere : n ≤ k → false ≡ isSome (findInstance 0 (diagnosticsIn c 0 n) m d)
   unfolding findInstance
   instance-nowhere l =
@@ -108,23 +100,19 @@ module _ (c : List ℕ) (m : ℕ) (d : Diagnostic) (k n : ℕ) (inv : findInstan
 
 module _ (c : List ℕ) (k : ℕ) (x : Numbered) (g : internedOf x ≡ diagnosticIn c k) where
   -- the identity of a record that was read
-  -- its first word
   identity-is : x .identity ≡ field Layout.diagnostics c k 0
   unfolding diagnosticIn
   identity-is = ap (λ (y : Interned). y .identity) g
 
   -- its diagnostic
-  -- the other eight
   diagnostic-is : x .diagnostic ≡ diagnosticIn c k .diagnostic
   diagnostic-is = ap (λ (y : Interned). y .diagnostic) g
 
   -- the identity that it has to have
-  -- as the code compares it
   same-test : (m : ℕ) → m ≡ rightIdentity c k (x .diagnostic) → eqb (x .identity) m ≡ eqb (field Layout.diagnostics c k 0) (rightIdentity c k (diagnosticIn c k .diagnostic))
   same-test m h = ap₂ eqb identity-is (h ∙ ap (rightIdentity c k) diagnostic-is)
 
   -- another identity than it has to have
-  -- the first way through the code
   pub diagnostic-wrong : (m : ℕ) → m ≡ rightIdentity c k (x .diagnostic) → (x .identity ≡ m → ⊥) → true ≡ diagnosticTwice c k
   unfolding diagnosticTwice
   diagnostic-wrong m h n =
@@ -132,7 +120,6 @@ module _ (c : List ℕ) (k : ℕ) (x : Numbered) (g : internedOf x ≡ diagnosti
       (ap not (sym (same-test m h) ∙ ne-eqb (x .identity) m n)))
 
   -- the right identity: an equal record decides
-  -- the second way
   pub diagnostic-right : (m : ℕ) (r : Bool) → m ≡ rightIdentity c k (x .diagnostic) → x .identity ≡ m → r ≡ isSome (findInstance 0 (diagnosticsIn c 0 k) (x .identity) (x .diagnostic)) → r ≡ diagnosticTwice c k
   unfolding diagnosticTwice
   diagnostic-right m r h e q =

@@ -32,14 +32,12 @@ use Rattle.refuse_repeats.specs.Repeats.{internedTwice, keyHere, keyTwic
 
 module _ (c : List ℕ) (key : EffectKey) (n k : ℕ) (inv : findEffect (effectsIn Layout.interned c 0 (n - 0)) key ≡ findEffect (effectsIn Layout.interned c k (n - k)) key) where
   -- the definition's search is what the loop has left to do
-  -- it begins with all n
   left : findEffect (effectsIn Layout.interned c 0 n) key ≡ findEffect (effectsIn Layout.interned c k (n - k)) key
   left =
       let a : n - 0 ≡ n = omega arith in
       ap (λ (m : ℕ). findEffect (effectsIn Layout.interned c 0 m) key) (sym a) ∙ inv
 
   -- the search ends at effect k
-  -- one is enough
   pub before-found : (b : Bool) → k < n → b ≡ eqKey key (effectKey (effectIn Layout.interned c k)) → b ≡ true → true ≡ isSome (findEffect (effectsIn Layout.interned c 0 n) key)
   unfolding findEffect
   before-found b l h z =
@@ -47,7 +45,6 @@ module _ (c : List ℕ) (key : EffectKey) (n k : ℕ) (inv : findEffect (effects
       ∙ ap (λ (t : Bool). elim t as (λ x. Option AliasingEffect) [ true ↦ some (effectIn Layout.interned c k) | false ↦ findEffect (effectsIn Layout.interned c (k + 1) (n - (k + 1))) key ]) (sym h ∙ z)))
 
   -- the search ends without an effect
-  -- all were looked at
   pub before-nowhere : n ≤ k → false ≡ isSome (findEffect (effectsIn Layout.interned c 0 n) key)
   unfolding findEffect effectsIn
   before-nowhere l =
@@ -74,7 +71,6 @@ unfolding keyIn keyHere
 key-there c j x f z = ite-ne (field Layout.cached c j 0) 0 none (some (keyHeadIn Layout.cached c j (numbersIn Layout.cached c j 12 1 0 (field Layout.cached c j 11)))) (λ e. z (f ∙ e))
 
 -- all captures of a key in a record count
--- the record says how many there are
 all-taken : (c : List ℕ) (i : ℕ) (key : Key) → ((is : List ℕ) → keyWith key is ≡ keyHeadIn Layout.cached c i is) → (is : List ℕ) → ite (key .captured) is [] ≡ is
 unfolding keyWith keyHeadIn
 all-taken c i key h is = ap (λ (k : EffectKey). k .captures) (h is)
@@ -82,7 +78,6 @@ all-taken c i key h is = ap (λ (k : EffectKey). k .captures) (h is)
 module _ (c : List ℕ) (i j x : ℕ) (a b : Key) (f : x ≡ field Layout.cached c j 0) (z : x ≡ 0 → ⊥)
     (ha : (is : List ℕ) → keyWith a is ≡ keyHeadIn Layout.cached c i is) (hb : (is : List ℕ) → keyWith b is ≡ keyHeadIn Layout.cached c j is) where
   -- what the two keys' comparison says of the records
-  -- both are read as the code holds them
   compared : eqKey (keyWith a (numbersIn Layout.cached c i 12 1 0 (field Layout.cached c i 11))) (keyWith b (numbersIn Layout.cached c j 12 1 0 (field Layout.cached c j 11))) ≡ isKey (keyHere c i) (keyIn Layout.cached c j)
   unfolding keyHere isKey
   compared =
@@ -90,14 +85,12 @@ module _ (c : List ℕ) (i j x : ℕ) (a b : Key) (f : x ≡ field Layout.cached
       ∙ sym (ap (isKey (keyHere c i)) (key-there c j x f z))
 
   -- they differ in more than the captures
-  -- the second way through the code
   pub keys-other : (y : Bool) → y ≡ sameHead a b → not y ≡ true → false ≡ isKey (keyHere c i) (keyIn Layout.cached c j)
   keys-other y p n =
       keys-differ a b (numbersIn Layout.cached c i 12 1 0 (field Layout.cached c i 11)) (numbersIn Layout.cached c j 12 1 0 (field Layout.cached c j 11)) (sym p ∙ not-true y n)
       ∙ compared
 
   -- the captures decide
-  -- the last way
   pub keys-same : (y r : Bool) (n m : ℕ) → y ≡ sameHead a b → not y ≡ false → n ≡ field Layout.cached c i 11 → m ≡ field Layout.cached c j 11
       → r ≡ eqList (numbersIn Layout.cached c i 12 1 0 n) (numbersIn Layout.cached c j 12 1 0 m) → r ≡ isKey (keyHere c i) (keyIn Layout.cached c j)
   keys-same y r n m p q hn hm k =
@@ -108,7 +101,6 @@ module _ (c : List ℕ) (i j x : ℕ) (a b : Key) (f : x ≡ field Layout.cached
 -- ---- the search of cached keys
 
 -- a number without a key
--- the first way through the code
 pub twice-none : (c : List ℕ) (v x : ℕ) → x ≡ field Layout.cached c v 0 → x ≡ 0 → false ≡ keyTwice c v
 unfolding keyTwice keyAt keyIn
 twice-none c v x f z =
@@ -116,14 +108,12 @@ twice-none c v x f z =
     (ite-eq (field Layout.cached c v 0) 0 none (some (keyHeadIn Layout.cached c v (numbersIn Layout.cached c v 12 1 0 (field Layout.cached c v 11)))) (sym f ∙ z)))
 
 -- a number with a key: the search decides
--- what the other ways have in common
 twice-search : (c : List ℕ) (v x : ℕ) → x ≡ field Layout.cached c v 0 → (x ≡ 0 → ⊥) → isSome (firstCached (v - 1) 1 (keyAt c) (keyHere c v)) ≡ keyTwice c v
 unfolding keyTwice keyAt
 twice-search c v x f z = sym (ap (λ (o : Option EffectKey). elim o as (λ y. Bool) [ none ↦ false | some k ↦ isSome (firstCached (v - 1) 1 (keyAt c) k) ]) (key-there c v x f z))
 
 module _ (c : List ℕ) (key : EffectKey) (v n : ℕ) where
   -- the numbers that are left, with one to look at
-  -- as a loop counts
   numbers-more : n < v → firstCached (v - n) n (keyAt c) key ≡ elim (isKey key (keyIn Layout.cached c n)) as (λ x. Option ℕ) [ true ↦ some n | false ↦ firstCached (v - (n + 1)) (n + 1) (keyAt c) key ]
   unfolding firstCached keyAt
   numbers-more l =
@@ -132,7 +122,6 @@ module _ (c : List ℕ) (key : EffectKey) (v n : ℕ) where
       ∙ ap (λ (z : ℕ). elim (isKey key (keyIn Layout.cached c n)) as (λ x. Option ℕ) [ true ↦ some n | false ↦ firstCached (v - (n + 1)) z (keyAt c) key ]) (sym (add-one n))
 
   -- a turn passes over number n
-  -- what is left to search is what is left after it
   pub key-passed : (b : Bool) → n < v → b ≡ isKey key (keyIn Layout.cached c n) → b ≡ false → firstCached (v - n) n (keyAt c) key ≡ firstCached (v - (n + 1)) (n + 1) (keyAt c) key
   key-passed b l h z =
       numbers-more l
@@ -140,7 +129,6 @@ module _ (c : List ℕ) (key : EffectKey) (v n : ℕ) where
 
 module _ (c : List ℕ) (v n x : ℕ) (f : x ≡ field Layout.cached c v 0) (z : x ≡ 0 → ⊥) (inv : firstCached (v - 1) 1 (keyAt c) (keyHere c v) ≡ firstCached (v - n) n (keyAt c) (keyHere c v)) where
   -- the search ends at number n
-  -- one is enough
   pub key-found : (b : Bool) → n < v → b ≡ isKey (keyHere c v) (keyIn Layout.cached c n) → b ≡ true → true ≡ keyTwice c v
   key-found b l h t =
       sym (ap isSome (inv ∙ numbers-more c (keyHere c v) v n l
@@ -148,7 +136,6 @@ module _ (c : List ℕ) (v n x : ℕ) (f : x ≡ field Layout.cached c v 0) (z :
       ∙ twice-search c v x f z
 
   -- the search ends without a number
-  -- all were looked at
   pub key-nowhere : v ≤ n → false ≡ keyTwice c v
   unfolding firstCached
   key-nowhere l =

@@ -12,7 +12,6 @@ use Rattle.lent_sets.specs.Rows.{upto, rowWord, setWord, number, rowNumber, wor
 use Rattle.refuse_state.specs.Words.{hasEntry, wordOutOfRange, wordUnfit, rowOutOfRange, rowInUse, rowTooNew, rowUnfit, nextOutOfRange, accessOutOfRange, identifiers, wrongLengths, valuesOutOfRange, rowsOutOfRange, valuesUnfit, rowsUnfit, stateOutOfRange, stateUnfit, stateRefusal}
 
 -- no entry anywhere
--- where every case starts
 abbrev values : List ℕ
 values = replicate 1024 0
 
@@ -22,17 +21,14 @@ abbrev sets : List ℕ
 sets = replicate 32 0
 
 -- an entry at the last fresh number below next 4, and one with every reason at the own value of identifier 1
--- the first state that is not refused
 abbrev entries : List ℕ
 entries = set (set values 3 6) 513 (8 * 4095 + 1)
 
 -- identifier 0 is not defined, identifier 1 has both of these values
--- its sets
 abbrev defined : List ℕ
 defined = putSet sets 1 (2 ^ 3 + 2 ^ 513)
 
 -- whether the answer is r
--- a test that antt computes
 abbrev gives : ℕ → List ℕ → List ℕ → ℕ → ℕ → Bool
 gives r vs ss next access = eqb (stateRefusal vs ss next access) r
 

@@ -27,13 +27,11 @@ use Rattle.refuse_tables.specs.Laws.KeyUse.{only-kind, only-function}
 
 module _ (identifiers functions code w : ℕ) where
   -- whether there is a key
-  -- the same for every code
   pub head-present : w ≡ 0 → some 2 ≡ keyHeadLimit identifiers functions code w
   unfolding keyHeadLimit
   head-present e = sym (ap (keyHeadLimit identifiers functions code) e)
 
   -- the code
-  -- codes of effects, and the two of Assign
   pub head-code : w ≡ 1 → some 20 ≡ keyHeadLimit identifiers functions code w
   unfolding keyHeadLimit
   head-code e = sym (ap (keyHeadLimit identifiers functions code) e)
@@ -46,7 +44,6 @@ module _ (identifiers functions code w : ℕ) where
     head-source-flag e h q = q ∙ ap (λ (a : ℕ). usedIf a (some 2)) (h) ∙ sym (ap (keyHeadLimit identifiers functions code) e)
 
     -- the source
-    -- below the number of identifiers
     pub head-source : w ≡ 3 → u ≡ keyUses code 0 → o ≡ usedIf u (limitOf (identifiers + 1)) → o ≡ keyHeadLimit identifiers functions code w
     unfolding keyHeadLimit
     head-source e h q = q ∙ ap₂ (λ (a b : ℕ). usedIf a (limitOf b)) (h) (add-one identifiers) ∙ sym (ap (keyHeadLimit identifiers functions code) e)
@@ -58,19 +55,16 @@ module _ (identifiers functions code w : ℕ) where
     head-destination-flag e h q = q ∙ ap (λ (a : ℕ). usedIf a (some 2)) (h) ∙ sym (ap (keyHeadLimit identifiers functions code) e)
 
     -- the destination
-    -- below the number of identifiers
     pub head-destination : w ≡ 5 → u ≡ keyUses code 1 → o ≡ usedIf u (limitOf (identifiers + 1)) → o ≡ keyHeadLimit identifiers functions code w
     unfolding keyHeadLimit
     head-destination e h q = q ∙ ap₂ (λ (a b : ℕ). usedIf a (limitOf b)) (h) (add-one identifiers) ∙ sym (ap (keyHeadLimit identifiers functions code) e)
 
     -- the kind
-    -- one of six
     pub head-kind : w ≡ 6 → u ≡ only 9 code → o ≡ usedIf u (some 6) → o ≡ keyHeadLimit identifiers functions code w
     unfolding keyHeadLimit
     head-kind e h q = q ∙ ap (λ (a : ℕ). usedIf a (some 6)) (h ∙ only-kind code) ∙ sym (ap (keyHeadLimit identifiers functions code) e)
 
     -- the reason
-    -- one of twelve
     pub head-reason : w ≡ 7 → u ≡ only 9 code → o ≡ usedIf u (some 12) → o ≡ keyHeadLimit identifiers functions code w
     unfolding keyHeadLimit
     head-reason e h q = q ∙ ap (λ (a : ℕ). usedIf a (some 12)) (h ∙ only-kind code) ∙ sym (ap (keyHeadLimit identifiers functions code) e)
@@ -82,13 +76,11 @@ module _ (identifiers functions code w : ℕ) where
     head-function-flag e h q = q ∙ ap (λ (a : ℕ). usedIf a (some 2)) (h ∙ only-function code) ∙ sym (ap (keyHeadLimit identifiers functions code) e)
 
     -- the function
-    -- below their number
     pub head-function : w ≡ 9 → u ≡ only 13 code → o ≡ usedIf u (limitOf (functions + 1)) → o ≡ keyHeadLimit identifiers functions code w
     unfolding keyHeadLimit
     head-function e h q = q ∙ ap₂ (λ (a b : ℕ). usedIf a (limitOf b)) (h ∙ only-function code) (add-one functions) ∙ sym (ap (keyHeadLimit identifiers functions code) e)
 
     -- the count of captures
-    -- tested apart
     pub head-count : w ≡ 11 → u ≡ only 13 code → o ≡ usedIf u any → o ≡ keyHeadLimit identifiers functions code w
     unfolding keyHeadLimit
     head-count e h q = q ∙ ap (λ (a : ℕ). usedIf a any) (h ∙ only-function code) ∙ sym (ap (keyHeadLimit identifiers functions code) e)
@@ -99,17 +91,14 @@ module _ (identifiers functions code w : ℕ) where
   from-eight l a b c d = omega arith
 
   -- a number that is none of the first four
-  -- the same
   from-four : (w ≡ 0 → ⊥) → (w ≡ 1 → ⊥) → (w ≡ 2 → ⊥) → (w ≡ 3 → ⊥) → 4 ≤ w
   from-four a b c d = omega arith
 
   -- a number from 8 on that is none of the next four
-  -- the same
   from-twelve : 8 ≤ w → (w ≡ 8 → ⊥) → (w ≡ 9 → ⊥) → (w ≡ 11 → ⊥) → (w ≡ 10 → ⊥) → 12 ≤ w
   from-twelve l a b c d = omega arith
 
   -- the identity, and what stands past the twelve
-  -- they have no use
   pub head-none : (w ≡ 0 → ⊥) → (w ≡ 1 → ⊥) → (w ≡ 2 → ⊥) → (w ≡ 3 → ⊥) → (w ≡ 4 → ⊥) → (w ≡ 5 → ⊥) → (w ≡ 6 → ⊥) → (w ≡ 7 → ⊥) → (w ≡ 8 → ⊥) → (w ≡ 9 → ⊥) → (w ≡ 11 → ⊥) → none ≡ keyHeadLimit identifiers functions code w
   unfolding keyHeadLimit
   head-none a0 a1 a2 a3 a4 a5 a6 a7 a8 a9 a11 =
@@ -123,13 +112,11 @@ module _ (identifiers functions code w : ℕ) where
 
 module _ (identifiers functions code n w : ℕ) where
   -- a word before the captures
-  -- the first way through the code
   pub limit-head : (o : Option ℕ) → w < 12 → o ≡ keyHeadLimit identifiers functions code w → o ≡ keyLimit identifiers functions code n w
   unfolding keyLimit
   limit-head o l h = h ∙ sym (ite-lt w 12 (keyHeadLimit identifiers functions code w) (ite (ltb (w - 12) n) (usedIf (keyUses code 3) (some identifiers)) none) l)
 
   -- a capture
-  -- the second way
   pub limit-capture : (m u : ℕ) (o : Option ℕ) → 12 ≤ w → m ≡ n → w - 12 < m → u ≡ only 13 code → o ≡ usedIf u (limitOf (identifiers + 1)) → o ≡ keyLimit identifiers functions code n w
   unfolding keyLimit
   limit-capture m u o l e k h q =
@@ -139,7 +126,6 @@ module _ (identifiers functions code n w : ℕ) where
       ∙ ite-lt (w - 12) n (usedIf (keyUses code 3) (some identifiers)) none g)
 
   -- past the captures
-  -- the last way
   pub limit-past : (m : ℕ) → 12 ≤ w → m ≡ n → m ≤ w - 12 → none ≡ keyLimit identifiers functions code n w
   unfolding keyLimit
   limit-past m l e k =
@@ -151,50 +137,42 @@ module _ (identifiers functions code n w : ℕ) where
 
 module _ (u flag : ℕ) where
   -- a part that is used
-  -- its flag decides
   pub part-used : u ≡ 1 → eqb flag 0 ≡ partLacks u flag
   unfolding partLacks
   part-used e = sym (ap (λ (b : Bool). b && eqb flag 0) (eq-eqb u 1 e))
 
   -- a part that is not
-  -- it may be absent
   pub part-unused : (u ≡ 1 → ⊥) → false ≡ partLacks u flag
   unfolding partLacks
   part-unused n = sym (ap (λ (b : Bool). b && eqb flag 0) (ne-eqb u 1 n))
 
 module _ (code source destination function d : ℕ) (hd : d ≡ keyUses code 1) where
   -- a code that is not cached
-  -- the first way through the code
   pub lacks-code : d ≡ 0 → true ≡ keyLacks code source destination function
   unfolding keyLacks
   lacks-code e = sym (or-first (eqb (keyUses code 1) 0) (partLacks (keyUses code 0) source || (eqb destination 0 || partLacks (keyUses code 3) function)) (eq-eqb (keyUses code 1) 0 (sym hd ∙ e)))
 
   module _ (n : d ≡ 0 → ⊥) (s : ℕ) (hs : s ≡ keyUses code 0) (a : Bool) (ha : a ≡ partLacks s source) where
     -- the other tests decide
-    -- the code is cached
     cached : partLacks (keyUses code 0) source || (eqb destination 0 || partLacks (keyUses code 3) function) ≡ keyLacks code source destination function
     unfolding keyLacks
     cached = sym (or-second (eqb (keyUses code 1) 0) (partLacks (keyUses code 0) source || (eqb destination 0 || partLacks (keyUses code 3) function)) (ne-eqb (keyUses code 1) 0 (λ e. n (hd ∙ e))))
 
     -- the test of the source as the code has it
-    -- its use is read once
     source-is : a ≡ partLacks (keyUses code 0) source
     source-is = ha ∙ ap (λ (x : ℕ). partLacks x source) hs
 
     -- it lacks a source
-    -- the second way
     pub lacks-source : a ≡ true → true ≡ keyLacks code source destination function
     lacks-source t = sym (or-first (partLacks (keyUses code 0) source) (eqb destination 0 || partLacks (keyUses code 3) function) (sym source-is ∙ t)) ∙ cached
 
     module _ (t : a ≡ false) where
       -- it lacks a destination
-      -- the third way
       pub lacks-destination : destination ≡ 0 → true ≡ keyLacks code source destination function
       lacks-destination e =
           sym (or-second (partLacks (keyUses code 0) source) (eqb destination 0 || partLacks (keyUses code 3) function) (sym source-is ∙ t) ∙ or-first (eqb destination 0) (partLacks (keyUses code 3) function) (eq-eqb destination 0 e)) ∙ cached
 
       -- it lacks a function, or nothing
-      -- the last way
       pub lacks-function : (f : ℕ) (b : Bool) → (destination ≡ 0 → ⊥) → f ≡ only 13 code → b ≡ partLacks f function → b ≡ keyLacks code source destination function
       lacks-function f b e hf hb =
           hb ∙ ap (λ (x : ℕ). partLacks x function) (hf ∙ only-function code)
@@ -202,7 +180,6 @@ module _ (code source destination function d : ℕ) (hd : d ≡ keyUses code 1) 
           ∙ cached
 
 -- the class of a cached key by its words is that of its parts
--- the code reads each word that it needs once
 pub key-is : (identifiers functions : ℕ) (c : List ℕ) (v code source destination function n ws ls r : ℕ) (k : Bool) → code ≡ field Layout.cached c v 1 → source ≡ field Layout.cached c v 2 → destination ≡ field Layout.cached c v 4
     → function ≡ field Layout.cached c v 8 → n ≡ field Layout.cached c v 11 → ws ≡ recordClass Layout.cached c (keyLimit identifiers functions code n) v
     → k ≡ keyLacks code source destination function → ls ≡ earns 3 k → r ≡ lower ws ls → r ≡ keyClass identifiers functions c v
@@ -213,7 +190,6 @@ key-is identifiers functions c v code source destination function n ws ls r k hc
     (hl ∙ ap (earns 3) (hk ∙ ap₂ (λ (x y : ℕ). keyLacks x y destination function) hc hs ∙ ap₂ (keyLacks (field Layout.cached c v 1) (field Layout.cached c v 2)) hd hf))
 
 -- the class of a number without a key is that of its record
--- no word has a limit
 pub no-key-is : (c : List ℕ) (v r : ℕ) → r ≡ recordClass Layout.cached c (λ w. none) v → r ≡ noKeyClass c v
 unfolding noKeyClass
 no-key-is c v r h = h

@@ -18,40 +18,33 @@ use Rattle.refuse_tables.specs.TableClasses.{keyParts, keyUses}
 -- ---- what a key uses
 
 -- the parts of the key of Create, of CreateFunction, and of the three with a source
--- computed for each code
 module _ (code j : ℕ) where
   -- what the key of Create uses
-  -- computed for its code
   pub key-create : code ≡ 9 → getD (0 ∷ 1 ∷ 1 ∷ 0 ∷ []) j 0 ≡ keyUses code j
   unfolding keyUses keyParts
   key-create e = sym (ap (λ (k : ℕ). keyUses k j) e)
 
   -- what the key of CreateFunction uses
-  -- computed for its code
   pub key-function : code ≡ 13 → getD (0 ∷ 1 ∷ 0 ∷ 1 ∷ []) j 0 ≡ keyUses code j
   unfolding keyUses keyParts
   key-function e = sym (ap (λ (k : ℕ). keyUses k j) e)
 
   -- what the key of CreateFrom uses
-  -- computed for its code
   pub key-from : code ≡ 10 → getD (1 ∷ 1 ∷ 0 ∷ 0 ∷ []) j 0 ≡ keyUses code j
   unfolding keyUses keyParts
   key-from e = sym (ap (λ (k : ℕ). keyUses k j) e)
 
   -- what the first key of Assign uses
-  -- computed for its code
   pub key-assign : code ≡ 18 → getD (1 ∷ 1 ∷ 0 ∷ 0 ∷ []) j 0 ≡ keyUses code j
   unfolding keyUses keyParts
   key-assign e = sym (ap (λ (k : ℕ). keyUses k j) e)
 
   -- what the second key of Assign uses
-  -- computed for its code
   pub key-assign-primitive : code ≡ 19 → getD (1 ∷ 1 ∷ 0 ∷ 0 ∷ []) j 0 ≡ keyUses code j
   unfolding keyUses keyParts
   key-assign-primitive e = sym (ap (λ (k : ℕ). keyUses k j) e)
 
   -- any other code is not cached
-  -- it uses nothing
   key-other : (code ≡ 9 → ⊥) → (code ≡ 13 → ⊥) → (code ≡ 10 → ⊥) → (code ≡ 18 → ⊥) → (code ≡ 19 → ⊥) → 0 ≡ keyUses code j
   unfolding keyUses keyParts
   key-other a b c d e =
@@ -63,18 +56,15 @@ module _ (code j : ℕ) where
       ∙ List·getD-eq-default [] 0 {n = j} (omega arith))
 
   -- a code without a source: Create, CreateFunction, or one that is not cached
-  -- what holds of these three holds of it
   sourceless : (code ≡ 10 → ⊥) → (code ≡ 18 → ⊥) → (code ≡ 19 → ⊥) → (x : ℕ) → (code ≡ 9 → x ≡ keyUses code j) → (code ≡ 13 → x ≡ keyUses code j)
       → ((code ≡ 9 → ⊥) → (code ≡ 13 → ⊥) → x ≡ 0) → x ≡ keyUses code j
   sourceless c d e x p q r = ⊎-elim p (λ a. ⊎-elim q (λ b. r a b ∙ key-other a b c d e) (same-or-not code 13)) (same-or-not code 9)
 
 -- a code without a source uses none
--- the last way through the code
 pub source-none : (code : ℕ) → (code ≡ 10 → ⊥) → (code ≡ 18 → ⊥) → (code ≡ 19 → ⊥) → 0 ≡ keyUses code 0
 source-none code c d e = sourceless code 0 c d e 0 (key-create code 0) (key-function code 0) (λ a b. refl)
 
 -- apart from Create and CreateFunction a key has a destination where it has a source
--- the last way through the code
 pub destination-other : (code r : ℕ) → (code ≡ 9 → ⊥) → (code ≡ 13 → ⊥) → r ≡ keyUses code 0 → r ≡ keyUses code 1
 destination-other code r a b h =
     h
@@ -87,7 +77,6 @@ destination-other code r a b h =
     (same-or-not code 10)
 
 -- kinds and reasons belong to Create
--- no other key has them
 pub only-kind : (code : ℕ) → only 9 code ≡ keyUses code 2
 only-kind code =
     ⊎-elim (λ e. ite-eq code 9 1 0 e ∙ key-create code 2 e)
@@ -96,7 +85,6 @@ only-kind code =
     (same-or-not code 9)
 
 -- functions and captures belong to CreateFunction
--- no other key has them
 pub only-function : (code : ℕ) → only 13 code ≡ keyUses code 3
 only-function code =
     ⊎-elim (λ e. ite-eq code 13 1 0 e ∙ key-function code 3 e)

@@ -26,7 +26,6 @@ use Rattle.refuse_tables.specs.TableClasses.{identifierLimit, identifier
 
 module _ (flags w : ℕ) where
   -- the flags
-  -- two of them
   pub identifier-flags : w ≡ 0 → some 4 ≡ identifierLimit flags w
   unfolding identifierLimit
   identifier-flags e = sym (ap (identifierLimit flags) e)
@@ -38,7 +37,6 @@ module _ (flags w : ℕ) where
   identifier-name e = sym (ap (identifierLimit flags) e)
 
   -- the access
-  -- two words
   pub identifier-access : (o : Option ℕ) → (w ≡ 0 → ⊥) → (w ≡ 1 → ⊥) → w < 4 → o ≡ usedIf (flags / 2 % 2) any → o ≡ identifierLimit flags w
   unfolding identifierLimit
   identifier-access o a b l h =
@@ -49,13 +47,11 @@ module _ (flags w : ℕ) where
       (same-or-not w 2)
 
   -- an identifier has four words
-  -- nothing stands after them
   pub identifier-past : 4 ≤ w → none ≡ identifierLimit flags w
   unfolding identifierLimit
   identifier-past l = sym (List·getD-eq-default (some 4 ∷ some 513 ∷ usedIf (flags / 2 % 2) any ∷ usedIf (flags / 2 % 2) any ∷ []) none l)
 
 -- the class of an identifier is that of its record
--- the code reads its flags once
 pub identifier-is : (c : List ℕ) (i flags r : ℕ) → flags ≡ field Layout.identifiers c i 0 → r ≡ recordClass Layout.identifiers c (identifierLimit flags) i → r ≡ identifierClass c i
 unfolding identifierClass
 identifier-is c i flags r h g = g ∙ ap (λ (x : ℕ). recordClass Layout.identifiers c (identifierLimit x) i) h
@@ -64,19 +60,16 @@ identifier-is c i flags r h g = g ∙ ap (λ (x : ℕ). recordClass Layout.ident
 
 module _ (identifiers inside w : ℕ) where
   -- a word of the places mutated inside
-  -- the first way through the code
   pub function-place : (o : Option ℕ) → 3 ≤ w → o ≡ runLimit identifiers inside (w - 3) → o ≡ functionLimit identifiers inside w
   unfolding functionLimit
   function-place o l h = h ∙ sym (ite-ge w 3 (getD (some 4 ∷ any ∷ any ∷ []) w none) (runLimit identifiers inside (w - 3)) l)
 
   -- the flags
-  -- two of them
   pub function-flags : w ≡ 0 → some 4 ≡ functionLimit identifiers inside w
   unfolding functionLimit
   function-flags e = sym (ap (functionLimit identifiers inside) e)
 
   -- a count
-  -- tested apart
   pub function-count : w < 3 → (w ≡ 0 → ⊥) → any ≡ functionLimit identifiers inside w
   unfolding functionLimit
   function-count l z =
@@ -87,50 +80,42 @@ module _ (identifiers inside w : ℕ) where
 
 module _ (flags inside : ℕ) where
   -- the effects are known
-  -- the first way through the code
   pub known-yes : flags % 2 ≡ 1 → false ≡ needsKnown flags inside
   unfolding needsKnown
   known-yes e = sym (and-false (flagTwo flags || not (eqb inside 0)) (not (flagOne flags)) (ap not (eq-eqb (flags % 2) 1 e)))
 
   module _ (n : flags % 2 ≡ 1 → ⊥) where
     -- the effects are not known, so what needs them decides
-    -- the other two ways
     unknown : (b : Bool) → b ≡ (flagTwo flags || not (eqb inside 0)) → b ≡ needsKnown flags inside
     unfolding needsKnown
     unknown true h = sym (and-true (flagTwo flags || not (eqb inside 0)) (not (flagOne flags)) (sym h) (ap not (ne-eqb (flags % 2) 1 n)))
     unknown false h = sym (ap (λ (b : Bool). b && not (flagOne flags)) (sym h))
 
     -- a tracked side effect
-    -- the second way
     pub known-tracked : flags / 2 % 2 ≡ 1 → true ≡ needsKnown flags inside
     known-tracked e = unknown true (sym (or-first (flagTwo flags) (not (eqb inside 0)) (eq-eqb (flags / 2 % 2) 1 e)))
 
     -- a place mutated inside
-    -- the last way
     pub known-inside : (flags / 2 % 2 ≡ 1 → ⊥) → not (eqb inside 0) ≡ needsKnown flags inside
     known-inside z = unknown (not (eqb inside 0)) (sym (or-second (flagTwo flags) (not (eqb inside 0)) (ne-eqb (flags / 2 % 2) 1 z)))
 
 module _ (n inside : ℕ) where
   -- too many context places
-  -- the first way through the code
   pub places-context : 16 < n → 2 ≡ placesClass n inside
   unfolding placesClass
   places-context l = sym (ap (earns 2) (or-first (ltb 16 n) (ltb 32 inside) (lt-ltb 16 n l)))
 
   -- too many places mutated inside
-  -- the second way
   pub places-inside : n ≤ 16 → 32 < inside → 2 ≡ placesClass n inside
   unfolding placesClass
   places-inside l k = sym (ap (earns 2) (or-second (ltb 16 n) (ltb 32 inside) (le-ltb 16 n l) ∙ lt-ltb 32 inside k))
 
   -- not too many of either
-  -- the last way
   pub places-fit : n ≤ 16 → inside ≤ 32 → 0 ≡ placesClass n inside
   unfolding placesClass
   places-fit l k = sym (ap (earns 2) (or-neither (ltb 16 n) (ltb 32 inside) (le-ltb 16 n l) (le-ltb 32 inside k)))
 
 -- the class of a function is that of its parts
--- the code reads its flags and counts once
 pub function-is : (identifiers : ℕ) (c : List ℕ) (f flags n inside ws ps ks cs a b r : ℕ) (k : Bool) → flags ≡ field Layout.functions c f 0 → n ≡ field Layout.functions c f 1 → inside ≡ field Layout.functions c f 2
     → ws ≡ recordClass Layout.functions c (functionLimit identifiers inside) f → ps ≡ recordClass Layout.contexts c (runLimit identifiers n) f
     → k ≡ needsKnown flags inside → ks ≡ earns 3 k → cs ≡ placesClass n inside → a ≡ lower ks ps → b ≡ lower ws a → r ≡ lower cs b → r ≡ functionClass identifiers c f
@@ -145,14 +130,12 @@ function-is identifiers c f flags n inside ws ps ks cs a b r k hf hn hi hw hp hk
 
 module _ (functions v flag w : ℕ) where
   -- value number 0
-  -- it has no link
   pub link-zero : v ≡ 0 → none ≡ linkLimit functions v flag w
   unfolding linkLimit
   link-zero e = sym (ite-eq v 0 none (getD (some 2 ∷ usedIf flag (some functions) ∷ []) w none) e)
 
   module _ (n : v ≡ 0 → ⊥) where
     -- the link of another number
-    -- what the other ways have in common
     linked : getD (some 2 ∷ usedIf flag (some functions) ∷ []) w none ≡ linkLimit functions v flag w
     unfolding linkLimit
     linked = sym (ite-ne v 0 none (getD (some 2 ∷ usedIf flag (some functions) ∷ []) w none) n)
@@ -163,18 +146,15 @@ module _ (functions v flag w : ℕ) where
     link-flag e = sym (ap (λ (x : ℕ). getD (some 2 ∷ usedIf flag (some functions) ∷ []) x none) e) ∙ linked
 
     -- its function
-    -- below their number
     pub link-function : (o : Option ℕ) → w ≡ 1 → o ≡ usedIf flag (limitOf (functions + 1)) → o ≡ linkLimit functions v flag w
     link-function o e h =
         h ∙ ap (λ (x : ℕ). usedIf flag (limitOf x)) (add-one functions) ∙ sym (ap (λ (x : ℕ). getD (some 2 ∷ usedIf flag (some functions) ∷ []) x none) e) ∙ linked
 
     -- a link has two words
-    -- nothing stands after them
     pub link-past : (w ≡ 0 → ⊥) → (w ≡ 1 → ⊥) → none ≡ linkLimit functions v flag w
     link-past a b = sym (List·getD-eq-default (some 2 ∷ usedIf flag (some functions) ∷ []) none {n = w} (omega arith)) ∙ linked
 
 -- the class of a link is that of its record
--- the code reads its flag once
 pub link-is : (functions : ℕ) (c : List ℕ) (v flag r : ℕ) → flag ≡ field Layout.links c v 0 → r ≡ recordClass Layout.links c (linkLimit functions v flag) v → r ≡ linkClass functions c v
 unfolding linkClass
 link-is functions c v flag r h g = g ∙ ap (λ (x : ℕ). recordClass Layout.links c (linkLimit functions v x) v) h
@@ -183,13 +163,11 @@ link-is functions c v flag r h g = g ∙ ap (λ (x : ℕ). recordClass Layout.li
 
 module _ (identifiers case w : ℕ) where
   -- the identity
-  -- there are no more than records
   pub diagnostic-identity : w ≡ 0 → some 256 ≡ diagnosticLimit identifiers case w
   unfolding diagnosticLimit
   diagnostic-identity e = sym (ap (diagnosticLimit identifiers case) e)
 
   -- the identifier
-  -- below their number
   pub diagnostic-identifier : w ≡ 1 → limitOf (identifiers + 1) ≡ diagnosticLimit identifiers case w
   unfolding diagnosticLimit
   diagnostic-identifier e = ap limitOf (add-one identifiers) ∙ sym (ap (diagnosticLimit identifiers case) e)
@@ -207,7 +185,6 @@ module _ (identifiers case w : ℕ) where
   diagnostic-sentence e z = sym (ap (diagnosticLimit identifiers case) e ∙ ite-eq case 0 (some 11) none z)
 
   -- the sentence of case 1
-  -- it has none
   pub diagnostic-silent : w ≡ 3 → (case ≡ 0 → ⊥) → none ≡ diagnosticLimit identifiers case w
   unfolding diagnosticLimit
   diagnostic-silent e z = sym (ap (diagnosticLimit identifiers case) e ∙ ite-ne case 0 (some 11) none z)
@@ -219,7 +196,6 @@ module _ (identifiers case w : ℕ) where
   diagnostic-name e = sym (ap (diagnosticLimit identifiers case) e)
 
   -- both spans
-  -- any four words
   pub diagnostic-spans : 5 ≤ w → w < 9 → any ≡ diagnosticLimit identifiers case w
   unfolding diagnosticLimit
   diagnostic-spans a l =
@@ -232,47 +208,39 @@ module _ (identifiers case w : ℕ) where
       (same-or-not w 5)
 
   -- a diagnostic has nine words
-  -- nothing stands after them
   pub diagnostic-past : 9 ≤ w → none ≡ diagnosticLimit identifiers case w
   unfolding diagnosticLimit
   diagnostic-past l = sym (List·getD-eq-default (some 256 ∷ some identifiers ∷ some 2 ∷ ite (eqb case 0) (some 11) none ∷ some 513 ∷ any ∷ any ∷ any ∷ any ∷ []) none l)
 
 -- a number that is none of the first five
--- the code has tested each
 pub from-five : (w : ℕ) → (w ≡ 0 → ⊥) → (w ≡ 1 → ⊥) → (w ≡ 2 → ⊥) → (w ≡ 3 → ⊥) → (w ≡ 4 → ⊥) → 5 ≤ w
 from-five w a b c d e = omega arith
 
 module _ (case start end : ℕ) where
   -- another case
-  -- the first way through the code
   pub label-case : (case ≡ 0 → ⊥) → 0 ≡ labelClass case start end
   unfolding labelClass
   label-case n = sym (ap (λ (b : Bool). earns 4 (b && not (eqSpan (record { start = start; end = end }) noSpan))) (ne-eqb case 0 n))
 
   module _ (z : case ≡ 0) where
     -- case 0: its span decides
-    -- the other ways
     labelled : (b : Bool) → eqb start 4294967295 && eqb end 4294967295 ≡ b → earns 4 (not b) ≡ labelClass case start end
     unfolding labelClass eqSpan
     labelled b h = sym (ap₂ (λ (x y : Bool). earns 4 (x && not y)) (eq-eqb case 0 z) h)
 
     -- a start
-    -- the second way
     pub label-start : (start ≡ 4294967295 → ⊥) → 4 ≡ labelClass case start end
     label-start n = labelled false (ap (λ (b : Bool). b && eqb end 4294967295) (ne-eqb start 4294967295 n))
 
     -- an end
-    -- the third way
     pub label-end : (end ≡ 4294967295 → ⊥) → 4 ≡ labelClass case start end
     label-end n = labelled false (and-false (eqb start 4294967295) (eqb end 4294967295) (ne-eqb end 4294967295 n))
 
     -- no span
-    -- the last way
     pub label-none : start ≡ 4294967295 → end ≡ 4294967295 → 0 ≡ labelClass case start end
     label-none a b = labelled true (and-true (eqb start 4294967295) (eqb end 4294967295) (eq-eqb start 4294967295 a) (eq-eqb end 4294967295 b))
 
 -- the class of a diagnostic by its words is that of its parts
--- the code reads its case once
 pub message-is : (identifiers : ℕ) (c : List ℕ) (k case start end ws ls r : ℕ) → case ≡ field Layout.diagnostics c k 2 → start ≡ field Layout.diagnostics c k 5 → end ≡ field Layout.diagnostics c k 6
     → ws ≡ recordClass Layout.diagnostics c (diagnosticLimit identifiers case) k → ls ≡ labelClass case start end → r ≡ lower ws ls → r ≡ messageClass identifiers c k
 unfolding messageClass

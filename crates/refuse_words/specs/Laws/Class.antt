@@ -21,13 +21,11 @@ use Rattle.refuse_words.specs.Classes.{lowestBelow, earns, wordClass, li
 
 module _ (l x : ℕ) where
   -- an unused word that is zero
-  -- the first way through the code
   pub word-zero : l ≡ 0 → x ≡ 0 → 0 ≡ wordClass (limitOf l) x
   unfolding wordClass
   word-zero e z = sym (ap₂ (λ (a b : ℕ). wordClass (limitOf a) b) e z)
 
   -- an unused word that is not
-  -- the second way
   pub word-stray : l ≡ 0 → (x ≡ 0 → ⊥) → 4 ≡ wordClass (limitOf l) x
   unfolding wordClass
   word-stray e n = sym (ap (λ (a : ℕ). wordClass (limitOf a) x) e ∙ ap (λ (b : Bool). earns 4 (not b)) (ne-eqb x 0 n))
@@ -41,12 +39,10 @@ module _ (l x : ℕ) where
       ap (λ (a : ℕ). wordClass (limitOf a) x) e
 
   -- a word below its limit
-  -- the third way
   pub word-below : (l ≡ 0 → ⊥) → x < l - 1 → 0 ≡ wordClass (limitOf l) x
   word-below n h = sym (limited n ∙ ap (λ (b : Bool). earns 3 (not b)) (lt-ltb x (l - 1) h))
 
   -- a word past its limit
-  -- the last way
   pub word-past : (l ≡ 0 → ⊥) → l - 1 ≤ x → 3 ≡ wordClass (limitOf l) x
   word-past n h = sym (limited n ∙ ap (λ (b : Bool). earns 3 (not b)) (le-ltb x (l - 1) h))
 
@@ -61,13 +57,11 @@ used-yes u o n =
 
 module _ (n w : ℕ) where
   -- the identifier
-  -- it is below their number
   pub place-identifier : w ≡ 0 → limitOf (n + 1) ≡ placeLimit n w
   unfolding placeLimit
   place-identifier e = ap limitOf (add-one n) ∙ sym (ap (placeLimit n) e)
 
   -- the effect
-  -- there are eight
   pub place-effect : w ≡ 1 → some 8 ≡ placeLimit n w
   unfolding placeLimit
   place-effect e = sym (ap (placeLimit n) e)
@@ -79,7 +73,6 @@ module _ (n w : ℕ) where
   place-reactive e = sym (ap (placeLimit n) e)
 
   -- the span
-  -- any two words
   pub place-span : (w ≡ 0 → ⊥) → (w ≡ 1 → ⊥) → (w ≡ 2 → ⊥) → w < 5 → any ≡ placeLimit n w
   unfolding placeLimit
   place-span a b c l =
@@ -89,13 +82,11 @@ module _ (n w : ℕ) where
       (same-or-not w 3)
 
   -- a place has five words
-  -- nothing stands after them
   pub place-past : 5 ≤ w → none ≡ placeLimit n w
   unfolding placeLimit
   place-past l = sym (List·getD-eq-default (some n ∷ some 8 ∷ some 2 ∷ any ∷ any ∷ []) none l)
 
 -- a word of a place that is used
--- the number of places is widened
 pub run-used : (i n w m : ℕ) (o : Option ℕ) → m ≡ n → w / 5 < m → o ≡ placeLimit i (w % 5) → o ≡ runLimit i n w
 unfolding runLimit
 run-used i n w m o e h q =
@@ -103,7 +94,6 @@ run-used i n w m o e h q =
     q ∙ sym (ite-lt (w / 5) n (placeLimit i (w % 5)) none k)
 
 -- a word of a place that is not
--- it has no use
 pub run-past : (i n w m : ℕ) → m ≡ n → m ≤ w / 5 → none ≡ runLimit i n w
 unfolding runLimit
 run-past i n w m e h =
@@ -113,19 +103,16 @@ run-past i n w m e h =
 -- ---- the lowest class
 
 -- no test, no class
--- where a loop begins
 pub lowest-none : (f : ℕ → ℕ) → 0 ≡ lowestBelow 0 f
 unfolding lowestBelow
 lowest-none f = refl
 
 -- a test more
--- a turn of a loop
 pub lowest-more : (f : ℕ → ℕ) (k w x r : ℕ) → w ≡ lowestBelow k f → x ≡ f k → r ≡ lower w x → r ≡ lowestBelow (k + 1) f
 unfolding lowestBelow
 lowest-more f k w x r p q h = h ∙ ap₂ lower p q ∙ sym (ap (λ (n : ℕ). lowestBelow n f) (add-one k))
 
 -- all tests
--- where a loop ends
 pub lowest-end : (f : ℕ → ℕ) (n k w : ℕ) → k ≤ n → n ≤ k → w ≡ lowestBelow k f → w ≡ lowestBelow n f
 lowest-end f n k w a b h =
     let e : k ≡ n = omega arith in
@@ -135,19 +122,16 @@ lowest-end f n k w a b h =
 
 module _ (t : Table) (c : List ℕ) (limit : ℕ → Option ℕ) (i : ℕ) where
   -- no word yet
-  -- where a loop begins
   pub words-none : 0 ≡ wordsBelow t c limit i 0
   unfolding wordsBelow
   words-none = lowest-none (λ w. wordClass (limit w) (field t c i w))
 
   -- a word more
-  -- a turn of a loop
   pub words-more : (k : ℕ) (o : Option ℕ) (x y w r : ℕ) → w ≡ wordsBelow t c limit i k → o ≡ limit k → x ≡ field t c i k → y ≡ wordClass o x → r ≡ lower w y → r ≡ wordsBelow t c limit i (k + 1)
   unfolding wordsBelow
   words-more k o x y w r p a b d h = lowest-more (λ w. wordClass (limit w) (field t c i w)) k w y r p (d ∙ ap₂ wordClass a b) h
 
   -- all words
-  -- where a loop ends
   pub words-end : (k w : ℕ) → k ≤ t .width → t .width ≤ k → w ≡ wordsBelow t c limit i k → w ≡ recordClass t c limit i
   unfolding recordClass
   words-end k w a b h =

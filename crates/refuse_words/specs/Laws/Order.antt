@@ -15,7 +15,6 @@ use Rattle.refuse_class.specs.Laws.Class.{lower-none, lower-alone, lower-first,
 use Rattle.refuse_words.specs.Classes.{lowestBelow, earns, wordClass, wordsBelow, recordClass}
 
 -- the lower of two classes is one of them
--- whatever holds of both holds of it
 pub lower-either : (a b : ℕ) → (lower a b ≡ a) ⊎ (lower a b ≡ b)
 lower-either a b =
     ⊎-elim
@@ -33,7 +32,6 @@ pub data Class : ℕ → Type 0 where
   something : {n : ℕ} → 2 ≤ n → n ≤ 4 → Class n
 
 -- a class of 0, or from 2 on
--- every test but that of a length earns such
 pub data Later : ℕ → Type 0 where
   nothing : {n : ℕ} → n ≡ 0 → Later n
   something : {n : ℕ} → 2 ≤ n → Later n
@@ -46,12 +44,10 @@ class-later n (Class.something a b) = Later.something a
 
 module _ (P : ℕ → Type 0) where
   -- what holds of two classes holds of the lower
-  -- it is one of them
   pub lower-keeps : (a b : ℕ) → P a → P b → P (lower a b)
   lower-keeps a b p q = ⊎-elim (λ e. subst P (sym e) p) (λ e. subst P (sym e) q) (lower-either a b)
 
   -- what holds of 0 and of each class holds of the lowest
-  -- a loop comes to it turn by turn
   pub lowest-keeps : (n : ℕ) (f : ℕ → ℕ) → P 0 → ((k : ℕ) → P (f k)) → P (lowestBelow n f)
   unfolding lowestBelow
   lowest-keeps zero f z h = z
@@ -64,20 +60,17 @@ earns-class n true h k = Class.something h k
 earns-class n false h k = Class.nothing refl
 
 -- a word earns nothing, 3 or 4
--- whatever its limit
 pub word-class : (o : Option ℕ) (x : ℕ) → Class (wordClass o x)
 unfolding wordClass
 word-class none x = earns-class 4 (not (eqb x 0)) (omega arith) (omega arith)
 word-class (some l) x = earns-class 3 (not (ltb x l)) (omega arith) (omega arith)
 
 -- a record earns nothing, 3 or 4
--- whatever its limits
 pub record-class : (t : Table) (c : List ℕ) (limit : ℕ → Option ℕ) (i : ℕ) → Class (recordClass t c limit i)
 unfolding recordClass wordsBelow
 record-class t c limit i = lowest-keeps Class (t .width) (λ w. wordClass (limit w) (field t c i w)) (Class.nothing refl) (λ w. word-class (limit w) (field t c i w))
 
 -- 2 is the lower of 2 and any class from 2 on
--- a count above its limit decides alone
 pub two-first : (b : ℕ) → Later b → 2 ≡ lower 2 b
 two-first b (Later.nothing e) = lower-alone 2 b (λ z. absurd (omega arith)) e
 two-first b (Later.something h) = lower-first 2 b (λ z. absurd (omega arith)) (λ z. absurd (omega arith)) h

@@ -24,7 +24,6 @@ use Rattle.refuse_words.specs.Laws.Class.{word-zero, lowest-none, lowest
 -- ---- the lowest class
 
 -- tests that earn nothing may be left out at the end
--- the words past the end of the list
 lowest-rest : (f : ℕ → ℕ) (m n : ℕ) → m ≤ n → ((k : ℕ) → m ≤ k → k < n → f k ≡ 0) → lowestBelow m f ≡ lowestBelow n f
 unfolding lowestBelow
 lowest-rest f m zero l h = let e : m ≡ 0 = omega arith in ap (λ (x : ℕ). lowestBelow x f) e
@@ -35,51 +34,42 @@ lowest-rest f m (suc n) l h =
     (lt-or-ge m (suc n))
   where
     -- the lower of a class and none
-    -- the class itself
     kept : (a b : ℕ) → b ≡ 0 → a ≡ lower a b
     kept a b z = ⊎-elim (λ e. e ∙ sym z ∙ lower-none a b e) (λ n. lower-alone a b n z) (same-or-not a 0)
 
 -- ---- bits
 
 -- numbers of which one and the other have no bit
--- what the sum of both says
 zeros : (x y a b : ℕ) → x + y ≡ a + b → y ≤ a → y ≤ b → x ≡ 0 → a ≡ 0
 zeros x y a b e p q z = omega arith
 
 -- a number with a bit keeps it
--- whatever is gathered after it
 or-some : (a b : ℕ) → (a ≡ 0 → ⊥) → bitOr a b ≡ 0 → ⊥
 or-some a b n e = n (zeros (bitOr a b) (bitAnd a b) a b (or-add-and a b) (and-le-l a b) (and-le-r a b) e)
 
 -- 4 where a number has a bit
--- of one word, and of all that were gathered
 abbrev pub bitClass : ℕ → ℕ
 bitClass x = earns 4 (not (eqb x 0))
 
 -- it is 0 of 0
--- no bit
 pub bit-none : (x : ℕ) → x ≡ 0 → 0 ≡ bitClass x
 bit-none x e = sym (ap (λ (b : Bool). earns 4 (not b)) (eq-eqb x 0 e))
 
 -- and 4 of any other
--- one bit is enough
 pub bit-some : (x : ℕ) → (x ≡ 0 → ⊥) → 4 ≡ bitClass x
 bit-some x n = sym (ap (λ (b : Bool). earns 4 (not b)) (ne-eqb x 0 n))
 
 -- the lower of 4 and none
--- unused words earn no other class
 four-none : lower 4 0 ≡ 4
 unfolding lower
 four-none = refl
 
 -- the lower of 4 and 4
--- two unused words may both be set
 four-both : lower 4 4 ≡ 4
 unfolding lower
 four-both = refl
 
 -- the class of two words is that of their bits together
--- a turn of the loop
 gathered : (a x : ℕ) → lower (bitClass a) (bitClass x) ≡ bitClass (bitOr a x)
 gathered a x =
     ⊎-elim
@@ -100,19 +90,16 @@ module _ (c : List ℕ) (from n : ℕ) where
   lent-none h = sym (ite-ge from (length c) (ite (ltb n (length c - from)) n (length c - from)) 0 h)
 
   -- all n stand in the list
-  -- the second way
   pub lent-all : from < length c → n < length c - from → n ≡ lentFrom c from n
   unfolding lentFrom
   lent-all h k = sym (ite-lt from (length c) (ite (ltb n (length c - from)) n (length c - from)) 0 h ∙ ite-lt n (length c - from) n (length c - from) k)
 
   -- the list ends before
-  -- the third way
   pub lent-some : from < length c → length c - from ≤ n → length c - from ≡ lentFrom c from n
   unfolding lentFrom
   lent-some h k = sym (ite-lt from (length c) (ite (ltb n (length c - from)) n (length c - from)) 0 h ∙ ite-ge n (length c - from) n (length c - from) k)
 
   -- what is counted stands in the list, and is one of n
-  -- so it may be read, and its class counts
   pub lent-in : (m k : ℕ) → m ≡ lentFrom c from n → k < m → (from + k < length c) × (k < n)
   lent-in m k e l =
       ⊎-elim
@@ -125,7 +112,6 @@ module _ (c : List ℕ) (from n : ℕ) where
       (lt-or-ge from (length c))
 
   -- one of n that is not counted stands past the end
-  -- it is zero
   pub lent-past : (k : ℕ) → k < n → lentFrom c from n ≤ k → length c ≤ from + k
   lent-past k l g =
       ⊎-elim
@@ -138,18 +124,15 @@ module _ (c : List ℕ) (from n : ℕ) where
       (lt-or-ge from (length c))
 
   -- no more are counted than there are to count
-  -- the rest stands past the end
   lent-le : lentFrom c from n ≤ n
   lent-le = ⊎-elim (λ l. let h = lent-in (lentFrom c from n) n refl l in absurd (omega (arith, h .1))) (λ l. l) (lt-or-ge n (lentFrom c from n))
 
   -- no word is gathered yet
-  -- where the loop begins
   pub stray-start : bitClass 0 ≡ strayFrom c from 0
   unfolding strayFrom
   stray-start = lowest-none (λ j. wordClass none (getD c (from + j) 0))
 
   -- a word more
-  -- a turn of the loop
   pub stray-more : (k a x : ℕ) → bitClass a ≡ strayFrom c from k → x ≡ getD c (from + k) 0 → bitClass (bitOr a x) ≡ strayFrom c from (k + 1)
   unfolding strayFrom wordClass
   stray-more k a x h e =
@@ -166,7 +149,6 @@ module _ (c : List ℕ) (from n : ℕ) where
       (λ j r l. sym (word-zero 0 (getD c (from + j) 0) refl (List·getD-eq-default c 0 (lent-past j l r))))
 
 -- the number of words that are left fits 64 bits
--- the code multiplies without a test
 pub left-fits : (n m v : ℕ) → m < 4294967296 → v < 4294967296 → (m - n) * v ≤ 18446744065119617025
 left-fits n m v h k =
     let x : m - n ≤ 4294967295 = omega arith in
@@ -184,7 +166,6 @@ after-none t c n m e h =
     lowest-none (λ k. wordClass none (getD c (index t n 0 + k) 0)) ∙ ap (λ (x : ℕ). lowestBelow x (λ k. wordClass none (getD c (index t n 0 + k) 0))) y
 
 -- the words of the records that are left
--- the second way
 pub after-some : (t : Table) (c : List ℕ) (n b w v m r : ℕ) → b ≡ t .base → w ≡ t .width → m ≡ t .count → v ≡ t .width → r ≡ strayFrom c (b + n * w) ((m - n) * v) → r ≡ strayAfter t c n
 unfolding strayAfter index
 after-some t c n b w v m r p q s u h =

@@ -72,7 +72,6 @@ unfolding rowWord rowNumber
 row-word-is rs i w x e f h = sym (word-number 16 rs (i * 16) w h ∙ ap (λ (y : ℕ). y % 2 ^ 64) (sym e) ∙ mod-eq-of-lt f)
 
 -- word k of row i has each bit that the other row's has
--- what the loop knows of the words that it passed
 abbrev pub Covers : List ℕ → List ℕ → ℕ → ℕ → Type 0
 Covers rs qs i k = bitOr (wordOf (rowNumber rs i) k) (wordOf (rowNumber qs i) k) ≡ wordOf (rowNumber rs i) k
 

@@ -22,7 +22,6 @@ use Rattle.state_merge_calls.specs.declared.MergeAnswer.{MergeAnswer}
 use Rattle.state_merge_calls.specs.declared.SessionAnswer.{SessionAnswer}
 
 -- a value of a type that is said
--- records that are equal part by part are named so
 abbrev pub the : (A : Type 0) → A → A
 the A x = x
 

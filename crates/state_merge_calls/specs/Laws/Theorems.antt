@@ -101,7 +101,6 @@ third-number vs ss ws ts s vc sc = lower-lengths (length vc) 1024 (length sc) (l
 -- ---- two states that are not refused
 
 -- what is known of their lists: 1,024 words of values each, and 16 words for each of the same identifiers, of which there are at most 512
--- so the laws of merges over lists hold of them
 pub record Pair (vs ss ws ts : List ℕ) : Type 0 where
   pub values1 : length vs ≡ 1024
   pub values2 : length ws ≡ 1024
