@@ -38,8 +38,14 @@ GROUPS = [
 ]
 KIT = ["check", "bytes", "os", "io", "libc"]
 
-# Crates that are proved after others only so that a long check has company: name, the crate it waits for.
-AFTER = {}
+# Crates that wait for another one only so that a long check has company, as the steps up to the call have none of their own:
+# effect_apply, call_apply and image_infer would each leave a processor idle.
+AFTER = {
+    "test_state": ["effect_plain"],
+    "image_class4": ["effect_apply"],
+    "image_listing": ["call_class"],
+    "bench_state": ["call_class"],
+}
 
 
 # The crates of the repository.

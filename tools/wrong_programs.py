@@ -1,14 +1,13 @@
 #!/usr/bin/env python3
-"""Tries wrong programs of some crates, and of no other: each edit must be refused by the prover.
+"""Tries the wrong programs of some crates, and of no other: each edit must be refused by the prover.
 
-    python3 tools/wrong_programs.py NAME..          the edits of crates/NAME/must-fail and crates/NAME/wrong
-    python3 tools/wrong_programs.py --wrong [NAME..]  those of crates/NAME/wrong alone; with no name of every crate
-    python3 tools/wrong_programs.py --jobs 2 NAME..   so many at once (default 2)
+    python3 tools/wrong_programs.py NAME..           the edits of crates/NAME/must-fail
+    python3 tools/wrong_programs.py --jobs 2 NAME..  so many at once (default 2)
+    python3 tools/wrong_programs.py --fit [NAME..]   only whether each edit fits its crate; with no name of every crate; in a second
 
-`rt ci`, the gate, tries the edits of must-fail; those of wrong are further wrong programs that it has no time for
-(docs/DECISIONS.md, 33). `rt must-fail NAME` would try the edits of every library below NAME too. The libraries must be
-proved before: `rt check NAME`. An edit is one or more lines `file:`, `old:`, `new:`, as `rt` reads it. Prints for each
-edit where the prover refuses it first, and what it says there; exit status 1 if one is not refused.
+`rt must-fail NAME` would try the edits of every library below NAME too. The libraries must be proved before: `rt check NAME`.
+An edit is one or more lines `file:`, `old:`, `new:`, as `rt` reads it. Prints for each edit where the prover refuses it first, and
+what it says there; exit status 1 if one is not refused, or does not fit.
 """
 
 import argparse
@@ -102,26 +101,37 @@ def attempt(edit):
         return bool(refused), "%s: %s (%.0f s) %s" % (label, "refused" if refused else "NOT REFUSED", time.time() - begun, said)
 
 
+# Whether an edit fits its crate: (whether it does, a line that says so).
+# Nothing is proved.
+def fits(edit):
+    name = edit.split(os.sep)[-3]
+    with tempfile.TemporaryDirectory() as where:
+        for part in ("src", "specs", "proofs"):
+            if os.path.isdir(os.path.join(ROOT, "crates", name, part)):
+                shutil.copytree(os.path.join(ROOT, "crates", name, part), os.path.join(where, part))
+        slip = apply(edit, where)
+    return not slip, "%s/%s: %s" % (name, os.path.basename(edit)[:-5], "BAD EDIT: " + slip if slip else "fits")
+
+
 # Reads the command line, tries the edits and counts.
-# In the order of their names.
 def main():
     parser = argparse.ArgumentParser()
     parser.add_argument("names", nargs="*")
-    parser.add_argument("--wrong", action="store_true")
+    parser.add_argument("--fit", action="store_true")
     parser.add_argument("--jobs", type=int, default=2)
     args = parser.parse_args()
-    if not args.names and not args.wrong:
-        parser.error("a crate's name, or --wrong")
+    if not args.names and not args.fit:
+        parser.error("a crate's name, or --fit")
     edits = []
-    for folder in ["wrong"] if args.wrong else ["must-fail", "wrong"]:
-        for name in args.names or ["*"]:
-            edits += glob.glob(os.path.join(ROOT, "crates", name, folder, "*.edit"))
+    for name in args.names or ["*"]:
+        edits += glob.glob(os.path.join(ROOT, "crates", name, "must-fail", "*.edit"))
     failed = 0
     with concurrent.futures.ThreadPoolExecutor(args.jobs) as pool:
-        for refused, line in pool.map(attempt, sorted(edits)):
-            failed += not refused
-            print(line, flush=True)
-    print("%d wrong programs refused, %d not" % (len(edits) - failed, failed))
+        for right, line in pool.map(fits if args.fit else attempt, sorted(edits)):
+            failed += not right
+            if not args.fit or not right:
+                print(line, flush=True)
+    print("%d wrong programs %s, %d not" % (len(edits) - failed, "fit" if args.fit else "refused", failed))
     sys.exit(1 if failed else 0)
 
 

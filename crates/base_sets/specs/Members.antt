@@ -3,6 +3,7 @@
 use Prim.Native.Nat.{ℕ, zero, suc, _/_, _%_, _^_}
 use mathlib.Core.List.{List, [], _∷_}
 use lib.Bits.{bitOr}
+use mathlib.Core.Option.{Option, none, some}
 
 -- b in front where the digit is set
 abbrev pub under : ℕ → ℕ → List ℕ → List ℕ
@@ -25,3 +26,13 @@ singleton v = 2 ^ v
 
 abbrev pub union : ℕ → ℕ → ℕ
 union m n = bitOr m n
+
+-- the values of a place, ascending; an undefined place has none (`values_for`)
+abbrev pub valuesOf : Option ℕ → List ℕ
+valuesOf none = []
+valuesOf (some s) = members s
+
+-- the bits of a set, none for one that is not there
+abbrev pub bitsOf : Option ℕ → ℕ
+bitsOf none = 0
+bitsOf (some s) = s

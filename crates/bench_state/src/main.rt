@@ -133,12 +133,12 @@ fn once(op: u32, values: &mut [u64], sets: &mut [u64], values2: &[u64], sets2: &
         return 0;
     }
     if op == 5 {
-        let a = state_reads::kind(values, sets, session(), 0);
+        let a = state_read_kinds::kind(values, sets, session(), 0);
         return a.refusal;
     }
     if op == 6 {
         thaw(values);
-        let a = state_writes::freeze(values, sets, session(), 0, 1);
+        let a = state_write_values::freeze(values, sets, session(), 0, 1);
         return flag(a.answer);
     }
     if op == 7 {
@@ -155,7 +155,7 @@ fn once(op: u32, values: &mut [u64], sets: &mut [u64], values2: &[u64], sets2: &
         return a.refusal;
     }
     if op == 8 {
-        return state_writes::infer_phi(values, sets, session(), 0, &[0u32, 1]);
+        return state_write_sets::infer_phi(values, sets, session(), 0, &[0u32, 1]);
     }
     empty(values, sets);
     0

@@ -1,28 +1,16 @@
 -- An instruction as it is lent, and what the code copies and keeps. Assumes nothing: these are definitions.
 use Prim.Native.Nat.{ℕ, zero, suc, _+_}
 use mathlib.Core.List.{List}
-use mathlib.Core.Option.{Option, none, some}
 use lib.ListN.{set}
 use Rattle.def_effects.specs.declared.Place.{Place}
-use Rattle.def_transfer.specs.Instruction.{Instruction}
+use Rattle.def_transfer.specs.Instruction.{Instruction, ownOf}
 use Rattle.lent_tables.specs.declared.Table.{Table}
 use Rattle.lent_tables.specs.Words.{field}
-use Rattle.lent_effects.specs.Records.{countedPlaces}
+use Rattle.lent_effects.specs.Records.{countedPlaces, candidateTable}
 use Rattle.lent_context.specs.Layout as Layout
 use Rattle.lent_context.specs.Lent.{effectsIn}
 use Rattle.lent_work.specs.declared.Run.{Run}
 use Rattle.effect_parts.specs.Parts.{withSession}
-
--- candidates are lent as records of 98 words
--- "candidates (64)"
-abbrev pub candidateTable : Table
-candidateTable = record { base = 0; count = 64; width = 98 }
-
--- "own function + 1 or 0"
--- the own function, if the instruction has one
-abbrev pub ownOf : ℕ → Option ℕ
-ownOf zero = none
-ownOf (suc f) = some f
 
 -- "An instruction is its candidates with their places and captures, its lvalue, and its own function if it has one."
 -- as it is lent: records of candidates, how many, a place, a number

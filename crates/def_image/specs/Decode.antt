@@ -5,7 +5,7 @@ use mathlib.Core.List.{List, [], _∷_}
 use mathlib.Core.Option.{Option, none, some}
 use lib.Dec.{eqb}
 use lib.ListN.{getD}
-use Rattle.base_sets.specs.Members.{singleton, union}
+use Rattle.base_sets.specs.Members.{singleton, union, bitsOf}
 use Rattle.def_kinds.specs.declared.AbstractValue.{AbstractValue}
 use Rattle.def_kinds.specs.Kinds.{kindAt}
 use Rattle.def_kinds.specs.Values.{mk}
@@ -15,9 +15,8 @@ use Rattle.def_effects.specs.declared.AliasingDiagnostic.{AliasingDiagnostic}
 use Rattle.def_effects.specs.Places.{noSpan}
 use Rattle.def_effects.specs.Effects.{AliasingEffect, Freeze, Mutate, MutateConditionally, MutateTransitive, MutateTransitiveConditionally, Capture, Alias, MaybeAlias, Assign, Create, CreateFrom, ImmutableCapture, CreateFunction, MutateFrozen, MutateGlobal, Impure, Render}
 use Rattle.def_transfer.specs.Tables.{World}
-use Rattle.def_transfer.specs.State.{bitsOf}
 use Rattle.def_transfer.specs.Pure.{at, pure, Function, Identifier}
-use Rattle.def_transfer.specs.Instruction.{Instruction}
+use Rattle.def_transfer.specs.Instruction.{Instruction, ownOf}
 use Rattle.def_image.specs.Layout.{Image, options, next, lvalue, own, identifiers, values, pairs, functions, candidates, countOf, identifierFlags, identifierName, accessStart, accessEnd, valueNumber, valueKind, valueReasons, pairIdentifier, pairValue, placeIdentifier, placeEffect, placeReactive, placeStart, placeEnd, functionFlags, contextFirst, contextCount, insideFirst, insideCount, code, firstPlace, secondPlace, detail, reason, function, capturesFirst, capturesCount, flagOne, flagTwo}
 
 -- f at n numbers from k on
@@ -45,11 +44,6 @@ noIdentifier = record { ref = false; hoisted = false; access = noSpan; name = 0 
 -- the sets with a value added to that of identifier i
 unfoldable pub withPair : (ℕ → Option ℕ) → ℕ → ℕ → ℕ → Option ℕ
 withPair sets i v = at sets i (some (union (bitsOf (sets i)) (memberOf v)))
-
--- "own function + 1 or 0"
-abbrev pub ownOf : ℕ → Option ℕ
-ownOf zero = none
-ownOf (suc f) = some f
 
 module _ (im : Image) where
   unfoldable pub placeAt : ℕ → Place

@@ -8,8 +8,7 @@ use Rattle.base_sets.specs.Members.{members}
 use Rattle.def_kinds.specs.declared.AbstractValue.{AbstractValue}
 use Rattle.def_kinds.specs.Reasons.{areReasons}
 use Rattle.def_transfer.specs.Merge.{Entries}
-use Rattle.base_tests.specs.Tests.{anyBelow}
-use Rattle.base_tests.specs.Tests.{anyOf}
+use Rattle.base_tests.specs.Tests.{anyBelow, anyOf}
 
 -- 3: no value number (1..1023), or 512 + i where identifier i is not in the list
 unfoldable pub notANumber : ℕ → ℕ → Bool

@@ -1,6 +1,6 @@
 -- The transfer of an instruction (`apply_signature`): the early errors of its own function, its candidates in order, the lvalue.
 -- Assumes nothing: these are definitions.
-use Prim.Native.Nat.{ℕ}
+use Prim.Native.Nat.{ℕ, zero, suc}
 use mathlib.Core.Bool.{Bool, false, _&&_, _||_}
 use mathlib.Core.List.{List, [], _∷_}
 use mathlib.Core.Option.{Option, none, some}
@@ -11,7 +11,8 @@ use Rattle.def_effects.specs.Places.{identifiers}
 use Rattle.def_effects.specs.Effects.{AliasingEffect, MutateFrozen}
 use Rattle.def_transfer.specs.Monad.{M, Done, _>>_, done, if_then_else_, each, atomically, _>>=_}
 use Rattle.def_transfer.specs.Tables.{Tables, Rest, World}
-use Rattle.def_transfer.specs.State.{isSome, default, fromIdentifier, ask, change, setOf, peek, initialize, define}
+use Rattle.def_transfer.specs.State.{default, fromIdentifier, ask, change, setOf, peek, initialize, define}
+use Rattle.base_tests.specs.Tests.{isSome}
 use Rattle.def_transfer.specs.Context.{onWork, functionContext, internDiagnostic, emit}
 use Rattle.def_transfer.specs.Step.{modified, applyEffect}
 
@@ -76,3 +77,8 @@ module _ {T : Tables} where
   -- the call for an instruction: "After a refusal state, context and session are as before; output list and scratch are zero."
   unfoldable pub applySignature : Instruction → M (World T) Done
   applySignature ins = startInstruction >> atomically (run ins)
+
+-- "own function + 1 or 0"
+abbrev pub ownOf : ℕ → Option ℕ
+ownOf zero = none
+ownOf (suc f) = some f

@@ -4,7 +4,7 @@ use Prim.Native.Nat.{ℕ}
 use mathlib.Core.Path.{_≡_}
 use mathlib.Core.Logic.{_⊎_}
 use mathlib.Core.Option.{some}
-use Rattle.base_sets.specs.Members.{members}
+use Rattle.base_sets.specs.Members.{members, valuesOf}
 use Rattle.base_tests.specs.Tests.{All}
 use Rattle.def_kinds.specs.declared.AbstractValue.{AbstractValue}
 use Rattle.def_effects.specs.Places.{identifiers}
@@ -12,7 +12,6 @@ use Rattle.def_effects.specs.Effects.{AliasingEffect}
 use Rattle.def_effects.specs.Keys.{EffectKey, effectKey}
 use Rattle.def_transfer.specs.Diagnostics.{Diagnostic}
 use Rattle.def_transfer.specs.Tables.{Tables}
-use Rattle.def_transfer.specs.State.{valuesOf}
 
 -- a changed context d leads nowhere that c does not lead: its cached keys and links are c's, and each function has context places of the same identifiers
 pub record SameLinks (T : Tables) (c d : T .Context) : Type 0 where

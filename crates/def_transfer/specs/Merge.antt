@@ -10,8 +10,7 @@ use Rattle.def_kinds.specs.Kinds.{codeOf}
 use Rattle.def_kinds.specs.Values as Values
 use Rattle.def_effects.specs.declared.Session.{Session}
 use Rattle.def_transfer.specs.Tables.{Tables, State}
-use Rattle.base_tests.specs.Tests.{allBelow}
-use Rattle.base_tests.specs.Tests.{anyBelow}
+use Rattle.base_tests.specs.Tests.{allBelow, anyBelow}
 
 -- the entries of a state, however it is held
 pub record Entries : Type 0 where

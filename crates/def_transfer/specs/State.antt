@@ -5,7 +5,7 @@ use mathlib.Core.List.{List, [], _∷_}
 use mathlib.Core.Option.{Option, none, some}
 use lib.Dec.{eqb}
 use Rattle.base_orders.specs.Options.{joinOption}
-use Rattle.base_sets.specs.Members.{members, singleton, union}
+use Rattle.base_sets.specs.Members.{singleton, union, valuesOf, bitsOf}
 use Rattle.def_kinds.specs.declared.ValueKind.the-variants.{Frozen}
 use Rattle.def_kinds.specs.declared.AbstractValue.{AbstractValue}
 use Rattle.def_kinds.specs.Kinds.{freezable, writable}
@@ -18,19 +18,7 @@ use Rattle.def_effects.specs.declared.Session.{Session}
 use Rattle.def_effects.specs.Places.{noSpan}
 use Rattle.def_transfer.specs.Monad.{ok, M, Done, return, done, if_then_else_, each, _>>=_, _>>_}
 use Rattle.def_transfer.specs.Tables.{Tables, Rest, World}
-
-abbrev pub isSome : {A : Type 0} → Option A → Bool
-isSome none = false
-isSome (some a) = true
-
--- the values of a place, ascending; an undefined place has none (`values_for`)
-abbrev pub valuesOf : Option ℕ → List ℕ
-valuesOf none = []
-valuesOf (some s) = members s
-
-abbrev pub bitsOf : Option ℕ → ℕ
-bitsOf none = 0
-bitsOf (some s) = s
+use Rattle.base_tests.specs.Tests.{isSome}
 
 -- "512 + i stands for the Rust's 0x80000000 | i": `from_identifier`
 abbrev pub fromIdentifier : ℕ → ℕ

@@ -23,7 +23,9 @@ use Rattle.def_effects.specs.Keys.{effectKey, two, AssignFrozen, AssignCopy}
 use Rattle.def_transfer.specs.Monad.{M, Done, _>>=_, _>>_, return, refuse, done, if_then_else_, each}
 use Rattle.def_transfer.specs.Diagnostics.{Diagnostic, cannotBeModified, accessedBefore}
 use Rattle.def_transfer.specs.Tables.{Tables, Rest, World}
-use Rattle.def_transfer.specs.State.{isSome, valuesOf, ask, setOf, peek, initialize, kindAt, kind, define, assign, freeze}
+use Rattle.def_transfer.specs.State.{ask, setOf, peek, initialize, kindAt, kind, define, assign, freeze}
+use Rattle.base_sets.specs.Members.{valuesOf}
+use Rattle.base_tests.specs.Tests.{isSome}
 use Rattle.def_transfer.specs.Context.{internEffect, getOrCreateValueId, linkTo, functionContext, makeRead, internDiagnostic, emit, isInitialized, begin}
 use Rattle.def_transfer.specs.Walk.{walk}
 

@@ -4,7 +4,8 @@ use mathlib.Core.List.{List}
 use Rattle.def_effects.specs.declared.Place.{Place}
 use Rattle.def_transfer.specs.Monad.{M, Done, _>>_, refuse, each, _>>=_}
 use Rattle.def_transfer.specs.Tables.{Tables, World}
-use Rattle.def_transfer.specs.State.{valuesOf, ask, toFreeze, freezeValue}
+use Rattle.def_transfer.specs.State.{ask, toFreeze, freezeValue}
+use Rattle.base_sets.specs.Members.{valuesOf}
 use Rattle.def_transfer.specs.Context.{linkedContext, startFreeze, countEntry}
 
 module _ {T : Tables} where

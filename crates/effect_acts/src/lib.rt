@@ -1,5 +1,5 @@
 // What an effect does, by its kind, and what comes after the part of a step that is done.
-// The step itself and the functions that derive effects are in the crate `steps`. After apply_effect of the Rust.
+// The step itself and the functions that derive effects are in the crate `effect_apply`. After apply_effect of the Rust.
 ghost use mathlib.Core.Path.{_≡_};
 ghost use Rattle.effect_acts.specs.Acts.{actOf};
 use def_effects::MutateVariant;

@@ -5,7 +5,7 @@ ghost use Prim.Native.Nat.{ℕ};
 ghost use Rattle.def_effects.specs.Effects.{AliasingEffect as Effect};
 ghost use Rattle.def_transfer.specs.Monad.{M, Done};
 ghost use Rattle.def_transfer.specs.Tables.{World};
-ghost use Rattle.def_transfer.specs.State.{valuesOf};
+ghost use Rattle.base_sets.specs.Members.{valuesOf};
 ghost use Rattle.def_transfer.specs.Step as Step;
 ghost use Rattle.def_transfer.specs.Walk as Walk;
 ghost use Rattle.laws_monad.specs.Answers.{answer};

@@ -4,7 +4,8 @@ use mathlib.Core.Bool.{Bool, _&&_}
 use mathlib.Core.List.{List}
 use Rattle.def_kinds.specs.Kinds.{writable}
 use Rattle.def_effects.specs.declared.Session.{Session}
-use Rattle.def_transfer.specs.State.{isSome, kindOf}
+use Rattle.def_transfer.specs.State.{kindOf}
+use Rattle.base_tests.specs.Tests.{isSome}
 use Rattle.lent_values.specs.Cells.{valueAt}
 use Rattle.lent_sets.specs.Rows.{setAt}
 use Rattle.lent_work.specs.declared.Run.{Run}

@@ -28,7 +28,7 @@ pub record Still : Type 0 where
   pub listed : Listed
 
 -- the world of a walk: values, sets and context, what it leaves as it is, the entries of the Freeze under way and of all
--- the same world as `world` of the crate `lent`, cut differently
+-- the same world as `world` of the crate `lent_world`, cut differently
 abbrev pub walking : List ℕ → List ℕ → List ℕ → Still → ℕ → ℕ → World lent
 walking vs ss cs s made all = record {
   state = record { values = vs; sets = ss; isFunctionExpression = s .flag };

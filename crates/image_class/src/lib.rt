@@ -1,5 +1,5 @@
 // The class of refusal that the words of an image earn: 2 to 5, the lowest first (document 01, 'Refused calls').
-// Every contract is one equation with the definition of crate `image`.
+// Every contract is one equation with the definition of crate `def_image`.
 ghost use mathlib.Core.Path.{_≡_};
 ghost use Rattle.def_image.specs.Refusals.{earnsFive, refusalOfWords};
 ghost use Rattle.lent_slices.specs.Lent.{old};

@@ -1,5 +1,5 @@
 // The sections and cells of an image over its lent words, and whether the words earn refusal 2 (document 01, 'The job image and its program').
-// Every function is total: past the end stands 0. Its contract is one equation with the definition of crate `image`.
+// Every function is total: past the end stands 0. Its contract is one equation with the definition of crate `def_image`.
 ghost use Prim.Native.Nat.{_%_, _-_, suc};
 ghost use mathlib.Core.Path.{_≡_};
 ghost use Rattle.base_tests.specs.Tests.{anyBelow};

@@ -1,5 +1,5 @@
 // Whether a word of an image is out of its range, of the header and of every section but the candidates (document 01, 'Refused calls').
-// The header and the sections but the candidates; every contract is one equation with the definition of crate `image`.
+// The header and the sections but the candidates; every contract is one equation with the definition of crate `def_image`.
 ghost use Prim.Native.Nat.{_%_, _+_};
 ghost use mathlib.Core.Bool.{_&&_, _||_, not};
 ghost use mathlib.Core.Path.{_≡_};

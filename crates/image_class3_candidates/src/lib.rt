@@ -1,5 +1,5 @@
 // Whether a candidate of an image has a word out of its range, and whether the words of an image earn refusal 3 (document 01, 'Refused calls').
-// The words that a code uses stand as bits; every contract is one equation with the definition of crate `image`.
+// The words that a code uses stand as bits; every contract is one equation with the definition of crate `def_image`.
 ghost use mathlib.Core.List.{[]};
 ghost use mathlib.Core.Bool.{_&&_, not};
 ghost use mathlib.Core.Path.{_≡_};

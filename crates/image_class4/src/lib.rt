@@ -1,5 +1,5 @@
 // Whether the words of an image earn refusal 4: orders, unused words, and numbers not handed out yet (document 01, 'Refused calls').
-// Leaves first, then a loop for each test; every contract is one equation with the definition of crate `image`.
+// Leaves first, then a loop for each test; every contract is one equation with the definition of crate `def_image`.
 ghost use mathlib.Core.Bool.{_&&_, _||_};
 ghost use mathlib.Core.Path.{_≡_};
 ghost use Rattle.base_tests.specs.Tests.{anyBelow};

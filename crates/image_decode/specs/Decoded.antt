@@ -2,18 +2,17 @@
 use Prim.Native.Nat.{ℕ, zero, suc}
 use mathlib.Core.List.{List, [], _∷_}
 use lib.ListN.{getD, set}
-use Rattle.base_sets.specs.Members.{union}
+use Rattle.base_sets.specs.Members.{union, bitsOf}
 use Rattle.def_kinds.specs.Kinds.{kindAt}
 use Rattle.def_kinds.specs.Values.{mk}
 use Rattle.def_effects.specs.declared.AliasingDiagnostic.{AliasingDiagnostic}
 use Rattle.lent_values.specs.Cells.{putValue}
-use Rattle.lent_sets.specs.Rows.{setAt, bitsOf, putSet}
+use Rattle.lent_sets.specs.Rows.{setAt, putSet}
 use Rattle.lent_tables.specs.Words.{putField, putPlaces}
 use Rattle.lent_effects.specs.declared.AliasingEffect.{AliasingEffect as Head}
 use Rattle.lent_effects.specs.declared.AliasingEffect.the-variants as Head
-use Rattle.lent_effects.specs.Records.{putEffect}
+use Rattle.lent_effects.specs.Records.{putEffect, candidateTable}
 use Rattle.lent_context.specs.Layout as Lent
-use Rattle.refuse_instruction.specs.EffectClasses.{candidateTable}
 use Rattle.def_image.specs.Layout.{Image, options, identifiers, functions, countOf, identifierFlags, identifierName, accessStart, accessEnd, valueNumber, valueKind, valueReasons, pairIdentifier, pairValue, functionFlags, contextFirst, contextCount, insideFirst, insideCount, code, firstPlace, secondPlace, detail, reason, function}
 use Rattle.def_image.specs.Decode.{memberOf, placeAt, placesFrom, effectAt}
 

@@ -58,7 +58,7 @@ unfoldable pub inferred : List ℕ → List ℕ
 inferred bytes = ite (eqb (refusalOf bytes) 0) (shown (outcome (imageCall (wordsOf bytes)))) (refusalLine (refusalOf bytes))
 
 -- whether the memory for the call and for the listing has the wrong length: an output list of 1,120 records, scratch for a state of 512 identifiers
--- and for the words of a context that change, and a buffer that suffices for every listing (`listings` `Suffices.antt`)
+-- and for the words of a context that change, and a buffer that suffices for every listing (`image_listing` `Laws/Suffices.antt`)
 unfoldable pub memoryWrong : ℕ → ℕ → ℕ → ℕ → Bool
 memoryWrong output scratch64 scratch32 buffer =
     not (eqb output 109760) || (not (eqb scratch64 9216) || (not (eqb scratch32 22786) || not (eqb buffer 2900000)))

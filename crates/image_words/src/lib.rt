@@ -1,5 +1,5 @@
 // The words of a job image, read from its lent bytes (document 01, 'The job image and its program').
-// Every function is total, and its contract is one equation with the definition of crate `image`.
+// Every function is total, and its contract is one equation with the definition of crate `def_image`.
 ghost use mathlib.Core.Path.{_≡_};
 ghost use Prim.Native.Nat.{_+_, _*_};
 ghost use lib.ListN.{getD, length};

@@ -168,3 +168,8 @@ module _ (t : Table) (c : List ℕ) (i : ℕ) where
   putEffect (MutateGlobal p d) = reported 15 p d
   putEffect (Impure p d) = reported 16 p d
   putEffect (Render p) = onePlace 17 p
+
+-- candidates are lent as records of 98 words
+-- "candidates (64)"
+abbrev pub candidateTable : Table
+candidateTable = record { base = 0; count = 64; width = 98 }

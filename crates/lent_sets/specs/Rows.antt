@@ -1,12 +1,11 @@
 -- Rows of 1,024 bits in a list of words: row i is the words 16 i .. 16 i + 15, read as one number, lowest word first.
 -- Bit 0 of a row says that the identifier is defined, bit v that value v is in its set. Assumes nothing: these are definitions.
 use Prim.Native.Nat.{ℕ, zero, suc, _+_, _-_, _*_, _/_, _%_, _^_}
-use mathlib.Core.Bool.{Bool, true, false}
-use mathlib.Core.List.{List, []}
+use mathlib.Core.List.{List}
 use mathlib.Core.Option.{Option, none, some}
 use lib.ListN.{getD, set}
 use lib.Bits.{bitOr}
-use Rattle.base_sets.specs.Members.{digitsFrom, members}
+use Rattle.base_sets.specs.Members.{digitsFrom}
 
 -- ---- bits and counted loops
 
@@ -71,23 +70,6 @@ marked (suc d) n = some (n - 1)
 -- the table of sets that the transfer asks for
 unfoldable pub setAt : List ℕ → ℕ → Option ℕ
 setAt rs i = marked (rowNumber rs i % 2) (rowNumber rs i)
-
--- whether there is a set
--- what `is_defined` answers
-abbrev pub isSome : Option ℕ → Bool
-isSome none = false
-isSome (some s) = true
-
--- the bits of a set, none for one that is not there
-abbrev pub bitsOf : Option ℕ → ℕ
-bitsOf none = 0
-bitsOf (some s) = s
-
--- the values of a set, ascending; one that is not there has none
--- what a loop over a place's values goes through
-abbrev pub valuesOf : Option ℕ → List ℕ
-valuesOf none = []
-valuesOf (some s) = members s
 
 -- word w of row i becomes that of n
 -- a turn of the loop that stores a row

@@ -29,12 +29,12 @@ pub record Listed : Type 0 where
   pub count : ℕ
 
 -- one more record, as long as a word of 32 bits can count it; past the list's 1,120 records nothing is written
--- no instruction lists more than 32 + 64 × 17 (crate `counts`), so that none is lost
+-- no instruction lists more than 32 + 64 × 17 (crate `laws_counts`), so that none is lost
 unfoldable pub putListed : Listed → AliasingEffect → Listed
 putListed l e = ite (ltb (l .count) 4294967295) (record { words = putEffect output (l .words) (l .count) e; count = suc (l .count) }) l
 
 -- one more entry, as long as a word of 32 bits can count it
--- no instruction makes more than 4,096 for each candidate (crate `counts`)
+-- no instruction makes more than 4,096 for each candidate (crate `laws_counts`)
 unfoldable pub oneMore : ℕ → ℕ
 oneMore n = ite (ltb n 4294967295) (suc n) n
 

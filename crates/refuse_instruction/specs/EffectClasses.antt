@@ -15,6 +15,7 @@ use Rattle.lent_context.specs.Layout as Layout
 use Rattle.lent_context.specs.Lent.{instanceCount}
 use Rattle.refuse_class.specs.Class.{lower}
 use Rattle.refuse_words.specs.Classes.{lowestBelow, earns, usedIf, any, placeLimit, runLimit, recordClass}
+use Rattle.lent_effects.specs.Records.{candidateTable}
 
 -- ---- what an effect uses
 
@@ -91,11 +92,6 @@ module _ (identifiers functions : ℕ) (c : List ℕ) where
       (numbersClass c (field t xs i 0) (field t xs i 15) (field t xs i 16))))
 
 -- ---- the instruction
-
--- candidates are lent as records of 98 words
--- "candidates (64)"
-abbrev pub candidateTable : Table
-candidateTable = record { base = 0; count = 64; width = 98 }
 
 -- a place that is lent by value
 -- "places: identifier, `Effect` .., reactive 0 or 1"

@@ -6,7 +6,7 @@ use mathlib.Core.Option.{Option, none, some}
 use lib.Dec.{eqb}
 use Rattle.def_effects.specs.Keys.{EffectKey, effectKey}
 use Rattle.def_effects.specs.declared.Diagnostic.{Diagnostic}
-use Rattle.def_transfer.specs.State.{isSome}
+use Rattle.base_tests.specs.Tests.{isSome}
 use Rattle.def_transfer.specs.Pure.{firstCached, identities, findEffect, findIdentity, findInstance}
 use Rattle.lent_tables.specs.Words.{field}
 use Rattle.lent_effects.specs.Records.{effectIn}

@@ -3,7 +3,7 @@
 ghost use mathlib.Core.Path.{_≡_};
 ghost use Rattle.def_effects.specs.Keys.{effectKey, eqKey};
 ghost use Rattle.def_effects.specs.Places.{identifiers};
-ghost use Rattle.def_transfer.specs.State.{isSome};
+ghost use Rattle.base_tests.specs.Tests.{isSome};
 ghost use Rattle.def_transfer.specs.Pure.{isKey, identities, findEffect, findIdentity, findInstance};
 ghost use Rattle.lent_effects.specs.Records.{effectIn, capturesOf};
 ghost use Rattle.lent_keys.specs.KeyRecords.{optionOf, keyWith, keyIn};

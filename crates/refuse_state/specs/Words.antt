@@ -1,14 +1,17 @@
 -- What a state that is lent as words earns: "Returned 1 .. 4" of document 01's refused calls, word by word. Assumes nothing: these are definitions.
--- A state is 1,024 words of values (`cells`) and 16 words for each identifier in the list (`rows`); with it come next number and first access.
+-- A state is 1,024 words of values (`lent_values`) and 16 words for each identifier in the list (`lent_sets`); with it come next number and first access.
 use Prim.Native.Nat.{ℕ, _/_, _%_}
 use mathlib.Core.Bool.{Bool, not, _&&_, _||_}
 use mathlib.Core.List.{List}
 use lib.Dec.{eqb, leb}
 use lib.ListN.{length, getD}
-use Rattle.base_tests.specs.Tests.{ite, anyBelow, anyOf}
+use Rattle.base_tests.specs.Tests.{ite, anyBelow, anyOf, isSome}
 use Rattle.def_kinds.specs.Reasons.{areReasons}
 use Rattle.def_transfer.specs.Accepted.{notANumber, notYetHandedOut}
-use Rattle.lent_sets.specs.Rows.{rowWord, setAt, isSome, valuesOf}
+use Rattle.lent_sets.specs.Rows.{rowWord, setAt}
+use Rattle.base_sets.specs.Members.{valuesOf}
+use Rattle.def_transfer.specs.Merge.{Entries}
+use Rattle.lent_values.specs.Cells.{valueAt}
 
 -- ---- a word of the values
 
@@ -108,3 +111,8 @@ stateRefusal vs ss next access =
     ite (wrongLengths vs ss) 1
     (ite (stateOutOfRange (identifiers ss) next access vs ss) 3
     (ite (stateUnfit (identifiers ss) next vs ss) 4 0))
+
+-- the entries of a state that is held as two lists
+-- the orders and merges of states are defined over entries, however they are held
+abbrev pub entries : List ℕ → List ℕ → Entries
+entries vs ss = record { value = valueAt vs; set = setAt ss }

@@ -23,7 +23,8 @@ use Rattle.def_transfer.specs.Tables.{Tables, State, Rest, World}
 use Rattle.def_transfer.specs.Pure as Pure
 use Rattle.def_transfer.specs.State as State
 use Rattle.def_transfer.specs.Step as Step
-use Rattle.lent_sets.specs.Rows.{setAt, valuesOf}
+use Rattle.lent_sets.specs.Rows.{setAt}
+use Rattle.base_sets.specs.Members.{valuesOf}
 use Rattle.state_ops.specs.OnLists.{onLists, lists}
 use Rattle.refuse_state.specs.Words.{stateRefusal, identifiers}
 use Rattle.state_calls.specs.declared.KindAnswer.{KindAnswer}

@@ -9,14 +9,9 @@ use Rattle.base_orders.specs.Options.{joinOption}
 use Rattle.base_sets.specs.Members.{union}
 use Rattle.def_kinds.specs.declared.AbstractValue.{AbstractValue}
 use Rattle.def_kinds.specs.Values.{join}
-use Rattle.def_transfer.specs.Merge.{Entries, addsValue, addsSet}
+use Rattle.def_transfer.specs.Merge.{addsValue, addsSet}
 use Rattle.lent_values.specs.Cells.{valueAt, putValue}
 use Rattle.lent_sets.specs.Rows.{upto, setAt, putSet}
-
--- the entries of a state that is held as two lists
--- the orders and merges of states are defined over entries, however they are held
-abbrev pub entries : List ℕ → List ℕ → Entries
-entries vs ss = record { value = valueAt vs; set = setAt ss }
 
 -- ---- what the second list adds to the first
 

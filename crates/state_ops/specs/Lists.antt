@@ -4,15 +4,16 @@ use mathlib.Core.Bool.{Bool, true, false, _&&_}
 use mathlib.Core.List.{List, [], _∷_}
 use mathlib.Core.Option.{Option, none, some}
 use lib.Dec.{eqb}
-use Rattle.base_sets.specs.Members.{singleton, union}
+use Rattle.base_sets.specs.Members.{singleton, union, valuesOf, bitsOf}
 use Rattle.def_kinds.specs.declared.ValueKind.the-variants.{Frozen}
 use Rattle.def_kinds.specs.declared.AbstractValue.{AbstractValue}
 use Rattle.def_kinds.specs.Kinds.{freezable}
 use Rattle.def_kinds.specs.Reasons.{single}
 use Rattle.def_kinds.specs.Values.{mk, default}
-use Rattle.def_transfer.specs.State.{isSome, kindOf, fromIdentifier}
+use Rattle.def_transfer.specs.State.{kindOf, fromIdentifier}
+use Rattle.base_tests.specs.Tests.{isSome}
 use Rattle.lent_values.specs.Cells.{valueAt, putValue}
-use Rattle.lent_sets.specs.Rows.{setAt, valuesOf, bitsOf, putSet}
+use Rattle.lent_sets.specs.Rows.{setAt, putSet}
 
 -- each of some values becomes Frozen with one reason
 unfoldable pub freezeAll : ℕ → List ℕ → List ℕ → List ℕ

@@ -2,10 +2,10 @@
 use Prim.Native.Nat.{ℕ}
 use mathlib.Core.List.{List}
 use lib.Dec.{eqb}
-use Rattle.base_tests.specs.Tests.{ite}
+use Rattle.base_tests.specs.Tests.{ite, isSome}
 use Rattle.def_effects.specs.declared.Span.{Span}
 use Rattle.def_effects.specs.declared.Session.{Session}
-use Rattle.lent_sets.specs.Rows.{setAt, isSome}
+use Rattle.lent_sets.specs.Rows.{setAt}
 use Rattle.lent_work.specs.Access.{accessOf}
 
 unfoldable pub afterUse : List ℕ → Session → ℕ → Span → Session

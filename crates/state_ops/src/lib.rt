@@ -3,7 +3,8 @@
 ghost use mathlib.Core.Path.{_≡_};
 ghost use Rattle.def_transfer.specs.State.{kindOf};
 ghost use Rattle.lent_values.specs.Cells.{valueAt};
-ghost use Rattle.lent_sets.specs.Rows.{setAt, valuesOf};
+ghost use Rattle.lent_sets.specs.Rows.{setAt};
+ghost use Rattle.base_sets.specs.Members.{valuesOf};
 ghost use Rattle.state_ops.specs.Lists.{freezeAll, freezes, frozenValues, ownInserted, assignedValues, assignedSets, ownSets, phiSets};
 ghost use Rattle.lent_work.specs.Access.{accessOf};
 ghost use Rattle.state_ops.specs.Use.{afterUse};

@@ -34,14 +34,14 @@ fn code(kind: ValueKind) -> u64 {
 
 // Value v gets a kind and reasons.
 fn put(values: &mut [u64], sets: &[u64], v: u32, kind: ValueKind, reason: u32) {
-    state_writes::initialize(values, sets, session(), v, AbstractValue { kind, reason });
+    state_write_values::initialize(values, sets, session(), v, AbstractValue { kind, reason });
 }
 
 // Place 0 gets the values 1 and 2.
 fn both(values: &[u64], sets: &mut [u64]) {
-    state_writes::define(values, sets, session(), 0, 1);
-    state_writes::define(values, sets, session(), 1, 2);
-    state_writes::append_alias(values, sets, session(), 0, 1);
+    state_write_sets::define(values, sets, session(), 0, 1);
+    state_write_sets::define(values, sets, session(), 1, 2);
+    state_write_sets::append_alias(values, sets, session(), 0, 1);
 }
 
 // A number with a word before it.
@@ -92,14 +92,14 @@ fn joined(n: u64, first: ValueKind, second: ValueKind) {
     put(&mut values, &sets, 1, first, 2048);
     put(&mut values, &sets, 2, second, 2048);
     both(&values, &mut sets);
-    say_kind(n, state_reads::kind(&values, &sets, session(), 0));
+    say_kind(n, state_read_kinds::kind(&values, &sets, session(), 0));
 }
 
 // 5: an undefined place is Mutable {Other}, and recorded.
 fn undefined() {
     let values = [0u64; 1024];
     let sets = [0u64; 8192];
-    say_kind(5, state_reads::kind(&values, &sets, session(), 7));
+    say_kind(5, state_read_kinds::kind(&values, &sets, session(), 7));
 }
 
 // 6: a place that is defined, with an empty set: the same, nothing recorded. Bit 0 of its row says that it is defined.
@@ -107,7 +107,7 @@ fn empty_set() {
     let values = [0u64; 1024];
     let mut sets = [0u64; 8192];
     lent_sets::put_set(&mut sets, 7, &[0u64; 16]);
-    say_kind(6, state_reads::kind(&values, &sets, session(), 7));
+    say_kind(6, state_read_kinds::kind(&values, &sets, session(), 7));
 }
 
 // 7: a freeze of {Mutable, Primitive}: both Frozen.
@@ -117,10 +117,13 @@ fn freeze_both() {
     put(&mut values, &sets, 1, ValueKind::Mutable, 2048);
     put(&mut values, &sets, 2, ValueKind::Primitive, 2048);
     both(&values, &mut sets);
-    say_test(7, state_writes::freeze(&mut values, &sets, session(), 0, 1));
-    state_writes::define(&values, &mut sets, session(), 0, 1);
-    say_kind(7, state_reads::kind(&values, &sets, session(), 0));
-    say_kind(7, state_reads::kind(&values, &sets, session(), 1));
+    say_test(
+        7,
+        state_write_values::freeze(&mut values, &sets, session(), 0, 1),
+    );
+    state_write_sets::define(&values, &mut sets, session(), 0, 1);
+    say_kind(7, state_read_kinds::kind(&values, &sets, session(), 0));
+    say_kind(7, state_read_kinds::kind(&values, &sets, session(), 1));
 }
 
 // 8: a freeze of Frozen {State}: no, and the reason is kept.
@@ -128,9 +131,12 @@ fn freeze_frozen() {
     let mut values = [0u64; 1024];
     let mut sets = [0u64; 8192];
     put(&mut values, &sets, 1, ValueKind::Frozen, 2);
-    state_writes::define(&values, &mut sets, session(), 0, 1);
-    say_test(8, state_writes::freeze(&mut values, &sets, session(), 0, 5));
-    say_kind(8, state_reads::kind(&values, &sets, session(), 0));
+    state_write_sets::define(&values, &mut sets, session(), 0, 1);
+    say_test(
+        8,
+        state_write_values::freeze(&mut values, &sets, session(), 0, 5),
+    );
+    say_kind(8, state_read_kinds::kind(&values, &sets, session(), 0));
 }
 
 // 9: a phi of undefined operands leaves its place.
@@ -138,9 +144,9 @@ fn phi_of_none() {
     let mut values = [0u64; 1024];
     let mut sets = [0u64; 8192];
     put(&mut values, &sets, 1, ValueKind::Context, 2048);
-    state_writes::define(&values, &mut sets, session(), 0, 1);
-    state_writes::infer_phi(&values, &mut sets, session(), 0, &[3u32, 4]);
-    say_kind(9, state_reads::kind(&values, &sets, session(), 0));
+    state_write_sets::define(&values, &mut sets, session(), 0, 1);
+    state_write_sets::infer_phi(&values, &mut sets, session(), 0, &[3u32, 4]);
+    say_kind(9, state_read_kinds::kind(&values, &sets, session(), 0));
 }
 
 // 14: a state merged with itself: None, so no flag either.

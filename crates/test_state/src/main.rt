@@ -243,7 +243,7 @@ fn check_rest(
     sets: &[u64],
 ) {
     let span = session.span;
-    refused(at, state_reads::accepted(values, sets, session));
+    refused(at, state_read_sets::accepted(values, sets, session));
     expect(bytes, at, session.access);
     expect(bytes, at, span.start);
     expect(bytes, at, span.end);
@@ -341,7 +341,7 @@ fn check_write(
     a: AbstractValue,
 ) {
     let kind = a.kind;
-    let w = state_reads::may_write(values, sets, session, i);
+    let w = state_read_kinds::may_write(values, sets, session, i);
     refused(at, w.refusal);
     same(at, flag_of(w.answer), may_be_written(kind));
 }
@@ -356,7 +356,7 @@ fn run_kind(
     flag: u32,
     args: &[u32],
 ) {
-    let a = state_reads::kind(values, sets, session, get32(args, 0));
+    let a = state_read_kinds::kind(values, sets, session, get32(args, 0));
     let value = a.value;
     let after = a.session;
     expect_kind(bytes, at, a.refusal, value);
@@ -378,7 +378,7 @@ fn run_kind_with_span(
         start: get32(args, 1),
         end: get32(args, 2),
     };
-    let a = state_reads::kind_with_span(values, sets, session, get32(args, 0), span);
+    let a = state_read_kinds::kind_with_span(values, sets, session, get32(args, 0), span);
     let value = a.value;
     let after = a.session;
     expect_kind(bytes, at, a.refusal, value);
@@ -397,7 +397,7 @@ fn run_initialize(
 ) {
     let kind = ValueKind::of_code((get32(args, 1) % 256) as u8);
     let reason = get32(args, 2);
-    let refusal = state_writes::initialize(
+    let refusal = state_write_values::initialize(
         values,
         sets,
         session,
@@ -418,7 +418,7 @@ fn run_define(
     flag: u32,
     args: &[u32],
 ) {
-    let refusal = state_writes::define(values, sets, session, get32(args, 0), get32(args, 1));
+    let refusal = state_write_sets::define(values, sets, session, get32(args, 0), get32(args, 1));
     expect_none(bytes, at, refusal);
     check_rest(bytes, at, session, flag, values, sets);
 }
@@ -433,7 +433,7 @@ fn run_assign(
     flag: u32,
     args: &[u32],
 ) {
-    let refusal = state_writes::assign(values, sets, session, get32(args, 0), get32(args, 1));
+    let refusal = state_write_sets::assign(values, sets, session, get32(args, 0), get32(args, 1));
     expect_none(bytes, at, refusal);
     check_rest(bytes, at, session, flag, values, sets);
 }
@@ -448,7 +448,13 @@ fn run_append(
     flag: u32,
     args: &[u32],
 ) {
-    let refusal = state_writes::append_alias(values, sets, session, get32(args, 0), get32(args, 1));
+    let refusal = state_write_sets::append_alias(
+        values,
+        sets,
+        session,
+        get32(args, 0),
+        get32(args, 1),
+    );
     expect_none(bytes, at, refusal);
     check_rest(bytes, at, session, flag, values, sets);
 }
@@ -463,7 +469,7 @@ fn run_is_defined(
     flag: u32,
     args: &[u32],
 ) {
-    let a = state_reads::is_defined(values, sets, session, get32(args, 0));
+    let a = state_read_sets::is_defined(values, sets, session, get32(args, 0));
     expect_one(bytes, at, a.refusal, flag_of(a.answer));
     check_rest(bytes, at, session, flag, values, sets);
 }
@@ -479,7 +485,7 @@ fn run_values_for(
     args: &[u32],
 ) {
     let mut out = [0u32; 1024];
-    let a = state_reads::values_for(values, sets, session, get32(args, 0), &mut out);
+    let a = state_read_sets::values_for(values, sets, session, get32(args, 0), &mut out);
     refused(at, a.refusal);
     expect(bytes, at, a.count);
     expect_list(bytes, at, &out, a.count);
@@ -505,7 +511,7 @@ fn run_freeze(
     flag: u32,
     args: &[u32],
 ) {
-    let a = state_writes::freeze(values, sets, session, get32(args, 0), get32(args, 1));
+    let a = state_write_values::freeze(values, sets, session, get32(args, 0), get32(args, 1));
     expect_one(bytes, at, a.refusal, flag_of(a.answer));
     check_rest(bytes, at, session, flag, values, sets);
 }
@@ -528,7 +534,7 @@ fn run_mutate(
     };
     let ref_flag = get32(refs, wide32(i)) == 1;
     let variant = variant_of(get32(args, 0));
-    let a = state_reads::mutate(values, sets, session, ref_flag, variant, i, span);
+    let a = state_read_kinds::mutate(values, sets, session, ref_flag, variant, i, span);
     let result = a.result;
     let after = a.session;
     expect_one(bytes, at, a.refusal, result_code(result));
@@ -546,7 +552,7 @@ fn run_phi(
     args: &[u32],
     operands: &[u32],
 ) {
-    let refusal = state_writes::infer_phi(values, sets, session, get32(args, 0), operands);
+    let refusal = state_write_sets::infer_phi(values, sets, session, get32(args, 0), operands);
     expect_none(bytes, at, refusal);
     check_rest(bytes, at, session, flag, values, sets);
 }

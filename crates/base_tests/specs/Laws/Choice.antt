@@ -25,3 +25,7 @@ ite-yes t a b e = ap (λ (x : Bool). ite x a b) e
 
 pub ite-no : {A : Type 0} (t : Bool) (a b : A) → t ≡ false → ite t a b ≡ b
 ite-no t a b e = ap (λ (x : Bool). ite x a b) e
+
+-- a value of a type that is said: records that are equal part by part are named so
+abbrev pub the : (A : Type 0) → A → A
+the A x = x

@@ -50,8 +50,8 @@ use Rattle.call_apply_lent.specs.declared.Answer.{Answer}
 use Rattle.call_apply_lent.proofs.Answer as Answerᵀ
 use Rattle.call_apply_lent.proofs.Answer.Laws as Answerᴸ
 use Rattle.call_outcome.specs.declared.Applied.{Applied}
-use Rattle.call_apply.proofs.Applied as Appliedᵀ
-use Rattle.call_apply.proofs.Applied.Laws as Appliedᴸ
+use Rattle.call_outcome.proofs.Applied as Appliedᵀ
+use Rattle.call_outcome.proofs.Applied.Laws as Appliedᴸ
 use Rattle.def_effects.specs.declared.Place.{Place}
 use Rattle.def_effects.proofs.Place as Placeᵀ
 use Rattle.def_effects.proofs.Place.Laws as Placeᴸ
@@ -60,13 +60,13 @@ use Rattle.def_effects.proofs.Session as Sessionᵀ
 use Rattle.def_effects.proofs.Session.Laws as Sessionᴸ
 use Rattle.call_apply.proofs.apply_signature as of-apply-signature
 use Rattle.call_apply.proofs.apply_signature.Symbol as apply-signature-def
-use Rattle.call_apply.proofs.apply_signature.Symbol.{name as #sessions·apply-signature}
+use Rattle.call_apply.proofs.apply_signature.Symbol.{name as #lent·apply-signature}
 use Rattle.call_apply.proofs.apply_signature.Met as apply-signature-thm
 use Rattle.call_apply_lent.proofs.without_session as of-without-session
 use Rattle.call_apply_lent.proofs.without_session.Symbol as without-session-def
-use Rattle.call_apply_lent.proofs.without_session.Symbol.{name as #sessions·without-session}
+use Rattle.call_apply_lent.proofs.without_session.Symbol.{name as #lent·without-session}
 use Rattle.call_apply_lent.proofs.without_session.Met as without-session-thm
-use Rattle.call_apply_lent.proofs.apply.Key.{name as #sessions·apply}
+use Rattle.call_apply_lent.proofs.apply.Key.{name as #lent·apply}
 use Rattle.call_apply_lent.proofs.apply as of-apply
 use Rattle.call_apply_lent.proofs.apply.Statement as stated
 use Rattle.call_apply_lent.proofs.apply.Code as code
@@ -164,7 +164,7 @@ module _ {M : Type 1} (𝓤 : URA M) (H : Heap 𝓤) (A : Atoms 𝓤) (W : Given
       suffices ! _ (ends-at 𝓤 H A of-apply.ended stayed (of-apply.clauses 𝓤 H A at-mem run) W (((κ₀, (κ₁, (κ₂, (κ₃, (κ₄, (κ₅, (κ₆, (κ₇, tt)))))))), (q₀, (q₁, (q₂, (q₃, (q₄, (q₅, (q₆, (q₇, tt)))))))), tt, a, vals), tt) (LL.val Answerᵀ.the-type Answerᴸ.the-laws r) r (c₁, (c₂, (tt, (c₄, (c₅, (tt, (tt, (tt, (c₉, (c₁₀, (c₁₁, tt))))))))))) (g₁, (g₂, (tt, (g₄, (tt, (tt, (tt, (tt, (g₉, (g₁₀, (g₁₁, tt)))))))))))) $ says ! e $
       nothing ! $ move ! (8 ∷ 0 ∷ []) $ join ! $ move ! (7 ∷ 0 ∷ []) $ join ! $ move ! (6 ∷ 0 ∷ []) $ join ! $ move ! (5 ∷ 0 ∷ []) $ join ! $ move ! (4 ∷ 0 ∷ []) $ join ! $ move ! (3 ∷ 0 ∷ []) $ join ! $ move ! (2 ∷ 0 ∷ []) $ join ! $ move ! (1 ∷ 0 ∷ []) $ join ! $ frame ! $ nothing ! $ move ! (8 ∷ 0 ∷ []) $ fjoin ! $ move ! (7 ∷ 0 ∷ []) $ fjoin ! $ move ! (6 ∷ 0 ∷ []) $ fjoin ! $ nothing ! $ fjoin ! $ nothing ! $ fjoin ! $ nothing ! $ fjoin ! $ move ! (4 ∷ 5 ∷ []) $ feqI ! (List Val) (vptr b₅ o₅ ∷ []) (vptr b₅ o₅ ∷ []) refl $ fjoin3 ! $ fjoin ! $ move ! (3 ∷ 0 ∷ []) $ fjoin ! $ nothing ! $ fjoin ! $ move ! (2 ∷ 0 ∷ []) $ fjoin ! $ move ! (1 ∷ 0 ∷ []) $ fjoin ! $ owned ! Answerᵀ.the-row (Is Answerᵀ.the-row) (LL.makes Answerᵀ.the-type Answerᴸ.the-plain 𝓤 H A) r _ fits $ move ! (1 ∷ 0 ∷ []) $ done !
 
-  module _ (C : Calls 𝓤 H) (Λ : Loops 𝓤 H) (fm : FmC 𝓤 H (W .laws) C) (known-apply_signature : Triple 𝓤 (C #sessions·apply-signature) (Callee-apply_signature 𝓤 H A at-mem run)) (known-without_session : Triple 𝓤 (C #sessions·without-session) (Callee-without_session 𝓤 H A at-mem run)) where
+  module _ (C : Calls 𝓤 H) (Λ : Loops 𝓤 H) (fm : FmC 𝓤 H (W .laws) C) (known-apply_signature : Triple 𝓤 (C #lent·apply-signature) (Callee-apply_signature 𝓤 H A at-mem run)) (known-without_session : Triple 𝓤 (C #lent·without-session) (Callee-without_session 𝓤 H A at-mem run)) where
     walk : (room₁ : Room u64 (length ys₁)) → (room₂ : Room u64 (length ys₂)) → (p₃ : Is bool n₃ (vbool n₃ ∷ [])) → (room₄ : Room u32 (length ys₄)) → (room₆ : Room u32 (length ys₆)) → (p₇ : Is Placeᵀ.the-row n₇ ((LL.val Placeᵀ.the-type Placeᴸ.the-laws n₇) ∷ [])) → (p₈ : Is u32 n₈ (vint w32 n₈ ∷ [])) → (room₉ : Room u32 (length ys₉)) → (room₁₀ : Room u64 (length ys₁₀)) → (room₁₁ : Room u32 (length ys₁₁)) → ent 𝓤 (onEntry 𝓤 H A of-apply.signature (κ₀, (κ₁, (κ₂, (κ₃, (κ₄, (κ₅, (κ₆, (κ₇, tt)))))))) (q₀, (q₁, (q₂, (q₃, (q₄, (q₅, (q₆, (q₇, tt)))))))) a vals) (WpFn 𝓤 H C Λ code.function (s₁ ∷ s₂ ∷ vbool n₃ ∷ s₄ ∷ vptr b₅ o₅ ∷ s₆ ∷ (LL.val Placeᵀ.the-type Placeᴸ.the-laws n₇) ∷ vint w32 n₈ ∷ s₉ ∷ s₁₀ ∷ s₁₁ ∷ []) Post)
     walk room₁ room₂ p₃ room₄ room₆ p₇ p₈ room₉ room₁₀ room₁₁ =
         qed W ((‵ (flft κ₀ q₀) ⊛ (‵ (flft κ₁ q₁) ⊛ (‵ (flft κ₂ q₂) ⊛ (‵ (flft κ₃ q₃) ⊛ (‵ (flft κ₄ q₄) ⊛ (‵ (flft κ₅ q₅) ⊛ (‵ (flft κ₆ q₆) ⊛ (‵ (flft κ₇ q₇) ⊛ ‵ ftrue)))))))) ∷ ‵ (owns (MutSlice (named 0) κ₀ u64 ∷ MutSlice (named 1) κ₁ u64 ∷ bool ∷ MutSlice (named 2) κ₂ u32 ∷ MutRef (named 3) κ₃ Sessionᵀ.the-row ∷ ShrSlice (named 4) κ₄ u32 ∷ Placeᵀ.the-row ∷ u32 ∷ MutSlice (named 5) κ₅ u32 ∷ MutSlice (named 6) κ₆ u64 ∷ MutSlice (named 7) κ₇ u32 ∷ []) a vals) ∷ []) ∵ enter ! C Λ code.function (s₁ ∷ s₂ ∷ vbool n₃ ∷ s₄ ∷ vptr b₅ o₅ ∷ s₆ ∷ (LL.val Placeᵀ.the-type Placeᴸ.the-laws n₇) ∷ vint w32 n₈ ∷ s₉ ∷ s₁₀ ∷ s₁₁ ∷ []) _ $
@@ -205,12 +205,12 @@ module _ {M : Type 1} (𝓤 : URA M) (H : Heap 𝓤) (A : Atoms 𝓤) (W : Given
         keep ! (9 ∷ 8 ∷ 7 ∷ 2 ∷ 6 ∷ 5 ∷ 4 ∷ 3 ∷ 15 ∷ 14 ∷ 13 ∷ 0 ∷ 1 ∷ 12 ∷ 11 ∷ 10 ∷ []) $ by ! (exits (z1 .0) (z1 .1 .0) (z1 .1 .1 .1 .0) (r1 .session) (z1 .1 .1 .1 .1 .1 .1 .1 .1 .0) (z1 .1 .1 .1 .1 .1 .1 .1 .1 .1 .0) (z1 .1 .1 .1 .1 .1 .1 .1 .1 .1 .1 .0) len1-0 len1-1 len1-3 len1-8 len1-9 len1-10 r2 (subst (Is Answerᵀ.the-row r2) (LL.tells Answerᵀ.the-type Answerᴸ.the-laws r2 _ is2) is2) (facts r1 (z1 .0) (z1 .1 .0) (z1 .1 .1 .1 .0) (z1 .1 .1 .1 .1 .1 .1 .1 .1 .0) (z1 .1 .1 .1 .1 .1 .1 .1 .1 .1 .0) (z1 .1 .1 .1 .1 .1 .1 .1 .1 .1 .1 .0) r2 e1 e2))))))))))))))))))))))))))))))))))))))))))))))
 
 module _ {M : Type 1} (𝓤 : URA M) (H : Heap 𝓤) (A : Atoms 𝓤) (W : Given 𝓤 H A) (at-mem : Memory → SProp 𝓤) (run : Routine → Fun 𝓤) where
-  walks : (C : Calls 𝓤 H) (Λ : Loops 𝓤 H) → FmC 𝓤 H (W .laws) C → Triple 𝓤 (C #sessions·apply-signature) (Callee-apply_signature 𝓤 H A at-mem run) → Triple 𝓤 (C #sessions·without-session) (Callee-without_session 𝓤 H A at-mem run) → Walks 𝓤 H A of-apply.ended stayed (WpFn 𝓤 H C Λ code.function) (of-apply.clauses 𝓤 H A at-mem run)
+  walks : (C : Calls 𝓤 H) (Λ : Loops 𝓤 H) → FmC 𝓤 H (W .laws) C → Triple 𝓤 (C #lent·apply-signature) (Callee-apply_signature 𝓤 H A at-mem run) → Triple 𝓤 (C #lent·without-session) (Callee-without_session 𝓤 H A at-mem run) → Walks 𝓤 H A of-apply.ended stayed (WpFn 𝓤 H C Λ code.function) (of-apply.clauses 𝓤 H A at-mem run)
   walks C Λ fm known-apply_signature known-without_session = walked 𝓤 H A of-apply.ended stayed (of-apply.clauses 𝓤 H A at-mem run) (WpFn 𝓤 H C Λ code.function)
       (λ κs. (slice-vals, (slice-vals, (bool-vals, (slice-vals, (ptr-vals, (slice-vals, (LL.vals Placeᵀ.the-type Placeᴸ.the-laws, (uint-vals w32, (slice-vals, (slice-vals, (slice-vals, tt)))))))))))) (λ κs. (mut-slice-tells (named 0) (κs .0) u64, (mut-slice-tells (named 1) (κs .1 .0) u64, (bool-tells, (mut-slice-tells (named 2) (κs .1 .1 .0) u32, (mut-tells (named 3) (κs .1 .1 .1 .0) Sessionᵀ.the-row, (shr-slice-tells (named 4) (κs .1 .1 .1 .1 .0) u32, (LL.tells Placeᵀ.the-type Placeᴸ.the-laws, (uint-tells w32, (mut-slice-tells (named 5) (κs .1 .1 .1 .1 .1 .0) u32, (mut-slice-tells (named 6) (κs .1 .1 .1 .1 .1 .1 .0) u64, (mut-slice-tells (named 7) (κs .1 .1 .1 .1 .1 .1 .1 .0) u32, tt))))))))))))
       (λ κs qs bounds a g are. via 𝓤 _ (fst∗ 𝓤 _ (emp 𝓤)) (walk 𝓤 H A W at-mem run (κs .0) (qs .0) (κs .1 .0) (qs .1 .0) (κs .1 .1 .0) (qs .1 .1 .0) (κs .1 .1 .1 .0) (qs .1 .1 .1 .0) (κs .1 .1 .1 .1 .0) (qs .1 .1 .1 .1 .0) (κs .1 .1 .1 .1 .1 .0) (qs .1 .1 .1 .1 .1 .0) (κs .1 .1 .1 .1 .1 .1 .0) (qs .1 .1 .1 .1 .1 .1 .0) (κs .1 .1 .1 .1 .1 .1 .1 .0) (qs .1 .1 .1 .1 .1 .1 .1 .0) (a .0 .ptr .0) (a .0 .ptr .1) (a .0 .name) (a .0 .now) (a .1 .0 .ptr .0) (a .1 .0 .ptr .1) (a .1 .0 .name) (a .1 .0 .now) (a .1 .1 .0) (a .1 .1 .1 .0 .ptr .0) (a .1 .1 .1 .0 .ptr .1) (a .1 .1 .1 .0 .name) (a .1 .1 .1 .0 .now) (a .1 .1 .1 .1 .0 .ptr .0) (a .1 .1 .1 .1 .0 .ptr .1) (a .1 .1 .1 .1 .0 .name) (a .1 .1 .1 .1 .0 .now) (a .1 .1 .1 .1 .1 .0 .ptr .0) (a .1 .1 .1 .1 .1 .0 .ptr .1) (a .1 .1 .1 .1 .1 .0 .name) (a .1 .1 .1 .1 .1 .0 .now) (a .1 .1 .1 .1 .1 .1 .0) (a .1 .1 .1 .1 .1 .1 .1 .0) (a .1 .1 .1 .1 .1 .1 .1 .1 .0 .ptr .0) (a .1 .1 .1 .1 .1 .1 .1 .1 .0 .ptr .1) (a .1 .1 .1 .1 .1 .1 .1 .1 .0 .name) (a .1 .1 .1 .1 .1 .1 .1 .1 .0 .now) (a .1 .1 .1 .1 .1 .1 .1 .1 .1 .0 .ptr .0) (a .1 .1 .1 .1 .1 .1 .1 .1 .1 .0 .ptr .1) (a .1 .1 .1 .1 .1 .1 .1 .1 .1 .0 .name) (a .1 .1 .1 .1 .1 .1 .1 .1 .1 .0 .now) (a .1 .1 .1 .1 .1 .1 .1 .1 .1 .1 .0 .ptr .0) (a .1 .1 .1 .1 .1 .1 .1 .1 .1 .1 .0 .ptr .1) (a .1 .1 .1 .1 .1 .1 .1 .1 .1 .1 .0 .name) (a .1 .1 .1 .1 .1 .1 .1 .1 .1 .1 .0 .now) C Λ fm known-apply_signature known-without_session (are .0 .0 .1) (are .1 .0 .0 .1) (are .1 .1 .0) (are .1 .1 .1 .0 .0 .1) (are .1 .1 .1 .1 .1 .0 .0 .1) (are .1 .1 .1 .1 .1 .1 .0) (are .1 .1 .1 .1 .1 .1 .1 .0) (are .1 .1 .1 .1 .1 .1 .1 .1 .0 .0 .1) (are .1 .1 .1 .1 .1 .1 .1 .1 .1 .0 .0 .1) (are .1 .1 .1 .1 .1 .1 .1 .1 .1 .1 .0 .0 .1)))
 
-meets : {M : Type 1} (𝓤 : URA M) (H : Heap 𝓤) (A : Atoms 𝓤) → Given 𝓤 H A → (at-mem : Memory → SProp 𝓤) (run : Routine → Fun 𝓤) (𝓣 : Tables 𝓤 H) → Triple 𝓤 (𝓣 .C #sessions·apply-signature) (Callee-apply_signature 𝓤 H A at-mem run) → Triple 𝓤 (𝓣 .C #sessions·without-session) (Callee-without_session 𝓤 H A at-mem run)
+meets : {M : Type 1} (𝓤 : URA M) (H : Heap 𝓤) (A : Atoms 𝓤) → Given 𝓤 H A → (at-mem : Memory → SProp 𝓤) (run : Routine → Fun 𝓤) (𝓣 : Tables 𝓤 H) → Triple 𝓤 (𝓣 .C #lent·apply-signature) (Callee-apply_signature 𝓤 H A at-mem run) → Triple 𝓤 (𝓣 .C #lent·without-session) (Callee-without_session 𝓤 H A at-mem run)
     → Meets 𝓤 H A of-apply.signature (WpFn 𝓤 H (𝓣 .C) (𝓣 .Λ) code.function) (of-apply.spec 𝓤 H A at-mem run)
 meets 𝓤 H A W at-mem run 𝓣 known-apply_signature known-without_session =
     walk-meets 𝓤 H A of-apply.ended stayed W (goes-gave-slice 𝓤 H A W 8 0 tt (plain (λ _. u64)), (goes-gave-slice 𝓤 H A W 8 1 tt (plain (λ _. u64)), (goes-dropped 𝓤 H A W 8 (plain (λ _. bool)) yes (λ κs x f. refl), (goes-gave-slice 𝓤 H A W 8 2 tt (plain (λ _. u32)), (goes-ref 𝓤 H A W 8 3 tt (plain (λ _. Sessionᵀ.the-row)), (goes-dropped 𝓤 H A W 8 (shrSliceOf (4 ∷ []) tt (plain (λ _. u32))) yes (λ κs x f. refl), (goes-dropped 𝓤 H A W 8 (plain (λ _. Placeᵀ.the-row)) yes (λ κs x f. refl), (goes-dropped 𝓤 H A W 8 (plain (λ _. u32)) yes (λ κs x f. refl), (goes-gave-slice 𝓤 H A W 8 5 tt (plain (λ _. u32)), (goes-gave-slice 𝓤 H A W 8 6 tt (plain (λ _. u64)), (goes-gave-slice 𝓤 H A W 8 7 tt (plain (λ _. u32)), tt))))))))))) (of-apply.clauses 𝓤 H A at-mem run)
@@ -220,7 +220,7 @@ pub apply-spec : {M : Type 1} → stated.statement M
 unfolding code.routine tablesOf
 apply-spec 𝓤 H 𝓜 𝓖 𝓡 =
     entered 𝓤 H (tripleOf 𝓤 H (𝓖 .A) of-apply.signature (of-apply.spec 𝓤 H (𝓖 .A) (𝓜 .mem) (𝓡 .run)))
-    (tables 𝓤 H 𝓜 𝓡 code.env .C) (tables 𝓤 H 𝓜 𝓡 code.env .Λ) #sessions·apply code.function (code.unfolded 𝓤 H 𝓜 𝓡)
+    (tables 𝓤 H 𝓜 𝓡 code.env .C) (tables 𝓤 H 𝓜 𝓡 code.env .Λ) #lent·apply code.function (code.unfolded 𝓤 H 𝓜 𝓡)
     (meets 𝓤 H (𝓖 .A) (givenOf 𝓤 H 𝓜 𝓖) (𝓜 .mem) (𝓡 .run) (tablesOf 𝓤 H 𝓜 (tables 𝓤 H 𝓜 𝓡 code.env))
-    (cited 𝓤 H (Callee-apply_signature 𝓤 H (𝓖 .A) (𝓜 .mem) (𝓡 .run)) 𝓜 𝓡 code.env #sessions·apply-signature apply-signature-def.routine code.calls-signatures·apply-signature (apply-signature-thm.met 𝓤 H 𝓜 𝓖 𝓡))
-    (cited 𝓤 H (Callee-without_session 𝓤 H (𝓖 .A) (𝓜 .mem) (𝓡 .run)) 𝓜 𝓡 code.env #sessions·without-session without-session-def.routine code.calls-sessions·without-session (without-session-thm.met 𝓤 H 𝓜 𝓖 𝓡)))
+    (cited 𝓤 H (Callee-apply_signature 𝓤 H (𝓖 .A) (𝓜 .mem) (𝓡 .run)) 𝓜 𝓡 code.env #lent·apply-signature apply-signature-def.routine code.calls-signatures·apply-signature (apply-signature-thm.met 𝓤 H 𝓜 𝓖 𝓡))
+    (cited 𝓤 H (Callee-without_session 𝓤 H (𝓖 .A) (𝓜 .mem) (𝓡 .run)) 𝓜 𝓡 code.env #lent·without-session without-session-def.routine code.calls-sessions·without-session (without-session-thm.met 𝓤 H 𝓜 𝓖 𝓡)))

@@ -1,4 +1,4 @@
--- `call_apply::call_class` meets its contract: one law for each of its three ways. Assumes nothing.
+-- `call_class::call_class` meets its contract: one law for each of its three ways. Assumes nothing.
 use mathlib.Core.Path.{refl}
 use native.Mathlib.Omega.{arith}
 use Rattle.call_outcome.specs.Laws.Class.{identifiers-fit, class-lengths, class-state, class-lowest}

@@ -1,4 +1,4 @@
--- `call_apply::lengths_wrong` meets its contract: one law for each of its six ways. Assumes nothing.
+-- `call_class::lengths_wrong` meets its contract: one law for each of its six ways. Assumes nothing.
 use Rattle.call_outcome.specs.Laws.Class.{length-context, length-candidates, length-output, length-32, length-short, length-rest}
 use borrow.Author.Needs.{needs}
 use Rattle.call_class.proofs.lengths_wrong.Statement.{statement}

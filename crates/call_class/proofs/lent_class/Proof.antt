@@ -1,4 +1,4 @@
--- `call_apply::lent_class` meets its contract: too many candidates, or as many as a word holds. Assumes nothing.
+-- `call_class::lent_class` meets its contract: too many candidates, or as many as a word holds. Assumes nothing.
 use Rattle.refuse_instruction.specs.Laws.Instruction.{instruction-many}
 use borrow.Author.Needs.{needs}
 use Rattle.call_class.proofs.lent_class.Statement.{statement}

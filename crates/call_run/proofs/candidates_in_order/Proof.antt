@@ -8,7 +8,7 @@ use Rattle.def_transfer.specs.Monad.{each}
 use Rattle.def_transfer.specs.Step as Text
 use Rattle.lent_context.specs.Lent.{effectsIn}
 use Rattle.lent_world.specs.World.{world}
-use Rattle.call_run.specs.Instructions.{candidateTable}
+use Rattle.lent_effects.specs.Records.{candidateTable}
 use Rattle.call_run.specs.Laws.Instruction.{candidates-start, candidates-next, candidates-stop, candidates-end}
 use Rattle.call_run.proofs.candidates_in_order.Statement.{statement}
 use Rattle.call_run.proofs.candidates_in_order.Tie as tie

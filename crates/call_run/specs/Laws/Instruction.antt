@@ -22,7 +22,8 @@ use Rattle.def_effects.specs.declared.Diagnostic.{Diagnostic}
 use Rattle.def_transfer.specs.Monad.{Res, ok, M, Done, andThen, _>>=_, _>>_, done, if_then_else_, each}
 use Rattle.def_transfer.specs.Tables.{World}
 use Rattle.def_transfer.specs.State as State
-use Rattle.def_transfer.specs.State.{isSome, kindOf}
+use Rattle.def_transfer.specs.State.{kindOf}
+use Rattle.base_tests.specs.Tests.{isSome}
 use Rattle.def_transfer.specs.Context as Context
 use Rattle.def_transfer.specs.Step as Step
 use Rattle.def_transfer.specs.Instruction as Instruction
@@ -33,7 +34,7 @@ use Rattle.lent_tables.specs.Words.{index, field, placeIn, placesIn}
 use Rattle.lent_tables.specs.Laws.Word.{within-yes, within-no-word, field-in, field-out, place-of, places-more, places-none}
 use Rattle.lent_effects.specs.declared.AliasingEffect.{AliasingEffect as Head}
 use Rattle.lent_effects.specs.declared.AliasingEffect.the-variants as Head
-use Rattle.lent_effects.specs.Records.{effectIn, effectWith, headIn, capturesOf, copiedCaptures, countedPlaces}
+use Rattle.lent_effects.specs.Records.{effectIn, effectWith, headIn, capturesOf, copiedCaptures, countedPlaces, candidateTable}
 use Rattle.lent_effects.specs.Laws.Capture.{captures-copied}
 use Rattle.lent_work.specs.declared.Run.{Run}
 use Rattle.lent_context.specs.Layout as Layout
@@ -43,7 +44,8 @@ use Rattle.lent_context.specs.Laws.Search.{effects-more, effects-none}
 use Rattle.laws_monad.specs.Answers.{answer}
 use Rattle.laws_monad.specs.Laws.Answers.{bind-ok, bind-goes, bind-refused, then-goes, then-refused, if-true, if-false, each-goes, each-refused, each-ends, done-ok}
 use Rattle.lent_world.specs.World.{lent, world}
-use Rattle.call_run.specs.Instructions.{candidateTable, ownOf, instructionOf, insideRun, insidePlaces, copiedInsideFrom, copiedInside, keptEntries}
+use Rattle.call_run.specs.Instructions.{instructionOf, insideRun, insidePlaces, copiedInsideFrom, copiedInside, keptEntries}
+use Rattle.def_transfer.specs.Instruction.{ownOf}
 
 -- ---- an identifier among the context places of a function
 

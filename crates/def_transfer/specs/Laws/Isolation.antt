@@ -7,7 +7,7 @@ use mathlib.Core.Bool.{_&&_}
 use mathlib.Core.List.{List, [], _∷_, List·Memᴰ}
 use mathlib.Core.Option.{Option, none, some}
 use lib.Dec.{ltb}
-use Rattle.base_sets.specs.Members.{members}
+use Rattle.base_sets.specs.Members.{members, valuesOf}
 use Rattle.base_tests.specs.Tests.{All}
 use Rattle.base_sets.specs.Laws.Member.{all-of}
 use Rattle.def_effects.specs.declared.Session.{Session}
@@ -15,7 +15,7 @@ use Rattle.def_effects.specs.Places.{identifiers}
 use Rattle.def_effects.specs.Keys.{EffectKey, names, creates, listed}
 use Rattle.def_transfer.specs.Monad.{Res, ok, refused, Done, _>>_, _>>=_, andThen, restore, atomically}
 use Rattle.def_transfer.specs.Tables.{Tables, State, Rest, World}
-use Rattle.def_transfer.specs.State.{valuesOf, fromIdentifier, change}
+use Rattle.def_transfer.specs.State.{fromIdentifier, change}
 use Rattle.def_transfer.specs.Instruction.{Instruction, startInstruction, run, applySignature}
 use Rattle.def_transfer.specs.Reach.{Node, val, id, entry, Named, by-effect, Created, by-candidate, by-itself, Reach, in-candidate, lvalue, in-created, its-values, its-own, its-context, cached, fresh, Agree, Alike}
 use Rattle.def_transfer.specs.Lawful.{Lawful}

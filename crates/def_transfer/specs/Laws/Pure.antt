@@ -13,7 +13,7 @@ use Rattle.def_effects.specs.Effects.{AliasingEffect}
 use Rattle.def_effects.specs.Keys.{EffectKey, effectKey, eqKey}
 use Rattle.def_effects.specs.Laws.Key.{eqKey-eq}
 use Rattle.def_transfer.specs.Tables.{World}
-use Rattle.def_transfer.specs.State.{valuesOf}
+use Rattle.base_sets.specs.Members.{valuesOf}
 use Rattle.def_transfer.specs.Instruction.{Instruction, applySignature}
 use Rattle.def_transfer.specs.Reach.{Reach, Agree, Alike}
 use Rattle.def_transfer.specs.Pure.{at, findEffect, isKey, firstCached, Function, Context, readOnly, readOnlyIn, pure}

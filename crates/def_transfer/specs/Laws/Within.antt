@@ -7,7 +7,7 @@ use mathlib.Core.List.{List, [], _∷_}
 use mathlib.Core.Logic.{⊎-elim}
 use mathlib.Core.Option.{Option, none, some}
 use lib.Dec.{leb, ltb, nleb→lt, ltb→lt}
-use Rattle.base_sets.specs.Members.{members, singleton}
+use Rattle.base_sets.specs.Members.{members, singleton, valuesOf}
 use Rattle.base_tests.specs.Tests.{All}
 use Rattle.base_sets.specs.Laws.Member.{all-singleton}
 use Rattle.def_kinds.specs.declared.ValueKind.{ValueKind}
@@ -24,7 +24,7 @@ use Rattle.def_effects.specs.Keys.{EffectKey, effectKey, namedBy, names, create
 use Rattle.def_transfer.specs.Monad.{M, Done, each}
 use Rattle.def_transfer.specs.Diagnostics.{Diagnostic}
 use Rattle.def_transfer.specs.Tables.{Tables, State, Rest, World}
-use Rattle.def_transfer.specs.State.{valuesOf, ask, recordAccess, kindWithSpan, kind, define, orInsert, assignSet, assign, freezeValue, toFreeze, freeze, fromIdentifier}
+use Rattle.def_transfer.specs.State.{ask, recordAccess, kindWithSpan, kind, define, orInsert, assignSet, assign, freezeValue, toFreeze, freeze, fromIdentifier}
 use Rattle.def_transfer.specs.Context.{refreshed, putEffect, internNew, internEffect, setNext, freshNumber, cache, orFresh, getOrCreateValueId, linkTo, functionContext, linkedContext, makeRead, putDiagnostic, newIdentity, newInstance, internDiagnostic, emit, isInitialized, putInitialized, begin, startFreeze, countEntry}
 use Rattle.def_transfer.specs.Walk.{freezeAndEnter, enterPlace, enterContext, freezeFunctionCapturesTransitive, walk}
 use Rattle.def_transfer.specs.Step.{Flow, Immutable, Same, Maybe, Nothing, Source, FromContext, FromNothing, FromFrozen, FromMutable, Destination, flowOf, create, isWritten, anyWritten, updateContext, byFlow, mutate, flowing, reportModified, reportHoisted, report, mutating, freezing, creating, capturingImmutably, listCreated, creatingFrom, assigning, creatingFunction, act, applyEffect}

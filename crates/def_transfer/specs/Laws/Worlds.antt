@@ -7,7 +7,7 @@ use mathlib.Core.List.{List, [], _∷_}
 use mathlib.Core.Option.{Option, none}
 use lib.Dec.{T, ltb}
 use Rattle.base_orders.specs.Options.{joinOption}
-use Rattle.base_sets.specs.Members.{members}
+use Rattle.base_sets.specs.Members.{members, valuesOf}
 use Rattle.base_tests.specs.Tests.{All}
 use Rattle.def_kinds.specs.declared.AbstractValue.{AbstractValue}
 use Rattle.def_kinds.specs.Values.{join}
@@ -15,7 +15,7 @@ use Rattle.def_effects.specs.declared.Place.{Place}
 use Rattle.def_effects.specs.Places.{identifiers}
 use Rattle.def_transfer.specs.Monad.{M, Done, _>>=_, each}
 use Rattle.def_transfer.specs.Tables.{Tables, State, Rest, World}
-use Rattle.def_transfer.specs.State.{valuesOf, orDefault, joinValues, kindOf, setOf, valueOf, peek, initialize, point, ask, change}
+use Rattle.def_transfer.specs.State.{orDefault, joinValues, kindOf, setOf, valueOf, peek, initialize, point, ask, change}
 use Rattle.def_transfer.specs.Reach.{Node, val, id, Entry, valued, pointing, entry, Untouched}
 use Rattle.def_transfer.specs.Lawful.{Lawful}
 use Rattle.def_transfer.specs.Laws.Sim.{Any, Frame, Sim, plain, bind-sim, then-sim, done-sim, each-sim}

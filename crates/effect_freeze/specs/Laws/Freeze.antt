@@ -8,7 +8,9 @@ use Rattle.def_effects.specs.declared.Place.{Place}
 use Rattle.def_effects.specs.Effects.{AliasingEffect}
 use Rattle.def_transfer.specs.Monad.{Res, ok, M, Done, each}
 use Rattle.def_transfer.specs.Tables.{World}
-use Rattle.def_transfer.specs.State.{valuesOf, bitsOf, isSome, ask, change, setOf}
+use Rattle.def_transfer.specs.State.{ask, change, setOf}
+use Rattle.base_sets.specs.Members.{valuesOf, bitsOf}
+use Rattle.base_tests.specs.Tests.{isSome}
 use Rattle.def_transfer.specs.State as State
 use Rattle.def_transfer.specs.Context.{startFreeze, emit}
 use Rattle.def_transfer.specs.Walk.{freezeFunctionCapturesTransitive, walk}

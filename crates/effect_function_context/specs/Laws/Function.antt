@@ -16,7 +16,8 @@ use Rattle.def_kinds.specs.Kinds.{copied, isFrozen}
 use Rattle.def_effects.specs.declared.Place.{Place}
 use Rattle.def_transfer.specs.Monad.{ok, andThen, _>>=_, return, done, if_then_else_, each}
 use Rattle.def_transfer.specs.State as State
-use Rattle.def_transfer.specs.State.{isSome, kindOf, change}
+use Rattle.def_transfer.specs.State.{kindOf, change}
+use Rattle.base_tests.specs.Tests.{isSome}
 use Rattle.def_transfer.specs.Context as Context
 use Rattle.def_transfer.specs.Step as Step
 use Rattle.lent_values.specs.Cells.{valueAt}

@@ -6,7 +6,7 @@ use mathlib.Core.Path.{_≡_, refl, sym, ap, ap₂, _∙_}
 use mathlib.Core.Bool.{Bool, true, false, _&&_}
 use mathlib.Core.List.{List, _∷_}
 use lib.Dec.{eqb, ltb}
-use Rattle.base_tests.specs.Tests.{ite}
+use Rattle.base_tests.specs.Tests.{ite, isSome}
 use Rattle.base_tests.specs.Laws.Choice.{ite-lt, ite-ge}
 use Rattle.def_kinds.specs.declared.AbstractValue.{AbstractValue}
 use Rattle.def_kinds.specs.Kinds.{writable}
@@ -18,7 +18,7 @@ use Rattle.def_effects.specs.Effects.{AliasingEffect}
 use Rattle.def_transfer.specs.Monad.{Res, ok, Done, andThen, _>>=_, _>>_, return, refuse, done, if_then_else_}
 use Rattle.def_transfer.specs.Tables.{World}
 use Rattle.def_transfer.specs.State as State
-use Rattle.def_transfer.specs.State.{isSome, kindOf, ask, change}
+use Rattle.def_transfer.specs.State.{kindOf, ask, change}
 use Rattle.def_transfer.specs.Context as Context
 use Rattle.def_transfer.specs.Step as Step
 use Rattle.lent_values.specs.Cells.{valueAt, putValue}

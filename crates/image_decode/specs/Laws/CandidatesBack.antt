@@ -8,10 +8,9 @@ use native.Mathlib.Omega.{arith}
 use lib.ListN.{length, getD}
 use Rattle.def_effects.specs.Effects.{AliasingEffect, Render}
 use Rattle.lent_tables.specs.declared.Table.{Table}
-use Rattle.lent_effects.specs.Records.{effectIn, putEffect}
+use Rattle.lent_effects.specs.Records.{effectIn, putEffect, candidateTable}
 use Rattle.lent_effects.specs.Laws.EffectFrames.{effect-cong, effect-length, effect-record}
 use Rattle.lent_context.specs.Lent.{effectsIn}
-use Rattle.refuse_instruction.specs.EffectClasses.{candidateTable}
 use Rattle.def_image.specs.Layout.{Image, code, firstPlace, capturesFirst, capturesCount}
 use Rattle.def_image.specs.Decode.{listFrom, placeAt, placesFrom, makers, effectAt}
 use Rattle.image_decode.specs.Decoded.{after, decodedCandidate, decodedCandidates}

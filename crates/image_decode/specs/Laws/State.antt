@@ -10,7 +10,8 @@ use Rattle.def_kinds.specs.declared.ValueKind.{ValueKind}
 use Rattle.def_kinds.specs.Kinds.{kindAt}
 use Rattle.def_kinds.specs.Values.{mk}
 use Rattle.lent_values.specs.Cells.{putValue}
-use Rattle.lent_sets.specs.Rows.{number, rowNumber, setAt, bitsOf, putSet, addSet}
+use Rattle.lent_sets.specs.Rows.{number, rowNumber, setAt, putSet, addSet}
+use Rattle.base_sets.specs.Members.{bitsOf}
 use Rattle.lent_sets.specs.Laws.Row.{add-length, add-number, add-row}
 use Rattle.lent_sets.specs.Laws.Code.{put-cut, add-none}
 use Rattle.def_image.specs.Layout.{cell}

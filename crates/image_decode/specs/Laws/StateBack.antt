@@ -19,11 +19,11 @@ use Rattle.def_kinds.specs.Kinds.{kindAt}
 use Rattle.def_kinds.specs.Values.{mk}
 use Rattle.lent_values.specs.Cells.{cellOf, valueAt, putValue}
 use Rattle.lent_values.specs.Laws.Cell.{value-same, value-other, put-length}
-use Rattle.lent_sets.specs.Rows.{number, rowNumber, marked, setAt, bitsOf, putSet}
+use Rattle.lent_sets.specs.Rows.{number, rowNumber, marked, setAt, putSet}
+use Rattle.base_sets.specs.Members.{bitsOf}
 use Rattle.base_tests.specs.Laws.Order.{same-or-not}
 use Rattle.lent_sets.specs.Laws.Bit.{bit-low}
 use Rattle.lent_sets.specs.Laws.Row.{Fit, fit-set, set-zero, bits-small, set-same, set-other}
-use Rattle.def_transfer.specs.State as State
 use Rattle.def_transfer.specs.Pure.{at}
 use Rattle.def_image.specs.Layout.{Image, valueNumber, valueKind, valueReasons, pairIdentifier, pairValue}
 use Rattle.def_image.specs.Decode.{memberOf, withPair, valueTable, setTable}
@@ -130,7 +130,7 @@ bits-even rs i = go (setAt rs i) refl
     go (some s) e = sym (bit-low s) ∙ set-zero rs i s e
 
 -- the bits of a set, said twice
-same-bits : (o : Option ℕ) → bitsOf o ≡ State.bitsOf o
+same-bits : (o : Option ℕ) → bitsOf o ≡ bitsOf o
 same-bits none = refl
 same-bits (some s) = refl
 
@@ -156,11 +156,11 @@ pair-back im m n rs f h l before i =
     ⊎-elim
     (λ e. ap (setAt (putSet rs j (bitOr (bitsOf (setAt rs j)) (memberOf v)))) (sym e)
     ∙ pair-stored m rs j v f h l
-    ∙ ap (λ (x : ℕ). some (bitOr x (memberOf v))) (same-bits (setAt rs j) ∙ ap State.bitsOf (before j))
-    ∙ sym (at-same (setTable im n) j i (some (bitOr (State.bitsOf (setTable im n j)) (memberOf v))) e))
+    ∙ ap (λ (x : ℕ). some (bitOr x (memberOf v))) (same-bits (setAt rs j) ∙ ap bitsOf (before j))
+    ∙ sym (at-same (setTable im n) j i (some (bitOr (bitsOf (setTable im n j)) (memberOf v))) e))
     (λ d. set-other rs j (bitOr (bitsOf (setAt rs j)) (memberOf v)) i d
     ∙ before i
-    ∙ sym (at-other (setTable im n) j i (some (bitOr (State.bitsOf (setTable im n j)) (memberOf v))) d))
+    ∙ sym (at-other (setTable im n) j i (some (bitOr (bitsOf (setTable im n j)) (memberOf v))) d))
     (same-or-not j i)
   where
     j : ℕ

@@ -10,7 +10,8 @@ use mathlib.Core.List.{map}
 use mathlib.Core.Option.{some}
 use Rattle.base_tests.specs.Laws.Bool.{not-true, not-false}
 use Rattle.lent_sets.specs.Laws.Row.{Walk, walk-start, walk-step}
-use Rattle.lent_sets.specs.Rows.{setAt, bitsOf, valuesOf, left}
+use Rattle.lent_sets.specs.Rows.{setAt, left}
+use Rattle.base_sets.specs.Members.{bitsOf, valuesOf}
 use Rattle.image_listing.proofs.put_members.Statement.{statement}
 use Rattle.image_listing.proofs.put_members.Tie as tie
 

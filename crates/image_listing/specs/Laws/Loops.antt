@@ -6,8 +6,9 @@ use mathlib.Core.Bool.{true, false}
 use mathlib.Core.List.{List, [], _∷_, map}
 use mathlib.Core.Option.{Option, none, some}
 use lib.ListN.{length}
-use Rattle.base_sets.specs.Members.{members}
-use Rattle.lent_sets.specs.Rows.{setAt, isSome, bitsOf, valuesOf, nextMember, left}
+use Rattle.base_sets.specs.Members.{members, bitsOf, valuesOf}
+use Rattle.lent_sets.specs.Rows.{setAt, nextMember, left}
+use Rattle.base_tests.specs.Tests.{isSome}
 use Rattle.lent_sets.specs.Laws.Row.{Walk, walk-start, walk-step, walk-end, none-of}
 use Rattle.def_effects.specs.declared.Place.{Place}
 use Rattle.lent_effects.specs.declared.AliasingEffect.{AliasingEffect as Head}

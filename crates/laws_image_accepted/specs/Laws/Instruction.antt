@@ -20,14 +20,14 @@ use Rattle.def_effects.specs.Effects.{Create, CreateFunction, Render}
 use Rattle.lent_tables.specs.declared.Table.{Table}
 use Rattle.lent_tables.specs.Words.{index, field, putField, putPlace, putPlaces}
 use Rattle.lent_tables.specs.Laws.Word.{put-length, place-length, field-cong, within-word}
-use Rattle.lent_effects.specs.Records.{putEffect}
+use Rattle.lent_effects.specs.Records.{putEffect, candidateTable}
 use Rattle.lent_effects.specs.Laws.EffectFrames.{effect-length, effect-record}
 use Rattle.def_transfer.specs.Instruction.{has}
 use Rattle.lent_context.specs.Lent.{instanceCount}
 use Rattle.base_tests.specs.Laws.Bool.{or-first, or-neither}
 use Rattle.refuse_class.specs.Class.{lower}
 use Rattle.refuse_words.specs.Classes.{lowestBelow, wordClass, any, usedIf, placeLimit, runLimit, wordsBelow, recordClass}
-use Rattle.refuse_instruction.specs.EffectClasses.{candidateTable, usedParts, middleLimit, effectLimit, countClass, numbersClass, effectClass, placeClass, instructionClass}
+use Rattle.refuse_instruction.specs.EffectClasses.{usedParts, middleLimit, effectLimit, countClass, numbersClass, effectClass, placeClass, instructionClass}
 use Rattle.refuse_instruction.specs.EffectClasses as Classes
 use Rattle.def_image.specs.Layout.{Image, word, identifiers, functions, candidates, countOf, cell, lvalue, own, code, firstPlace, secondPlace, detail, reason, function, capturesFirst, capturesCount}
 use Rattle.def_image.specs.Refusals.{usedWords, detailsOf, uses, limitOf, refusalOfWords}

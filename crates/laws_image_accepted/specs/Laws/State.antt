@@ -11,8 +11,8 @@ use lib.Bits.{bitOr}
 use lib.ListN.{length, getD, set}
 use lib.Seq.{getD-take, getD-set-same, getD-set-other, set-out}
 use borrow.Author.Tests.{eq-eqb, ne-eqb, lt-ltb, le-leb, ltb-true, eqb-false}
-use Rattle.base_sets.specs.Members.{digitsFrom, members, singleton}
-use Rattle.base_tests.specs.Tests.{All, ite}
+use Rattle.base_sets.specs.Members.{digitsFrom, members, singleton, bitsOf, valuesOf}
+use Rattle.base_tests.specs.Tests.{All, ite, isSome}
 use Rattle.base_sets.specs.Laws.Member.{all-map, all-singleton, all-union}
 use Rattle.def_kinds.specs.declared.AbstractValue.{AbstractValue}
 use Rattle.def_kinds.specs.Kinds.{codeOf, kindAt}
@@ -22,7 +22,7 @@ use Rattle.def_kinds.specs.Reasons.{areReasons}
 use Rattle.lent_copies.specs.Copies.{zeros}
 use Rattle.lent_values.specs.Cells.{putValue}
 use Rattle.lent_values.specs.Cells as Cells
-use Rattle.lent_sets.specs.Rows.{rowWord, rowNumber, setWord, wordOf, marked, setAt, isSome, bitsOf, valuesOf, putWord, putRow, putSet}
+use Rattle.lent_sets.specs.Rows.{rowWord, rowNumber, setWord, wordOf, marked, setAt, putWord, putRow, putSet}
 use Rattle.base_tests.specs.Laws.Order.{lt-or-ge, same-or-not}
 use Rattle.lent_sets.specs.Laws.Loop.{words-other}
 use Rattle.lent_sets.specs.Laws.Number.{number-same}

@@ -20,9 +20,7 @@ use Rattle.def_kinds.specs.Laws.Kinds.{value-joins, above-says, above-test}
 use Rattle.def_kinds.specs.Values as Values
 use Rattle.def_transfer.specs.Merge.{Entries, joined, valueAbove, setAbove, above, addsValue, addsSet, adds, merge, mergedValue, mergedSet, mergeFrom}
 use Rattle.base_tests.specs.Tests.{allBelow}
-use Rattle.base_tests.specs.Laws.Below.{all-at}
-use Rattle.base_tests.specs.Laws.Below.{all-from}
-use Rattle.base_tests.specs.Laws.Below.{any-not-all}
+use Rattle.base_tests.specs.Laws.Below.{all-at, all-from, any-not-all}
 
 -- ---- one entry: the test says that joining leaves the entry
 

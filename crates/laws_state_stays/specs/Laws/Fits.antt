@@ -9,8 +9,8 @@ use lib.Dec.{eqb, leb}
 use lib.ListN.{length, getD, set}
 use lib.Seq.{getD-set-same, getD-set-other}
 use borrow.Author.Tests.{le-leb, eq-eqb, eqb-true, not-false}
-use Rattle.base_sets.specs.Members.{members}
-use Rattle.base_tests.specs.Tests.{All}
+use Rattle.base_sets.specs.Members.{members, valuesOf}
+use Rattle.base_tests.specs.Tests.{All, isSome}
 use Rattle.base_sets.specs.Laws.Member.{all-map}
 use Rattle.def_kinds.specs.declared.AbstractValue.{AbstractValue}
 use Rattle.def_kinds.specs.Kinds.{codeOf}
@@ -19,7 +19,7 @@ use Rattle.def_kinds.specs.Reasons.{areReasons}
 use Rattle.def_transfer.specs.Accepted.{notANumber, notYetHandedOut}
 use Rattle.lent_values.specs.Cells.{wordOf, putValue}
 use Rattle.lent_values.specs.Laws.Cell as CellLaws
-use Rattle.lent_sets.specs.Rows.{rowWord, setWord, setAt, isSome, valuesOf, putWord, putRow, putSet}
+use Rattle.lent_sets.specs.Rows.{rowWord, setWord, setAt, putWord, putRow, putSet}
 use Rattle.lent_sets.specs.Rows as Rows
 use Rattle.base_tests.specs.Laws.Order.{same-or-not}
 use Rattle.lent_sets.specs.Laws.Loop.{words-other}

@@ -13,7 +13,7 @@ use lib.Bits.{or-lt}
 use borrow.Author.Tests.{ltb-true, lt-ltb, not-false}
 use Rattle.base_tests.specs.Tests.{ite, All}
 use Rattle.base_orders.specs.Options.{joinOption}
-use Rattle.base_sets.specs.Members.{union}
+use Rattle.base_sets.specs.Members.{union, valuesOf}
 use Rattle.base_sets.specs.Laws.Member.{all-union}
 use Rattle.def_kinds.specs.declared.AbstractValue.{AbstractValue}
 use Rattle.def_kinds.specs.Reasons.{areReasons}
@@ -21,7 +21,7 @@ use Rattle.def_kinds.specs.Values as Values
 use Rattle.def_transfer.specs.Accepted.{notANumber}
 use Rattle.lent_values.specs.Cells.{cellOf, valueAt}
 use Rattle.lent_values.specs.Laws.Cell.{cell-absent, cell-present}
-use Rattle.lent_sets.specs.Rows.{upto, rowWord, setAt, valuesOf}
+use Rattle.lent_sets.specs.Rows.{upto, rowWord, setAt}
 use Rattle.base_tests.specs.Laws.Order.{lt-or-ge, same-or-not}
 use Rattle.state_merge.specs.Lists.{valueAdds, setAdds, putEntry, mergeValue, mergeValues, putSome, mergeSet, mergeSets, rowsOf, mergedValues, mergedSets}
 use Rattle.state_merge.specs.Laws.MergeList.{rows-of, copy-all, cleared-set}

@@ -9,8 +9,8 @@ use native.Mathlib.Omega.{arith}
 use lib.Dec.{eqb}
 use lib.Pow.{pow-lt}
 use borrow.Author.Tests.{ltb-true, lt-ltb, not-false}
-use Rattle.base_tests.specs.Tests.{ite, All, anyOf}
-use Rattle.base_sets.specs.Members.{members, digitsFrom, singleton, union}
+use Rattle.base_tests.specs.Tests.{ite, All, anyOf, isSome}
+use Rattle.base_sets.specs.Members.{members, digitsFrom, singleton, union, valuesOf, bitsOf}
 use Rattle.base_sets.specs.Laws.Member.{all-map, all-singleton, all-union}
 use Rattle.def_kinds.specs.declared.ValueKind.the-variants.{Frozen}
 use Rattle.def_kinds.specs.declared.AbstractValue.{AbstractValue}
@@ -30,7 +30,7 @@ use Rattle.def_transfer.specs.Step as Step
 use Rattle.def_effects.specs.declared.MutationResult.the-variants as Result
 use Rattle.def_effects.specs.Mutation.{isStrict, resultOf}
 use Rattle.lent_values.specs.Cells.{valueAt, putValue}
-use Rattle.lent_sets.specs.Rows.{setAt, isSome, valuesOf, bitsOf, putSet, appended, appendSet}
+use Rattle.lent_sets.specs.Rows.{setAt, putSet, appended, appendSet}
 use Rattle.state_ops.specs.Lists.{freezeAll, freezes, frozenValues, inserted, ownInserted, ownValue, assignedValues, ownSets, setOrOwn, assignedSets, unions, phiSets}
 use Rattle.state_ops.specs.Laws.Text.{initialize-lists, define-lists, assign-lists, append-lists, freeze-lists, phi-lists}
 use Rattle.refuse_state.specs.Words.{stateRefusal, identifiers}

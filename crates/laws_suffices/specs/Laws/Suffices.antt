@@ -21,14 +21,14 @@ use Rattle.lent_tables.specs.declared.Table.{Table}
 use Rattle.lent_tables.specs.Words.{field, placesIn}
 use Rattle.lent_effects.specs.declared.AliasingEffect.{AliasingEffect as Head}
 use Rattle.lent_effects.specs.declared.AliasingEffect.the-variants as Head
-use Rattle.lent_effects.specs.Records.{countedPlaces, effectWith, headIn, effectIn}
+use Rattle.lent_effects.specs.Records.{countedPlaces, effectWith, headIn, effectIn, candidateTable}
 use Rattle.lent_effects.specs.Laws.Head.{code-past, code-apply, code-known}
 use Rattle.lent_keys.specs.Laws.Number.{numbers-count, places-numbers}
 use Rattle.lent_context.specs.Layout as Layout
 use Rattle.lent_context.specs.Lent.{effectsIn, mutatedInside}
 use Rattle.def_transfer.specs.Monad.{Res, ok, refused, Done}
 use Rattle.def_transfer.specs.Tables.{World}
-use Rattle.def_transfer.specs.Instruction.{applySignature}
+use Rattle.def_transfer.specs.Instruction.{applySignature, ownOf}
 use Rattle.lent_world.specs.World.{lent}
 use Rattle.refuse_state.specs.Words.{identifiers}
 use Rattle.refuse_class.specs.Laws.Class.{lower-0}
@@ -36,7 +36,7 @@ use Rattle.refuse_words.specs.Classes.{lowestBelow, earns}
 use Rattle.refuse_instruction.specs.EffectClasses.{uses, usedParts, countClass, effectClass, instructionClass}
 use Rattle.refuse_tables.specs.TableClasses.{placesClass, functionClass}
 use Rattle.refuse_context.specs.Accepting.{countsWrong, functionsClass, tablesClass, contextClass}
-use Rattle.call_run.specs.Instructions.{candidateTable, ownOf, instructionOf}
+use Rattle.call_run.specs.Instructions.{instructionOf}
 use Rattle.laws_counts.specs.Laws.Grows.{after}
 use Rattle.laws_counts.specs.Laws.Steps.{mutated}
 use Rattle.laws_counts.specs.Laws.Counts.{Fits}
@@ -203,7 +203,7 @@ module _ (n functions : ℕ) (c xs : List ℕ) (count : ℕ) (p : Place) (own : 
 -- ---- the call
 
 -- an instruction that no class refuses has the sizes that document 01 allows
--- so the bounds of `counts` hold of it
+-- so the bounds of `laws_counts` hold of it
 pub accepted-fits : (c : Call) → callClass c ≡ 0 → Fits lent (lentInstruction c) (c .context)
 accepted-fits c e =
     let a = class-0 (c .values) (c .sets) (c .flag) (c .context) (c .session) (c .candidates) (c .lvalue) (c .own) (c .output) (c .scratch64) (c .scratch32) e in

@@ -14,7 +14,9 @@ use lib.Seq.{getD-set-same, getD-set-other, set-getD, ext-getD}
 use lib.Pow.{shr-le, mod-mod-pow, field}
 use lib.Bits.{bitOr, or-zero-r, or-zero-l, or-lt}
 use lib.Count.{trailingZeros, ones, ones-step, ones-le}
-use Rattle.lent_sets.specs.Rows.{bit, seek, rowWord, setWord, number, rowNumber, wordOf, marked, setAt, isSome, bitsOf, valuesOf, putWord, putRow, putSet, copySet, appendSet, member, nextMember, evenRow, memberWord, orWord, addSet}
+use Rattle.lent_sets.specs.Rows.{bit, seek, rowWord, setWord, number, rowNumber, wordOf, marked, setAt, putWord, putRow, putSet, copySet, appendSet, member, nextMember, evenRow, memberWord, orWord, addSet}
+use Rattle.base_sets.specs.Members.{bitsOf, valuesOf}
+use Rattle.base_tests.specs.Tests.{isSome}
 use Rattle.base_tests.specs.Laws.Order.{lt-or-ge, same-or-not}
 use Rattle.lent_sets.specs.Laws.Bit.{bit-shr, bit-zero, bit-high, bit-even, bit-even-low, bit-word, bit-ext, tz-zero, tz-one}
 use Rattle.lent_sets.specs.Laws.Loop.{seek-skip, seek-here, upto-same, upto-none}

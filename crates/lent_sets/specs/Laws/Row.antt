@@ -11,9 +11,9 @@ use native.Mathlib.Omega.{arith}
 use lib.ListN.{length, getD, set, List·getD-eq-default}
 use lib.Dec.{lit<}
 use lib.Bits.{bitOr, or-mod, or-lt, or-step, or-zero-r}
-use Rattle.base_sets.specs.Members.{members}
-use Rattle.base_tests.specs.Tests.{All}
-use Rattle.lent_sets.specs.Rows.{bit, seek, upto, rowWord, setWord, number, rowNumber, wordOf, marked, setAt, isSome, bitsOf, valuesOf, copied, copySet, appended, appendSet, putWord, putRow, putSet, member, nextMember, left, orWord, addSet}
+use Rattle.base_sets.specs.Members.{members, bitsOf, valuesOf}
+use Rattle.base_tests.specs.Tests.{All, isSome}
+use Rattle.lent_sets.specs.Rows.{bit, seek, upto, rowWord, setWord, number, rowNumber, wordOf, marked, setAt, copied, copySet, appended, appendSet, putWord, putRow, putSet, member, nextMember, left, orWord, addSet}
 use Rattle.base_tests.specs.Laws.Order.{lt-or-ge, same-or-not}
 use Rattle.lent_sets.specs.Laws.Bit.{bit-low, bit-zero, bit-high, bit-or, bit-one, bit-word, bit-even, bit-even-low}
 use Rattle.lent_sets.specs.Laws.Loop.{seek-le, seek-ge, seek-at, words-length, words-other, words-at, words-out}

@@ -7,10 +7,9 @@ use mathlib.Core.List.{List}
 use native.Mathlib.Omega.{arith}
 use lib.ListN.{length}
 use lib.Seq.{getD-set-same, set-out}
-use Rattle.base_sets.specs.Members.{members}
+use Rattle.base_sets.specs.Members.{members, valuesOf}
 use Rattle.base_tests.specs.Tests.{All}
 use Rattle.def_kinds.specs.declared.AbstractValue.{AbstractValue}
-use Rattle.def_transfer.specs.State.{valuesOf}
 use Rattle.lent_values.specs.Cells.{cellOf, wordOf, valueAt, putValue}
 use Rattle.lent_values.specs.Laws.Cell as CellLaws
 use Rattle.base_tests.specs.Laws.Order.{lt-or-ge, same-or-not}

@@ -1,4 +1,4 @@
--- `state_merge_calls::lower` meets its contract, by its four ways. Assumes nothing.
+-- `refuse_class::lower` meets its contract, by its four ways. Assumes nothing.
 use Rattle.refuse_class.specs.Laws.Class.{lower-none, lower-alone, lower-second, lower-first}
 use Rattle.refuse_class.proofs.lower.Statement.{statement}
 use Rattle.refuse_class.proofs.lower.Tie as tie

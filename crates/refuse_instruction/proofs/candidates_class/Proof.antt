@@ -4,7 +4,8 @@ use Prim.Native.Nat.{_-_, _≤_}
 use native.Mathlib.Omega.{arith}
 use Rattle.refuse_words.specs.Classes.{lowestBelow}
 use Rattle.refuse_words.specs.Laws.Class.{lowest-none, lowest-more, lowest-end}
-use Rattle.refuse_instruction.specs.EffectClasses.{effectClass, candidateTable}
+use Rattle.refuse_instruction.specs.EffectClasses.{effectClass}
+use Rattle.lent_effects.specs.Records.{candidateTable}
 use Rattle.refuse_instruction.proofs.candidates_class.Statement.{statement}
 use Rattle.refuse_instruction.proofs.candidates_class.Tie as tie
 

@@ -18,7 +18,8 @@ use Rattle.refuse_class.specs.Laws.Class.{lower-none}
 use Rattle.base_tests.specs.Laws.Bool.{or-first, or-second, or-neither}
 use Rattle.refuse_words.specs.Classes.{lowestBelow, earns, recordClass}
 use Rattle.refuse_words.specs.Laws.Order.{Class, Later, class-later, earns-class, record-class, lower-keeps, lowest-keeps, two-first}
-use Rattle.refuse_instruction.specs.EffectClasses.{uses, effectLimit, countClass, numbersClass, effectClass, candidateTable, placeClass, instructionClass}
+use Rattle.refuse_instruction.specs.EffectClasses.{uses, effectLimit, countClass, numbersClass, effectClass, placeClass, instructionClass}
+use Rattle.lent_effects.specs.Records.{candidateTable}
 
 -- ---- an effect
 

@@ -10,7 +10,7 @@ use lib.Dec.{eqb}
 use borrow.Author.Tests.{eq-eqb, ne-eqb}
 use Rattle.def_effects.specs.declared.Diagnostic.{Diagnostic}
 use Rattle.def_transfer.specs.Diagnostics.{sameIdentity, sameLabels}
-use Rattle.def_transfer.specs.State.{isSome}
+use Rattle.base_tests.specs.Tests.{isSome}
 use Rattle.def_transfer.specs.Pure.{Interned, identities, findIdentity, findInstance}
 use Rattle.lent_tables.specs.Words.{field}
 use Rattle.lent_keys.specs.declared.Found.{Found}

@@ -8,13 +8,12 @@ use mathlib.Core.List.{List, []}
 use mathlib.Core.Option.{Option, none, some}
 use lib.ListN.{length}
 use Rattle.base_tests.specs.Laws.Bool.{not-true, not-false}
-use Rattle.base_tests.specs.Tests.{ite}
+use Rattle.base_tests.specs.Tests.{ite, isSome}
 use Rattle.base_tests.specs.Laws.Choice.{ite-eq, ite-ne}
 use Rattle.def_effects.specs.declared.Place.{Place}
 use Rattle.def_effects.specs.Places.{identifiers}
 use Rattle.def_effects.specs.Effects.{AliasingEffect}
 use Rattle.def_effects.specs.Keys.{EffectKey, effectKey, eqKey, eqList}
-use Rattle.def_transfer.specs.State.{isSome}
 use Rattle.def_transfer.specs.Pure.{findEffect, isKey, firstCached}
 use Rattle.lent_tables.specs.Words.{field}
 use Rattle.lent_effects.specs.declared.AliasingEffect.{AliasingEffect as Head}

@@ -12,23 +12,18 @@ use lib.ListN.{length, getD, List·getD-eq-default}
 use borrow.Author.Tests.{leb-true, lt-ltb, not-false}
 use Rattle.base_tests.specs.Laws.Bool.{both, or-no-first, or-no-second, or-neither, and-first, passes}
 use Rattle.def_kinds.specs.Reasons.{areReasons}
-use Rattle.def_transfer.specs.Merge.{Entries}
-use Rattle.base_tests.specs.Tests.{anyBelow, anyOf, ite}
+use Rattle.base_tests.specs.Tests.{anyBelow, anyOf, ite, isSome}
 use Rattle.def_transfer.specs.Accepted.{notANumber, notYetHandedOut, valueOutOfRange, setOutOfRange, valueTooNew, setTooNew, earns3, earns4, accepted}
 use Rattle.lent_values.specs.Cells.{cellOf, valueAt}
 use Rattle.lent_values.specs.Laws.Cell.{cell-absent, cell-present}
-use Rattle.lent_sets.specs.Rows.{rowNumber, marked, setAt, isSome, valuesOf}
+use Rattle.lent_sets.specs.Rows.{rowNumber, marked, setAt}
+use Rattle.base_sets.specs.Members.{valuesOf}
 use Rattle.base_tests.specs.Laws.Order.{lt-or-ge, same-or-not}
 use Rattle.lent_sets.specs.Laws.Number.{number-none}
-use Rattle.refuse_state.specs.Words.{hasEntry, wordOutOfRange, wordUnfit, rowOutOfRange, rowTooNew, rowUnfit, nextOutOfRange, accessOutOfRange, identifiers, wrongLengths, valuesOutOfRange, rowsOutOfRange, valuesUnfit, rowsUnfit, stateOutOfRange, stateUnfit, stateRefusal}
+use Rattle.refuse_state.specs.Words.{hasEntry, wordOutOfRange, wordUnfit, rowOutOfRange, rowTooNew, rowUnfit, nextOutOfRange, accessOutOfRange, identifiers, wrongLengths, valuesOutOfRange, rowsOutOfRange, valuesUnfit, rowsUnfit, stateOutOfRange, stateUnfit, stateRefusal, entries}
 use Rattle.base_tests.specs.Laws.Below.{any-no, any-at}
 use Rattle.refuse_state.specs.Laws.Word.{reasons-lt, entry-yes, unfit-entry}
 use Rattle.refuse_state.specs.Laws.State.{lengths-fit}
-
--- the entries of a state that is lent as words
--- what `accepted` asks about
-abbrev pub lent : List ℕ → List ℕ → Entries
-lent vs ss = record { value = valueAt vs; set = setAt ss }
 
 -- ---- a word and its entry
 
@@ -80,7 +75,7 @@ set-past-end n ss i e l =
 -- ---- all of them
 
 module _ (n next : ℕ) (vs ss : List ℕ) (fits : length ss ≡ 16 * n) where
-  all-in-range : valuesOutOfRange n vs ≡ false → rowsOutOfRange n ss ≡ false → earns3 n (lent vs ss) ≡ false
+  all-in-range : valuesOutOfRange n vs ≡ false → rowsOutOfRange n ss ≡ false → earns3 n (entries vs ss) ≡ false
   unfolding valuesOutOfRange rowsOutOfRange earns3 valueAt setOutOfRange
   all-in-range h k = or-neither (anyBelow 1024 (λ v. valueOutOfRange n v (cellOf (getD vs v 0)))) _
       (any-no 1024 _ (λ v l. value-in-range n v (getD vs v 0) (any-at 1024 _ h v l)))
@@ -89,7 +84,7 @@ module _ (n next : ℕ) (vs ss : List ℕ) (fits : length ss ≡ 16 * n) where
       (λ p. ap (setOutOfRange n i) (set-past-end n ss i fits p))
       (lt-or-ge i n)))
 
-  all-handed-out : valuesUnfit next vs ≡ false → rowsUnfit n next ss ≡ false → earns4 next (lent vs ss) ≡ false
+  all-handed-out : valuesUnfit next vs ≡ false → rowsUnfit n next ss ≡ false → earns4 next (entries vs ss) ≡ false
   unfolding valuesUnfit rowsUnfit earns4 valueAt setTooNew
   all-handed-out h k = or-neither (anyBelow 1024 (λ v. valueTooNew next v (cellOf (getD vs v 0)))) _
       (any-no 1024 _ (λ v l. value-handed-out next v (getD vs v 0) (any-at 1024 _ h v l)))
@@ -197,17 +192,17 @@ module _ (vs ss : List ℕ) (next access : ℕ) (h : stateRefusal vs ss next acc
       }
 
   -- nothing in it earns 3, nothing earns 4
-  pub accepted-3 : earns3 (identifiers ss) (lent vs ss) ≡ false
+  pub accepted-3 : earns3 (identifiers ss) (entries vs ss) ≡ false
   unfolding stateOutOfRange
   accepted-3 =
       let r = or-no-second (accessOutOfRange (identifiers ss) access) _ (or-no-second (nextOutOfRange next) _ out) in
       all-in-range (identifiers ss) next vs ss (accepted-lent .sets-length) (or-no-first (valuesOutOfRange (identifiers ss) vs) _ r) (or-no-second (valuesOutOfRange (identifiers ss) vs) _ r)
 
-  pub accepted-4 : earns4 next (lent vs ss) ≡ false
+  pub accepted-4 : earns4 next (entries vs ss) ≡ false
   unfolding stateUnfit
   accepted-4 = all-handed-out (identifiers ss) next vs ss (accepted-lent .sets-length) (or-no-first (valuesUnfit next vs) _ unfit) (or-no-second (valuesUnfit next vs) _ unfit)
 
   -- a state that the test accepts is one that the definition accepts
-  pub accepted-state : T (accepted (identifiers ss) next (lent vs ss))
+  pub accepted-state : T (accepted (identifiers ss) next (entries vs ss))
   unfolding accepted
-  accepted-state = both (not (earns3 (identifiers ss) (lent vs ss))) (not (earns4 next (lent vs ss))) (passes _ accepted-3) (passes _ accepted-4)
+  accepted-state = both (not (earns3 (identifiers ss) (entries vs ss))) (not (earns4 next (entries vs ss))) (passes _ accepted-3) (passes _ accepted-4)

@@ -9,12 +9,12 @@ use native.Mathlib.Nat.{lt-irrefl}
 use native.Mathlib.Omega.{arith}
 use lib.Dec.{ltb}
 use borrow.Author.Tests.{lt-ltb, le-ltb}
-use Rattle.base_sets.specs.Members.{members}
-use Rattle.lent_sets.specs.Rows.{bit, pick, seek, setAt, isSome, bitsOf, valuesOf, member, nextMember}
+use Rattle.base_sets.specs.Members.{members, bitsOf, valuesOf}
+use Rattle.lent_sets.specs.Rows.{bit, pick, seek, setAt, member, nextMember}
+use Rattle.base_tests.specs.Tests.{isSome, anyOf}
 use Rattle.base_tests.specs.Laws.Order.{lt-or-ge}
 use Rattle.lent_sets.specs.Laws.Set.{bits-of, all-bits}
 use Rattle.lent_sets.specs.Laws.Row.{some-of, set-bit, set-values, next-ge, next-is}
-use Rattle.base_tests.specs.Tests.{anyOf}
 use Rattle.def_transfer.specs.Accepted.{notANumber, notYetHandedOut}
 use Rattle.refuse_state.specs.Words.{rowOutOfRange, rowInUse, rowTooNew, rowUnfit}
 use Rattle.base_tests.specs.Laws.Bool.{never}

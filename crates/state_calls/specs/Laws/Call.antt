@@ -8,7 +8,7 @@ use mathlib.Core.Option.{Option, none, some}
 use lib.Dec.{eqb, ltb}
 use borrow.Author.Tests.{lt-ltb, ltb-true, not-false, eq-eqb, ne-eqb}
 use mathlib.Core.Logic.{_⊎_, inl, inr}
-use Rattle.base_tests.specs.Tests.{ite}
+use Rattle.base_tests.specs.Tests.{ite, isSome}
 use Rattle.base_tests.specs.Laws.Bool.{never, or-first, or-second}
 use Rattle.refuse_state.specs.Laws.Accepted.{refusal-one, accepted-lent}
 use Rattle.refuse_state.specs.Words.{stateRefusal, identifiers}
@@ -19,7 +19,7 @@ use Rattle.def_effects.specs.declared.Session.{Session}
 use Rattle.lent_values.specs.Cells.{valueAt, putValue}
 use Rattle.def_kinds.specs.Reasons.{areReasons, isReason}
 use Rattle.def_effects.specs.Places.{noSpan}
-use Rattle.lent_sets.specs.Rows.{setAt, isSome, putSet, appendSet}
+use Rattle.lent_sets.specs.Rows.{setAt, putSet, appendSet}
 use Rattle.def_transfer.specs.Accepted.{notANumber, notYetHandedOut}
 use Rattle.def_transfer.specs.Pure as Pure
 use Rattle.def_transfer.specs.Monad.{Res, ok, M, Done, andThen, _>>=_, _>>_, return, done, if_then_else_}
@@ -33,10 +33,7 @@ use Rattle.lent_work.specs.Access.{accessOf}
 use Rattle.state_ops.specs.Use.{afterUse}
 use Rattle.state_calls.specs.declared.KindAnswer.{KindAnswer}
 use Rattle.state_calls.specs.declared.TestAnswer.{TestAnswer}
-
--- a value of a type that is said
-abbrev the : (A : Type 0) → A → A
-the A x = x
+use Rattle.base_tests.specs.Laws.Choice.{the}
 
 -- ---- the lower class
 
@@ -138,7 +135,7 @@ unfolding State.kindWithSpan State.setOf State.peek State.recordAccess State.cha
 kind-runs ref vs ss s i span h = go (setAt ss i) (eqb (s .access) 0) (ltb i 512) (lt-ltb i 512 h)
   where
     go : (o : Option ℕ) (b c : Bool) → c ≡ true
-        → andThen {W = World Lent} {A = Done} {B = AbstractValue} (elim (State.isSome o) as (λ x. Res (World Lent) Done) [ true ↦ ok tt (start ref vs ss s) | false ↦ ok tt (start ref vs ss (elim b as (λ x. Session) [ true ↦ record { next = s .next; access = suc i; span = span; entries = s .entries } | false ↦ s ])) ]) (λ _. State.peek i)
+        → andThen {W = World Lent} {A = Done} {B = AbstractValue} (elim (isSome o) as (λ x. Res (World Lent) Done) [ true ↦ ok tt (start ref vs ss s) | false ↦ ok tt (start ref vs ss (elim b as (λ x. Session) [ true ↦ record { next = s .next; access = suc i; span = span; entries = s .entries } | false ↦ s ])) ]) (λ _. State.peek i)
         ≡ ok (State.kindOf (valueAt vs) (setAt ss i)) (start ref vs ss (ite (isSome o) s (ite b (record { next = s .next; access = ite c (suc i) 0; span = span; entries = s .entries }) s)))
     go (some x) b c e = refl
     go none true true e = refl
@@ -153,7 +150,7 @@ pub defined-runs : (vs ss : List ℕ) (s : Session) (i : ℕ) → State.isDefine
 unfolding State.isDefined State.setOf return _>>=_ andThen
 defined-runs vs ss s i = go (setAt ss i)
   where
-    go : (o : Option ℕ) → ok (State.isSome o) (start false vs ss s) ≡ ok (isSome o) (start false vs ss s)
+    go : (o : Option ℕ) → ok (isSome o) (start false vs ss s) ≡ ok (isSome o) (start false vs ss s)
     go none = refl
     go (some x) = refl
 

@@ -10,8 +10,8 @@ use lib.Dec.{eqb}
 use lib.ListN.{length, getD, set, drop, replicate}
 use lib.Seq.{drop-cons, drop-length}
 use borrow.Author.Tests.{eq-eqb, ne-eqb}
-use Rattle.base_tests.specs.Tests.{ite, anyOf}
-use Rattle.base_tests.specs.Laws.Choice.{ite-eq, ite-ne}
+use Rattle.base_tests.specs.Tests.{ite, anyOf, isSome}
+use Rattle.base_tests.specs.Laws.Choice.{ite-eq, ite-ne, the}
 use Rattle.base_tests.specs.Laws.Bool.{or-first, or-second}
 use Rattle.def_kinds.specs.declared.AbstractValue.{AbstractValue}
 use Rattle.def_effects.specs.declared.Span.{Span}
@@ -22,7 +22,8 @@ use Rattle.def_effects.specs.declared.MutationResult.{MutationResult}
 use Rattle.def_effects.specs.declared.MutationResult.the-variants as Result
 use Rattle.def_effects.specs.Mutation.{isStrict, resultOf}
 use Rattle.lent_values.specs.Cells.{valueAt}
-use Rattle.lent_sets.specs.Rows.{setAt, isSome, bitsOf, valuesOf, left, nextMember}
+use Rattle.lent_sets.specs.Rows.{setAt, left, nextMember}
+use Rattle.base_sets.specs.Members.{bitsOf, valuesOf}
 use Rattle.lent_sets.specs.Laws.Row.{walk-step, walk-end, none-of}
 use Rattle.def_transfer.specs.Monad.{Res, ok, Done, andThen, _>>=_, _>>_, return, if_then_else_}
 use Rattle.def_transfer.specs.Tables.{World}
@@ -38,10 +39,6 @@ use Rattle.state_calls.specs.Calls as Calls
 use Rattle.state_calls.specs.Calls.{Lent, Outcome, start, restOf, refusalOf, outside, refusal1, mutationAnswer, written, valuesRefusal, valuesAnswer, valuesListed}
 use Rattle.state_ops.specs.Use.{afterUse}
 use Rattle.state_calls.specs.Laws.Call.{call-refused, call-runs, kind-runs, inside1}
-
--- a value of a type that is said
-abbrev the : (A : Type 0) → A → A
-the A x = x
 
 -- ---- any of a lent list
 

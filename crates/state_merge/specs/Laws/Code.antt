@@ -12,10 +12,10 @@ use lib.Dec.{eqb}
 use lib.ListN.{length, getD, set, replicate, length-replicate, getD-replicate, List·getD-eq-default}
 use lib.Seq.{ext-getD}
 use lib.Bits.{bitOr, or-lt, or-step, or-zero-l}
-use Rattle.base_tests.specs.Tests.{ite, anyBelow}
+use Rattle.base_tests.specs.Tests.{ite, anyBelow, isSome}
 use Rattle.base_orders.specs.Options.{joinOption}
 use Rattle.base_orders.specs.Laws.Union.{or-odd}
-use Rattle.base_sets.specs.Members.{union}
+use Rattle.base_sets.specs.Members.{union, bitsOf}
 use Rattle.def_kinds.specs.declared.AbstractValue.{AbstractValue}
 use Rattle.def_kinds.specs.Values as Values
 use Rattle.def_transfer.specs.Merge.{Entries, addsValue, addsSet, adds, above, valueAbove}
@@ -23,13 +23,14 @@ use Rattle.laws_merge.specs.Laws.Merge.{adds-value, adds-not-above}
 use Rattle.lent_values.specs.declared.Entry.{Entry}
 use Rattle.lent_values.specs.declared.Entry.the-variants.{Absent, Present}
 use Rattle.lent_values.specs.Cells.{optionOf, valueAt, putValue}
-use Rattle.lent_sets.specs.Rows.{bit, upto, rowWord, rowNumber, number, wordOf, marked, setAt, isSome, bitsOf, putSet, addSet}
+use Rattle.lent_sets.specs.Rows.{bit, upto, rowWord, rowNumber, number, wordOf, marked, setAt, putSet, addSet}
 use Rattle.base_tests.specs.Laws.Order.{same-or-not}
 use Rattle.lent_sets.specs.Laws.Bit.{bit-word, bit-ext}
 use Rattle.lent_sets.specs.Laws.Loop.{upto-step, upto-end, words-length, words-at}
 use Rattle.lent_sets.specs.Laws.Number.{number-none, word-number, word-or}
 use Rattle.lent_sets.specs.Laws.Row.{row-fits, none-of, add-length, add-row}
-use Rattle.state_merge.specs.Lists.{entries, valueAdds, setAdds, putEntry, mergeValue, mergeValues, putSome, mergeSet, mergeSets, rowsOf, copyWord, copyWords, clearWord, mergedValues, mergedSets}
+use Rattle.state_merge.specs.Lists.{valueAdds, setAdds, putEntry, mergeValue, mergeValues, putSome, mergeSet, mergeSets, rowsOf, copyWord, copyWords, clearWord, mergedValues, mergedSets}
+use Rattle.refuse_state.specs.Words.{entries}
 
 -- ---- adds_value
 

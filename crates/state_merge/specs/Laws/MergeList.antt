@@ -29,7 +29,8 @@ use Rattle.lent_sets.specs.Laws.Bit.{bit-low}
 use Rattle.lent_sets.specs.Laws.Loop.{words-length, words-at}
 use Rattle.lent_sets.specs.Laws.Number.{number-none}
 use Rattle.lent_sets.specs.Laws.Row.{Fit, set-same, set-other, set-fits, set-zero}
-use Rattle.state_merge.specs.Lists.{entries, valueAdds, setAdds, putEntry, mergeValue, mergeValues, putSome, mergeSet, mergeSets, rowsOf, copyWord, copyWords, mergedValues, mergedSets}
+use Rattle.state_merge.specs.Lists.{valueAdds, setAdds, putEntry, mergeValue, mergeValues, putSome, mergeSet, mergeSets, rowsOf, copyWord, copyWords, mergedValues, mergedSets}
+use Rattle.refuse_state.specs.Words.{entries}
 use Rattle.state_merge.specs.Laws.Code.{row-past}
 
 -- ---- a loop whose turn w changes what is read at w alone, by f w

@@ -6,13 +6,13 @@ use mathlib.Core.Bool.{Bool, true, false}
 use mathlib.Core.Logic.{⊎-elim}
 use mathlib.Core.List.{List}
 use lib.ListN.{length}
-use Rattle.base_tests.specs.Laws.Choice.{ite-eq, ite-ne}
+use Rattle.base_tests.specs.Laws.Choice.{ite-eq, ite-ne, the}
 use Rattle.base_tests.specs.Laws.Order.{same-or-not}
 use Rattle.def_effects.specs.declared.Session.{Session}
 use Rattle.def_transfer.specs.Monad.{Done}
 use Rattle.def_transfer.specs.Merge.{above, adds, clearAccess}
-use Rattle.refuse_state.specs.Words.{stateRefusal}
-use Rattle.state_merge.specs.Lists.{entries, mergeValues, mergeSets, rowsOf, mergedValues, mergedSets}
+use Rattle.refuse_state.specs.Words.{stateRefusal, entries}
+use Rattle.state_merge.specs.Lists.{mergeValues, mergeSets, rowsOf, mergedValues, mergedSets}
 use Rattle.state_calls.specs.Calls.{Outcome}
 use Rattle.state_calls.specs.declared.TestAnswer.{TestAnswer}
 use Rattle.state_merge_calls.specs.MergeCalls as MergeCalls
@@ -20,10 +20,6 @@ use Rattle.refuse_class.specs.Class.{lower}
 use Rattle.state_merge_calls.specs.MergeCalls.{wrongLength, pairRefusal, thirdRefusal, refusing, keptFlag, mergedFlag, mergeAnswer, sessionAnswer}
 use Rattle.state_merge_calls.specs.declared.MergeAnswer.{MergeAnswer}
 use Rattle.state_merge_calls.specs.declared.SessionAnswer.{SessionAnswer}
-
--- a value of a type that is said
-abbrev pub the : (A : Type 0) → A → A
-the A x = x
 
 -- ---- a length
 

@@ -10,7 +10,7 @@ use mathlib.Core.Option.{none, some}
 use lib.Dec.{T, eqb}
 use lib.ListN.{length}
 use Rattle.base_tests.specs.Tests.{ite}
-use Rattle.base_tests.specs.Laws.Choice.{ite-eq, ite-ne}
+use Rattle.base_tests.specs.Laws.Choice.{ite-eq, ite-ne, the}
 use Rattle.lent_sets.specs.Laws.Row.{Fit}
 use Rattle.base_tests.specs.Laws.Order.{same-or-not}
 use Rattle.def_effects.specs.declared.Session.{Session}
@@ -18,15 +18,15 @@ use Rattle.def_transfer.specs.Monad.{Done}
 use Rattle.def_transfer.specs.Merge.{Entries, nothing, above, adds, joined, clearAccess}
 use Rattle.def_transfer.specs.Merge as Merge
 use Rattle.laws_merge.specs.Laws.Merge.{adds-not-above, joined-above-left, joined-above-right, joined-least}
-use Rattle.refuse_state.specs.Words.{stateRefusal, identifiers}
+use Rattle.refuse_state.specs.Words.{stateRefusal, identifiers, entries}
 use Rattle.refuse_state.specs.Laws.Accepted.{refusal-one, accepted-lent}
-use Rattle.state_merge.specs.Lists.{entries, mergeValues, mergeSets, rowsOf, mergedValues, mergedSets}
+use Rattle.state_merge.specs.Lists.{mergeValues, mergeSets, rowsOf, mergedValues, mergedSets}
 use Rattle.state_merge.specs.Laws.MergeList.{rows-of, merged-joined, merged-from, into-joined, into-merge, into-nothing}
 use Rattle.state_calls.specs.Calls.{Outcome}
 use Rattle.state_calls.specs.declared.TestAnswer.{TestAnswer}
 use Rattle.refuse_class.specs.Class.{lower}
 use Rattle.state_merge_calls.specs.MergeCalls.{wrongLength, pairRefusal, thirdRefusal, refusing, keptFlag, mergeAnswer, sessionAnswer, isAbove, merge, mergeFrom}
-use Rattle.state_merge_calls.specs.Laws.MergeCall.{the, length-fits, length-wrong, length-0, is-refused, is-done, flag-kept, flag-none}
+use Rattle.state_merge_calls.specs.Laws.MergeCall.{length-fits, length-wrong, length-0, is-refused, is-done, flag-kept, flag-none}
 use Rattle.refuse_class.specs.Laws.Class.{lower-none, lower-alone, lower-first, lower-0}
 
 -- ---- the number of a call: "order 1 to 5 over the whole input"

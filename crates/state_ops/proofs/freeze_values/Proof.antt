@@ -5,7 +5,8 @@ use Prim.Native.Nat.{_-_}
 use lib.ListN.{length}
 use Rattle.base_tests.specs.Laws.Bool.{not-true, not-false}
 use Rattle.lent_sets.specs.Laws.Row.{walk-start, walk-step}
-use Rattle.lent_sets.specs.Rows.{setAt, bitsOf, valuesOf, left}
+use Rattle.lent_sets.specs.Rows.{setAt, left}
+use Rattle.base_sets.specs.Members.{bitsOf, valuesOf}
 use Rattle.state_ops.specs.Laws.List.{At, freeze-none, freeze-start, freeze-next, freeze-end}
 use Rattle.state_ops.specs.Lists.{freezeAll}
 use Rattle.lent_values.specs.Laws.Cell.{put-length}

@@ -5,7 +5,8 @@ use mathlib.Core.Option.{none}
 use Prim.Native.Nat.{_-_}
 use Rattle.base_tests.specs.Laws.Bool.{not-true, not-false}
 use Rattle.lent_sets.specs.Laws.Row.{walk-start, walk-step}
-use Rattle.lent_sets.specs.Rows.{setAt, bitsOf, valuesOf, left}
+use Rattle.lent_sets.specs.Rows.{setAt, left}
+use Rattle.base_sets.specs.Members.{bitsOf, valuesOf}
 use Rattle.lent_values.specs.Cells.{valueAt, optionOf}
 use Rattle.def_transfer.specs.State.{joinValues}
 use Rattle.state_ops.specs.Laws.List.{At, kind-none, kind-start, kind-next, kind-end}

@@ -13,7 +13,7 @@ use lib.Pow.{pow-add}
 use lib.Seq.{drop-cons, drop-length}
 use Rattle.base_tests.specs.Laws.Bool.{and-true, and-false}
 use Rattle.base_orders.specs.Options.{joinOption}
-use Rattle.base_sets.specs.Members.{union}
+use Rattle.base_sets.specs.Members.{union, bitsOf, valuesOf}
 use Rattle.def_kinds.specs.declared.ValueKind.the-variants.{Frozen}
 use Rattle.def_kinds.specs.declared.AbstractValue.{AbstractValue}
 use Rattle.def_kinds.specs.Kinds.{freezable}
@@ -23,7 +23,8 @@ use Rattle.def_transfer.specs.State.{joinValues, kindOf}
 use Rattle.lent_values.specs.declared.Entry.{Entry}
 use Rattle.lent_values.specs.declared.Entry.the-variants.{Absent, Present}
 use Rattle.lent_values.specs.Cells.{valueAt, putValue, optionOf}
-use Rattle.lent_sets.specs.Rows.{setAt, isSome, bitsOf, valuesOf, left, nextMember, number, addSet, putSet, copySet, copied}
+use Rattle.lent_sets.specs.Rows.{setAt, left, nextMember, number, addSet, putSet, copySet, copied}
+use Rattle.base_tests.specs.Tests.{isSome}
 use Rattle.lent_sets.specs.Laws.Row.{Walk, walk-start, walk-step, walk-end, some-of, none-of, add-row}
 use Rattle.lent_sets.specs.Laws.Code.{put-cut}
 use Rattle.state_ops.specs.Lists.{freezeAll, freezes, frozenValues, inserted, ownInserted, ownValue, ownSets, setOrOwn, assignedValues, assignedSets, unions, phiSets}

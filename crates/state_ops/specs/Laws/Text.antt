@@ -5,20 +5,20 @@ use mathlib.Core.Bool.{Bool, true, false, _&&_}
 use mathlib.Core.List.{List, [], _∷_}
 use mathlib.Core.Option.{Option, none, some}
 use lib.Dec.{eqb}
-use Rattle.base_sets.specs.Members.{union, singleton}
+use Rattle.base_sets.specs.Members.{union, singleton, valuesOf, bitsOf}
 use Rattle.def_kinds.specs.declared.AbstractValue.{AbstractValue}
 use Rattle.def_kinds.specs.declared.ValueKind.the-variants.{Frozen}
 use Rattle.def_kinds.specs.Kinds.{freezable}
 use Rattle.def_kinds.specs.Reasons.{single}
 use Rattle.def_kinds.specs.Values.{mk}
 use Rattle.def_transfer.specs.Monad.{Res, ok, Done, andThen, _>>=_, _>>_, return, done, if_then_else_, each}
-use Rattle.def_transfer.specs.Tables.{Tables, State, Rest, World}
+use Rattle.def_transfer.specs.Tables.{Tables, Rest, World}
 use Rattle.def_transfer.specs.State.{kindOf, setOf, valueOf, peek, initialize, point, isDefined, define, orInsert, assignSet, assign, appendSets, appendAlias, freezeValue, toFreeze, freeze, unionOf, inferPhi, fromIdentifier}
 use Rattle.lent_values.specs.Cells.{valueAt, putValue}
-use Rattle.lent_sets.specs.Rows.{setAt, isSome, valuesOf, bitsOf, putSet, appendSet}
+use Rattle.lent_sets.specs.Rows.{setAt, putSet, appendSet}
+use Rattle.base_tests.specs.Tests.{isSome}
 use Rattle.state_ops.specs.Lists.{freezeAll, freezes, frozenValues, inserted, ownInserted, ownValue, ownSets, assignedValues, setOrOwn, assignedSets, unions, phiSets}
-use Rattle.state_ops.specs.OnLists.{onLists}
-use Rattle.state_ops.specs.OnLists.{lists}
+use Rattle.state_ops.specs.OnLists.{onLists, lists}
 
 module _ (T : Tables) (flag : Bool) (r : Rest (onLists T)) where
   pub peek-lists : (vs ss : List ℕ) (i : ℕ) → peek i (lists T flag r vs ss) ≡ ok (kindOf (valueAt vs) (setAt ss i)) (lists T flag r vs ss)
@@ -37,7 +37,7 @@ module _ (T : Tables) (flag : Bool) (r : Rest (onLists T)) where
   unfolding define point
   define-lists vs ss i v = refl
 
-  pub defined-lists : (vs ss : List ℕ) (i : ℕ) → isDefined i (lists T flag r vs ss) ≡ ok (Rattle.def_transfer.specs.State.isSome (setAt ss i)) (lists T flag r vs ss)
+  pub defined-lists : (vs ss : List ℕ) (i : ℕ) → isDefined i (lists T flag r vs ss) ≡ ok (Rattle.base_tests.specs.Tests.isSome (setAt ss i)) (lists T flag r vs ss)
   unfolding isDefined setOf _>>=_ andThen return
   defined-lists vs ss i = refl
 

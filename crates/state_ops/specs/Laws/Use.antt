@@ -5,10 +5,10 @@ use mathlib.Core.Bool.{Bool, true, false}
 use mathlib.Core.List.{List}
 use lib.Dec.{eqb}
 use borrow.Author.Tests.{eq-eqb, ne-eqb}
-use Rattle.base_tests.specs.Tests.{ite}
+use Rattle.base_tests.specs.Tests.{ite, isSome}
 use Rattle.def_effects.specs.declared.Span.{Span}
 use Rattle.def_effects.specs.declared.Session.{Session}
-use Rattle.lent_sets.specs.Rows.{setAt, isSome}
+use Rattle.lent_sets.specs.Rows.{setAt}
 use Rattle.lent_work.specs.Access.{accessOf}
 use Rattle.state_ops.specs.Use.{afterUse}
 
