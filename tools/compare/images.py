@@ -24,15 +24,15 @@ import time
 
 ROOT = os.path.abspath(os.path.join(os.path.dirname(os.path.abspath(__file__)), "..", ".."))
 PLACE = os.path.join(ROOT, "target", "compare")
-NEEDED = ["orders", "sets", "kinds", "effects", "transfer", "image"]
+NEEDED = ["base_tests", "base_orders", "base_sets", "def_kinds", "def_effects", "def_transfer", "def_image"]
 
 HEAD = """use Prim.Native.Nat.{ℕ, zero, suc, _+_, _*_}
 use mathlib.Core.List.{List, [], _∷_}
 use lib.Dec.{T}
-use Rattle.effects.specs.Keys.{eqList}
-use Rattle.image.specs.Listing.{ascii}
-use Rattle.image.specs.Infer.{infer}
-use Rattle.image.specs.Computing.{computing}
+use Rattle.def_effects.specs.Keys.{eqList}
+use Rattle.def_image.specs.Listing.{ascii}
+use Rattle.def_image.specs.Infer.{infer}
+use Rattle.def_image.specs.Laws.Computing.{computing}
 """
 
 SHOW = """
@@ -88,7 +88,7 @@ def prepare():
              if line.split(":")[0] in NEEDED]
     with open(os.path.join(PLACE, "crates.txt"), "w", encoding="utf-8") as f:
         f.writelines(line.rstrip("\n") + "\n" for line in lines)
-        f.write("compare: image transfer effects kinds sets orders\n")
+        f.write("compare: %s\n" % " ".join(NEEDED))
     shutil.rmtree(os.path.join(PLACE, "target", "inc", "compare"), ignore_errors=True)
     for name in NEEDED + ["compare"]:
         shutil.rmtree(os.path.join(PLACE, "crates", name), ignore_errors=True)

@@ -27,17 +27,17 @@ use mathlib.Core.Bool.{Bool, true, false}
 use mathlib.Core.List.{List, [], _∷_}
 use mathlib.Core.Option.{Option, none, some}
 use lib.Dec.{T}
-use Rattle.kinds.specs.Kinds as Kinds
-use Rattle.effects.specs.Effects.{AliasingEffect, Freeze, Mutate, MutateConditionally, MutateTransitive, MutateTransitiveConditionally, Capture, Alias, MaybeAlias, Assign, Create, CreateFrom, ImmutableCapture, CreateFunction, MutateFrozen, MutateGlobal, Impure, Render}
-use Rattle.effects.specs.declared.MutateVariant.the-variants as Variant
-use Rattle.effects.specs.Keys.{eqList}
-use Rattle.transfer.specs.Tables.{World}
-use Rattle.transfer.specs.Instruction.{Instruction}
-use Rattle.transfer.specs.State as State
-use Rattle.transfer.specs.Step as Step
-use Rattle.transfer.specs.Merge.{Entries, merge, mergeFrom}
-use Rattle.transfer.specs.Pure.{pure, at}
-use Rattle.transfer.specs.Computing.{computing}
+use Rattle.def_kinds.specs.Kinds as Kinds
+use Rattle.def_effects.specs.Effects.{AliasingEffect, Freeze, Mutate, MutateConditionally, MutateTransitive, MutateTransitiveConditionally, Capture, Alias, MaybeAlias, Assign, Create, CreateFrom, ImmutableCapture, CreateFunction, MutateFrozen, MutateGlobal, Impure, Render}
+use Rattle.def_effects.specs.declared.MutateVariant.the-variants as Variant
+use Rattle.def_effects.specs.Keys.{eqList}
+use Rattle.def_transfer.specs.Tables.{World}
+use Rattle.def_transfer.specs.Instruction.{Instruction}
+use Rattle.def_transfer.specs.State as State
+use Rattle.def_transfer.specs.Step as Step
+use Rattle.def_transfer.specs.Merge.{Entries, merge, mergeFrom}
+use Rattle.def_transfer.specs.Pure.{pure, at}
+use Rattle.def_transfer.specs.Laws.Computing.{computing}
 use Rattle.compare.specs.Harness.{place, span, abs, func, ident, diag, key, diagAt, jobWords, checkJob, opWords, silent, absWords, flagWords, membersWords, resultWords, mergeWords, mergeFromWords}
 use Rattle.compare.specs.Harness as H
 
@@ -273,12 +273,15 @@ def repository(path):
     shutil.rmtree(os.path.join(path, "crates", "compare"), ignore_errors=True)
     os.makedirs(os.path.join(path, "crates", "compare", "src"))
     os.makedirs(os.path.join(path, "crates", "compare", "specs"))
-    for name in ["orders", "sets", "kinds", "effects", "transfer"]:
+    needed = ["base_tests", "base_orders", "base_sets", "def_kinds", "def_effects", "def_transfer"]
+    for name in needed:
         target = os.path.join(path, "crates", name)
         shutil.rmtree(target, ignore_errors=True)
         shutil.copytree(os.path.join(ROOT, "crates", name), target)
-    with open(os.path.join(path, "crates.txt"), "w") as f:
-        f.write("orders:\nsets: orders\nkinds: orders\neffects: kinds orders\ntransfer: effects kinds sets orders\ncompare: transfer effects kinds sets orders\n")
+    with open(os.path.join(ROOT, "crates.txt"), encoding="utf-8") as f:
+        lines = [line for line in f if line.split(":")[0] in needed]
+    with open(os.path.join(path, "crates.txt"), "w", encoding="utf-8") as f:
+        f.writelines(lines + ["compare: %s\n" % " ".join(needed)])
     with open(os.path.join(path, "crates", "compare", "src", "lib.rt"), "w") as f:
         f.write("// Tests.\n")
     shutil.copy(os.path.join(HERE, "harness.txt"), os.path.join(path, "crates", "compare", "specs", "Harness.antt"))

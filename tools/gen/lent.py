@@ -1,4 +1,4 @@
-"""A library job as lent words: the tables of `contexts/specs/Layout.antt`, `cells` and `rows`, and effects as records of 98 words.
+"""A library job as lent words: the tables of `lent_context/specs/Layout.antt`, `lent_values` and `lent_sets`, and effects as records of 98 words.
 
 Tables are dictionaries from an index to the word there; what is missing is zero. A job made of them is written as runs of words.
 """
@@ -266,7 +266,7 @@ def instructions_of(job, answer):
 
 
 # The right lengths of values, sets, context, output list and both scratches, for n identifiers.
-# DECISIONS 13, Layout.antt and `saves`.
+# DECISIONS 13, `lent_context` `Layout.antt` and `call_undo`.
 def right_lengths(n):
     return [VALUES, n * ROW, LONG, OUTPUT, VALUES + n * ROW, SCRATCH]
 

@@ -222,5 +222,5 @@ apply-spec 𝓤 H 𝓜 𝓖 𝓡 =
     entered 𝓤 H (tripleOf 𝓤 H (𝓖 .A) of-apply.signature (of-apply.spec 𝓤 H (𝓖 .A) (𝓜 .mem) (𝓡 .run)))
     (tables 𝓤 H 𝓜 𝓡 code.env .C) (tables 𝓤 H 𝓜 𝓡 code.env .Λ) #lent·apply code.function (code.unfolded 𝓤 H 𝓜 𝓡)
     (meets 𝓤 H (𝓖 .A) (givenOf 𝓤 H 𝓜 𝓖) (𝓜 .mem) (𝓡 .run) (tablesOf 𝓤 H 𝓜 (tables 𝓤 H 𝓜 𝓡 code.env))
-    (cited 𝓤 H (Callee-apply_signature 𝓤 H (𝓖 .A) (𝓜 .mem) (𝓡 .run)) 𝓜 𝓡 code.env #lent·apply-signature apply-signature-def.routine code.calls-signatures·apply-signature (apply-signature-thm.met 𝓤 H 𝓜 𝓖 𝓡))
-    (cited 𝓤 H (Callee-without_session 𝓤 H (𝓖 .A) (𝓜 .mem) (𝓡 .run)) 𝓜 𝓡 code.env #lent·without-session without-session-def.routine code.calls-sessions·without-session (without-session-thm.met 𝓤 H 𝓜 𝓖 𝓡)))
+    (cited 𝓤 H (Callee-apply_signature 𝓤 H (𝓖 .A) (𝓜 .mem) (𝓡 .run)) 𝓜 𝓡 code.env #lent·apply-signature apply-signature-def.routine code.calls-call-apply·apply-signature (apply-signature-thm.met 𝓤 H 𝓜 𝓖 𝓡))
+    (cited 𝓤 H (Callee-without_session 𝓤 H (𝓖 .A) (𝓜 .mem) (𝓡 .run)) 𝓜 𝓡 code.env #lent·without-session without-session-def.routine code.calls-call-apply-lent·without-session (without-session-thm.met 𝓤 H 𝓜 𝓖 𝓡)))
