@@ -30,11 +30,13 @@ import deps  # noqa: E402
 
 LEFT_OUT = ("NAMES.md", "CHANGES.md")
 FOLDERS = "crates|tools|docs|oracle|vectors|examples"
-# The promises that --believe asks for: what it is, and the file of definitions that it names first.
+# What --believe asks for: the plain definition, what lent words mean, and promises; each with the file of definitions that it names first.
 PROMISES = [
-    ("the call for an instruction", "call_outcome", "Promise"),
-    ("`infer`, from bytes to bytes", "image_infer", "Promise"),
-    ("the calls on a state", "state_calls", "Calls"),
+    ("an instruction, on plain tables", "def_transfer", "Instruction"),
+    ("what lent words mean", "lent_context", "Abstract"),
+    ("the call for an instruction", "call_means", "Promise"),
+    ("`infer`, from bytes to bytes", "image_outcome", "Promise"),
+    ("the calls on a state", "state_calls", "Plain"),
     ("the calls on two states", "state_merge_calls", "Promise"),
 ]
 

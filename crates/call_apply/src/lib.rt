@@ -11,7 +11,7 @@ ghost use Rattle.call_outcome.specs.Attempts.{atMost, Ready};
 ghost use Rattle.lent_slices.specs.Lent.{old};
 ghost use Rattle.lent_copies.specs.Cleared.{Cleared};
 ghost use Rattle.lent_world.specs.Promise.{before, after};
-ghost use Rattle.call_outcome.specs.Promise.{lentCall, leftBy, Meets};
+ghost use Rattle.call_means.specs.Promise.{lentCall, leftBy, Meets};
 use call_class::call_class;
 use call_outcome::Applied;
 use call_run::run_instruction;

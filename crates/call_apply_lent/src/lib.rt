@@ -3,7 +3,7 @@
 ghost use mathlib.Core.Path.{_≡_};
 ghost use Rattle.call_apply_lent.specs.Answers.{answerOf, appliedWith};
 ghost use Rattle.lent_slices.specs.Lent.{old, new};
-ghost use Rattle.call_outcome.specs.Promise.{lentCall, leftBy, Meets};
+ghost use Rattle.call_means.specs.Promise.{lentCall, leftBy, Meets};
 use call_apply::apply_signature;
 use call_outcome::Applied;
 use def_effects::Place;

@@ -5,7 +5,7 @@ ghost use Prim.Native.Nat.{_/_};
 ghost use Rattle.refuse_instruction.specs.EffectClasses.{instructionClass};
 ghost use Rattle.call_outcome.specs.Calls.{lengthsWrong, callClass};
 ghost use Rattle.lent_slices.specs.Lent.{old};
-ghost use Rattle.call_outcome.specs.Promise.{lentCall};
+ghost use Rattle.call_means.specs.Promise.{lentCall};
 use def_effects::Place;
 use def_effects::Session;
 use lent_slices::get32;

@@ -2,3 +2,4 @@ pub mod Class
 pub mod Attempt
 pub mod Outcome
 pub mod Isolation
+pub mod Twins

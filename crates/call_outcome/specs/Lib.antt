@@ -1,5 +1,4 @@
 pub mod Calls
 pub mod Isolation
 pub mod Attempts
-pub mod Promise
 pub mod Laws

@@ -3,8 +3,6 @@ pub mod State
 pub mod Context
 pub mod Candidate
 pub mod StateBack
-pub mod PlacesBack
-pub mod EffectBack
 pub mod CandidatesBack
 pub mod ContextBack
 pub mod WordsBack

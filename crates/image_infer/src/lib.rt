@@ -6,11 +6,11 @@ ghost use lib.ListN.{length};
 ghost use mathlib.Core.Bool.{false};
 ghost use Rattle.call_outcome.specs.Calls.{outcome};
 ghost use Rattle.image_read.specs.Reading.{tables};
-ghost use Rattle.image_infer.specs.Inferring.{Fits, jobCall, shown, memoryWrong};
+ghost use Rattle.image_outcome.specs.Inferring.{Fits, jobCall, shown, memoryWrong};
 ghost use Rattle.lent_slices.specs.Lent.{old};
 ghost use Rattle.lent_copies.specs.Cleared.{Cleared};
-ghost use Rattle.call_outcome.specs.Promise.{lentCall};
-ghost use Rattle.image_infer.specs.Promise.{WritesInto, writtenFor};
+ghost use Rattle.call_means.specs.Promise.{lentCall};
+ghost use Rattle.image_outcome.specs.Promise.{WritesInto, writtenFor, MeansPlain};
 use call_apply::apply_signature;
 use image_listing::put_listing;
 use image_listing::put_refusal;
@@ -232,7 +232,8 @@ pub fn infer(
         × Cleared candidates
         × Cleared output
         × Cleared scratch64
-        × Cleared scratch32 ⌝ }
+        × Cleared scratch32
+        × MeansPlain bytes ⌝ }
 {
     let length = list_image(
         bytes,

@@ -1,2 +1,4 @@
 pub mod Code
 pub mod Search
+pub mod ReadMade
+pub mod Abstract

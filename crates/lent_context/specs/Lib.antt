@@ -1,3 +1,4 @@
 pub mod Layout
 pub mod Lent
+pub mod Abstract
 pub mod Laws

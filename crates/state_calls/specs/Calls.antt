@@ -12,6 +12,7 @@ use Rattle.def_kinds.specs.declared.AbstractValue.{AbstractValue}
 use Rattle.def_kinds.specs.Reasons.{areReasons, isReason}
 use Rattle.def_kinds.specs.Values.{mk}
 use Rattle.def_effects.specs.declared.Span.{Span}
+use Rattle.def_effects.specs.declared.Place.{Place}
 use Rattle.def_effects.specs.declared.Session.{Session}
 use Rattle.def_effects.specs.declared.MutateVariant.{MutateVariant}
 use Rattle.def_effects.specs.declared.MutationResult.{MutationResult}
@@ -139,10 +140,13 @@ freeze vs ss s i reason = call (refusalOf vs ss s (outside ss i || not (isReason
 unfoldable pub inferPhi : List ℕ → List ℕ → Session → ℕ → List ℕ → Outcome Done
 inferPhi vs ss s place operands = call (refusalOf vs ss s (outside ss place || anyOf (outside ss) operands) false) tt (State.inferPhi place operands) vs ss s
 
+-- a place as a call names it: of one that is mutated only identifier and span are looked at
+abbrev pub used : ℕ → Span → Place
+used i span = record { identifier = i; effect = 0; reactive = 0; span = span }
+
 -- the mutation answer of a place, by its variant and with its ref flag
 unfoldable pub mutate : List ℕ → List ℕ → Session → Bool → MutateVariant → ℕ → Span → Outcome MutationResult
-mutate vs ss s ref variant i span =
-    callWith ref (refusal1 vs ss s i) Result.None (Step.mutate variant (record { identifier = i; effect = 0; reactive = 0; span = span })) vs ss s
+mutate vs ss s ref variant i span = callWith ref (refusal1 vs ss s i) Result.None (Step.mutate variant (used i span)) vs ss s
 
 -- ---- the values of a place, in a lent list
 
@@ -165,8 +169,6 @@ valuesAnswer vs ss s i out = record {
 -- the values, ascending, and zeros behind them; zeros alone after a refusal
 unfoldable pub valuesListed : List ℕ → List ℕ → Session → ℕ → List ℕ → List ℕ
 valuesListed vs ss s i out = ite (eqb (valuesRefusal vs ss s i (length out)) 0) (written (valuesOf (setAt ss i)) 0 (replicate (length out) 0)) (replicate (length out) 0)
-
--- ---- the session after a use
 
 -- ---- the answers as structs
 

@@ -1,2 +1,3 @@
 pub mod Call
 pub mod More
+pub mod Plain

@@ -1,2 +1,4 @@
 pub mod MergeCall
 pub mod Theorems
+pub mod Promises
+pub mod Cases

@@ -1,3 +1,4 @@
 pub mod MergeCalls
+pub mod Plain
 pub mod Promise
 pub mod Laws

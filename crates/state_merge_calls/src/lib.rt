@@ -6,6 +6,8 @@ ghost use Rattle.refuse_class.specs.Class.{lower};
 ghost use Rattle.state_merge_calls.specs.MergeCalls.{wrongLength, pairRefusal, thirdRefusal, mergedFlag, mergeAnswer, sessionAnswer};
 ghost use Rattle.lent_slices.specs.Lent.{old, new};
 ghost use Rattle.state_merge_calls.specs.Promise.{mergeOf, mergeFromOf};
+ghost use Rattle.refuse_state.specs.Words.{entries};
+ghost use Rattle.state_merge_calls.specs.Plain.{AbovePlain, MergesPlain, MergesFromPlain};
 use def_effects::Session;
 use def_effects::Span;
 use refuse_class::lower;
@@ -76,7 +78,9 @@ pub fn is_above(
     sets2: &[u64],
     session: Session,
 ) -> TestAnswer
-    ensures { λ r. ⌜ r ≡ MergeCalls.isAbove (old values1) (old sets1) (old values2) (old sets2) session ⌝ }
+    ensures { λ r. ⌜
+        (r ≡ MergeCalls.isAbove (old values1) (old sets1) (old values2) (old sets2) session)
+        × AbovePlain (entries (old values1) (old sets1)) (entries (old values2) (old sets2)) r ⌝ }
 {
     let refusal = pair_refusal(values1, sets1, values2, sets2, session);
     if refusal != 0 {
@@ -116,7 +120,9 @@ pub fn merge(
     ensures { λ r. ⌜
         (r ≡ mergeAnswer flag1 flag2 (mergeOf values1 sets1 values2 sets2 session values3 sets3))
         × (new values3 ≡ mergeOf values1 sets1 values2 sets2 session values3 sets3 .values)
-        × (new sets3 ≡ mergeOf values1 sets1 values2 sets2 session values3 sets3 .sets) ⌝ }
+        × (new sets3 ≡ mergeOf values1 sets1 values2 sets2 session values3 sets3 .sets)
+        × MergesPlain (entries (old values1) (old sets1)) (entries (old values2) (old sets2)) r
+        (entries (new values3) (new sets3)) ⌝ }
 {
     let third = third_refusal(sets1, values3, sets3);
     let both = pair_refusal(values1, sets1, values2, sets2, session);
@@ -151,7 +157,9 @@ pub fn merge_from(
     ensures { λ r. ⌜
         (r ≡ sessionAnswer flag1 flag2 (mergeFromOf values1 sets1 values2 sets2 session))
         × (new values1 ≡ mergeFromOf values1 sets1 values2 sets2 session .values)
-        × (new sets1 ≡ mergeFromOf values1 sets1 values2 sets2 session .sets) ⌝ }
+        × (new sets1 ≡ mergeFromOf values1 sets1 values2 sets2 session .sets)
+        × MergesFromPlain (entries (old values1) (old sets1)) (entries (old values2) (old sets2)) r
+        (entries (new values1) (new sets1)) ⌝ }
 {
     let flag = flag1;
     let refusal = pair_refusal(values1, sets1, values2, sets2, session);

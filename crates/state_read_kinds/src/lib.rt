@@ -2,8 +2,11 @@
 // A state is lent as 1,024 words of values and 16 words of sets for each identifier; the session comes and goes by value.
 ghost use mathlib.Core.Path.{_≡_};
 ghost use mathlib.Core.Bool.{false};
+ghost use Rattle.def_transfer.specs.State as State;
+ghost use Rattle.def_transfer.specs.Step as Step;
 ghost use Rattle.state_calls.specs.Calls as Calls;
-ghost use Rattle.state_calls.specs.Calls.{kindAnswer, testAnswer, mutationAnswer};
+ghost use Rattle.state_calls.specs.Calls.{used, kindAnswer, testAnswer, mutationAnswer};
+ghost use Rattle.state_calls.specs.Plain.{MeansPlain, leaving};
 ghost use Rattle.lent_slices.specs.Lent.{old};
 use def_effects::MutateVariant;
 use def_effects::MutationResult;
@@ -29,7 +32,10 @@ pub fn kind_with_span(
     i: u32,
     span: Span,
 ) -> KindAnswer
-    ensures { λ r. ⌜ r ≡ kindAnswer (Calls.kindWithSpan (old values) (old sets) session i span) ⌝ }
+    ensures { λ r. ⌜
+        (r ≡ kindAnswer (Calls.kindWithSpan (old values) (old sets) session i span))
+        × MeansPlain false (State.kindWithSpan i span) (old values) (old sets) session
+        (leaving (r .refusal) (r .value) (old values) (old sets) (r .session)) ⌝ }
 {
     let refusal = refusal1(values, sets, session, i);
     if refusal != 0 {
@@ -55,7 +61,10 @@ pub fn kind_with_span(
 // The kind of a place, used without a span.
 // The first use of an undefined place is recorded in the session, with no span.
 pub fn kind(values: &[u64], sets: &[u64], session: Session, i: u32) -> KindAnswer
-    ensures { λ r. ⌜ r ≡ kindAnswer (Calls.kind (old values) (old sets) session i) ⌝ }
+    ensures { λ r. ⌜
+        (r ≡ kindAnswer (Calls.kind (old values) (old sets) session i))
+        × MeansPlain false (State.kind i) (old values) (old sets) session
+        (leaving (r .refusal) (r .value) (old values) (old sets) (r .session)) ⌝ }
 {
     let span = Span {
         start: 4294967295,
@@ -66,7 +75,10 @@ pub fn kind(values: &[u64], sets: &[u64], session: Session, i: u32) -> KindAnswe
 
 // Whether a place may be written: its kind is Mutable or Context.
 pub fn may_write(values: &[u64], sets: &[u64], session: Session, i: u32) -> TestAnswer
-    ensures { λ r. ⌜ r ≡ testAnswer (Calls.mayWrite (old values) (old sets) session i) ⌝ }
+    ensures { λ r. ⌜
+        (r ≡ testAnswer (Calls.mayWrite (old values) (old sets) session i))
+        × MeansPlain false (State.mayWrite i) (old values) (old sets) session
+        (leaving (r .refusal) (r .answer) (old values) (old sets) session) ⌝ }
 {
     let refusal = refusal1(values, sets, session, i);
     if refusal != 0 {
@@ -93,7 +105,9 @@ pub fn mutate(
     span: Span,
 ) -> MutationAnswer
     ensures { λ r. ⌜
-        r ≡ mutationAnswer (Calls.mutate (old values) (old sets) session «ref_flag» variant i span) ⌝ }
+        (r ≡ mutationAnswer (Calls.mutate (old values) (old sets) session «ref_flag» variant i span))
+        × MeansPlain «ref_flag» (Step.mutate variant (used i span)) (old values) (old sets) session
+        (leaving (r .refusal) (r .result) (old values) (old sets) (r .session)) ⌝ }
 {
     let refusal = refusal1(values, sets, session, i);
     if refusal != 0 {

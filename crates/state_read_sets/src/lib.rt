@@ -2,12 +2,14 @@
 // A state is lent as 1,024 words of values and 16 words of sets for each identifier; the session comes and goes by value.
 ghost use mathlib.Core.Path.{_≡_};
 ghost use mathlib.Core.Bool.{false};
-ghost use lib.ListN.{length, replicate};
+ghost use lib.ListN.{length, take, replicate};
 ghost use Rattle.lent_sets.specs.Rows.{setAt};
 ghost use Rattle.base_sets.specs.Members.{valuesOf};
 ghost use Rattle.refuse_state.specs.Words.{stateRefusal};
+ghost use Rattle.def_transfer.specs.State as State;
 ghost use Rattle.state_calls.specs.Calls as Calls;
 ghost use Rattle.state_calls.specs.Calls.{testAnswer, written, valuesRefusal, valuesAnswer, valuesListed};
+ghost use Rattle.state_calls.specs.Plain.{MeansPlain, leaving, valuesFor};
 ghost use Rattle.lent_slices.specs.Lent.{old, new};
 use def_effects::Session;
 use lent_sets;
@@ -19,7 +21,10 @@ use state_calls::refusal1;
 
 // Whether a place is defined.
 pub fn is_defined(values: &[u64], sets: &[u64], session: Session, i: u32) -> TestAnswer
-    ensures { λ r. ⌜ r ≡ testAnswer (Calls.isDefined (old values) (old sets) session i) ⌝ }
+    ensures { λ r. ⌜
+        (r ≡ testAnswer (Calls.isDefined (old values) (old sets) session i))
+        × MeansPlain false (State.isDefined i) (old values) (old sets) session
+        (leaving (r .refusal) (r .answer) (old values) (old sets) session) ⌝ }
 {
     let refusal = refusal1(values, sets, session, i);
     if refusal != 0 {
@@ -92,7 +97,9 @@ pub fn values_for(
 ) -> CountAnswer
     ensures { λ r. ⌜
         (r ≡ valuesAnswer (old values) (old sets) session i (old out))
-        × (new out ≡ valuesListed (old values) (old sets) session i (old out)) ⌝ }
+        × (new out ≡ valuesListed (old values) (old sets) session i (old out))
+        × MeansPlain false (valuesFor i) (old values) (old sets) session
+        (leaving (r .refusal) (take (r .count) (new out)) (old values) (old sets) session) ⌝ }
 {
     let refusal = values_refusal(values, sets, session, i, out.len());
     clear(out);

@@ -1,9 +1,12 @@
 // The public calls that change the sets of a lent state: each refuses what document 01 refuses and then leaves all as it was, else it does what the definition says.
 // A state is lent as 1,024 words of values and 16 words of sets for each identifier; the session comes by value, and stays as it is.
 ghost use mathlib.Core.Path.{_≡_};
+ghost use mathlib.Core.Bool.{false};
 ghost use Rattle.base_tests.specs.Tests.{anyOf};
+ghost use Rattle.def_transfer.specs.State as State;
 ghost use Rattle.state_calls.specs.Calls as Calls;
 ghost use Rattle.state_calls.specs.Calls.{outside};
+ghost use Rattle.state_calls.specs.Plain.{MeansPlain, leaving};
 ghost use Rattle.lent_slices.specs.Lent.{old, new};
 use def_effects::Session;
 use lent_sets;
@@ -21,7 +24,9 @@ use state_ops;
 pub fn define(values: &[u64], sets: &mut [u64], session: Session, i: u32, v: u32) -> u32
     ensures { λ r. ⌜
         (r ≡ Calls.define (old values) (old sets) session i v .refusal)
-        × (new sets ≡ Calls.define (old values) (old sets) session i v .sets) ⌝ }
+        × (new sets ≡ Calls.define (old values) (old sets) session i v .sets)
+        × MeansPlain false (State.define i v) (old values) (old sets) session
+        (leaving r tt (old values) (new sets) session) ⌝ }
 {
     let place = outside(sets, i);
     let number = no_number(sets, v);
@@ -40,7 +45,9 @@ pub fn assign(values: &mut [u64], sets: &mut [u64], session: Session, into: u32,
     ensures { λ r. ⌜
         (r ≡ Calls.assign (old values) (old sets) session into from .refusal)
         × (new values ≡ Calls.assign (old values) (old sets) session into from .values)
-        × (new sets ≡ Calls.assign (old values) (old sets) session into from .sets) ⌝ }
+        × (new sets ≡ Calls.assign (old values) (old sets) session into from .sets)
+        × MeansPlain false (State.assign into from) (old values) (old sets) session
+        (leaving r tt (new values) (new sets) session) ⌝ }
 {
     let refusal = refusal2(values, sets, session, into, from);
     if refusal != 0 {
@@ -61,7 +68,9 @@ pub fn append_alias(
 ) -> u32
     ensures { λ r. ⌜
         (r ≡ Calls.appendAlias (old values) (old sets) session place value .refusal)
-        × (new sets ≡ Calls.appendAlias (old values) (old sets) session place value .sets) ⌝ }
+        × (new sets ≡ Calls.appendAlias (old values) (old sets) session place value .sets)
+        × MeansPlain false (State.appendAlias place value) (old values) (old sets) session
+        (leaving r tt (old values) (new sets) session) ⌝ }
 {
     let refusal = refusal2(values, sets, session, place, value);
     if refusal != 0 {
@@ -96,7 +105,9 @@ pub fn infer_phi(
 ) -> u32
     ensures { λ r. ⌜
         (r ≡ Calls.inferPhi (old values) (old sets) session place (old operands) .refusal)
-        × (new sets ≡ Calls.inferPhi (old values) (old sets) session place (old operands) .sets) ⌝ }
+        × (new sets ≡ Calls.inferPhi (old values) (old sets) session place (old operands) .sets)
+        × MeansPlain false (State.inferPhi place (old operands)) (old values) (old sets) session
+        (leaving r tt (old values) (new sets) session) ⌝ }
 {
     let a = outside(sets, place);
     let b = any_outside(sets, operands);

@@ -1,8 +1,11 @@
 // The public calls that change the values of a lent state: each refuses what document 01 refuses and then leaves all as it was, else it does what the definition says.
 // A state is lent as 1,024 words of values and 16 words of sets for each identifier; the session comes by value, and stays as it is.
 ghost use mathlib.Core.Path.{_≡_};
+ghost use mathlib.Core.Bool.{false};
+ghost use Rattle.def_transfer.specs.State as State;
 ghost use Rattle.state_calls.specs.Calls as Calls;
 ghost use Rattle.state_calls.specs.Calls.{outside, testAnswer};
+ghost use Rattle.state_calls.specs.Plain.{MeansPlain, leaving};
 ghost use Rattle.lent_slices.specs.Lent.{old, new};
 use def_effects::Session;
 use def_kinds::AbstractValue;
@@ -29,7 +32,9 @@ pub fn initialize(
 ) -> u32
     ensures { λ r. ⌜
         (r ≡ Calls.initialize (old values) (old sets) session v a .refusal)
-        × (new values ≡ Calls.initialize (old values) (old sets) session v a .values) ⌝ }
+        × (new values ≡ Calls.initialize (old values) (old sets) session v a .values)
+        × MeansPlain false (State.initialize v a) (old values) (old sets) session
+        (leaving r tt (new values) (old sets) session) ⌝ }
 {
     let number = no_number(sets, v);
     let reasons = are_reasons(a.reason);
@@ -46,7 +51,9 @@ pub fn initialize(
 pub fn freeze(values: &mut [u64], sets: &[u64], session: Session, i: u32, reason: u32) -> TestAnswer
     ensures { λ r. ⌜
         (r ≡ testAnswer (Calls.freeze (old values) (old sets) session i reason))
-        × (new values ≡ Calls.freeze (old values) (old sets) session i reason .values) ⌝ }
+        × (new values ≡ Calls.freeze (old values) (old sets) session i reason .values)
+        × MeansPlain false (State.freeze i reason) (old values) (old sets) session
+        (leaving (r .refusal) (r .answer) (new values) (old sets) session) ⌝ }
 {
     let place = outside(sets, i);
     let known = is_reason(reason);

@@ -1,6 +1,7 @@
--- `call_apply::apply_signature` meets its contract: a class refuses it, or the transfer decides; and isolation of what it ends with. Assumes nothing.
+-- `call_apply::apply_signature` meets its contract: a class refuses it, or the transfer decides; what it means on plain tables, and isolation, follow. Assumes nothing.
 use Rattle.call_outcome.specs.Laws.Outcome.{outcome-refused, outcome-runs}
 use Rattle.call_outcome.specs.Laws.Isolation.{isolated}
+use Rattle.call_means.specs.Laws.CallMeans.{meant}
 use borrow.Author.Needs.{needs}
 use Rattle.call_apply.proofs.apply_signature.Statement.{statement}
 use Rattle.call_apply.proofs.apply_signature.Tie as tie
@@ -38,7 +39,7 @@ returns c =
     let at-if1 = at-clear-scratch .before .before .before in
     let at-clear32 = at-if1 .before .before .before in
     let at-call-class = at-clear32 .before .before in
-    let h = outcome-refused _ _ _ _ _ _ _ _ _ _ _ _ _ _ _ (at-call-class .call-class .ensures) (at-if1 .if1 .taken) (at-clear32 .clear32 .ensures) (at-clear-scratch .clear-scratch .ensures .0) (at-clear-scratch .clear-scratch .ensures .1) in (h, isolated _ _ h)
+    let h = outcome-refused _ _ _ _ _ _ _ _ _ _ _ _ _ _ _ (at-call-class .call-class .ensures) (at-if1 .if1 .taken) (at-clear32 .clear32 .ensures) (at-clear-scratch .clear-scratch .ensures .0) (at-clear-scratch .clear-scratch .ensures .1) in (h, meant _ _ h, isolated _ _ h)
 
 attempt-requires : tie.Need-attempt-requires
 attempt-requires c κs = search needs
@@ -72,7 +73,7 @@ returns-2 c =
     let at-if1 = at-attempt .before .before .before .before .before .before .before in
     let at-clear32 = at-if1 .before .before .before in
     let at-call-class = at-clear32 .before .before in
-    let h = outcome-runs _ _ _ _ _ _ _ _ _ _ _ _ _ _ _ _ _ _ _ _ _ _ _ (at-call-class .call-class .ensures) (at-if1 .if1 .left) (at-clear32 .clear32 .ensures) (at-attempt .attempt .ensures) (at-attempt .attempt .kept .1 .1 .1 .1 .1 .1 .1 .1 .1 .0) (at-attempt .attempt .kept .1 .1 .1 .1 .1 .1 .1 .1 .1 .1 .0) (at-clear-scratch2 .clear-scratch2 .ensures .0) (at-clear-scratch2 .clear-scratch2 .ensures .1) in (h, isolated _ _ h)
+    let h = outcome-runs _ _ _ _ _ _ _ _ _ _ _ _ _ _ _ _ _ _ _ _ _ _ _ (at-call-class .call-class .ensures) (at-if1 .if1 .left) (at-clear32 .clear32 .ensures) (at-attempt .attempt .ensures) (at-attempt .attempt .kept .1 .1 .1 .1 .1 .1 .1 .1 .1 .0) (at-attempt .attempt .kept .1 .1 .1 .1 .1 .1 .1 .1 .1 .1 .0) (at-clear-scratch2 .clear-scratch2 .ensures .0) (at-clear-scratch2 .clear-scratch2 .ensures .1) in (h, meant _ _ h, isolated _ _ h)
 
 pub apply-signature-spec : {M : Type 1} → statement M
 apply-signature-spec =

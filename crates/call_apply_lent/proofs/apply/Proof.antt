@@ -43,7 +43,7 @@ use denote.Triple.Walked.{says, Stays, gave-slice, stay-ref, stay-dropped, walkO
 use denote.Exit.{yes}
 use denote.Signature.{plain, shrSliceOf}
 use Rattle.call_outcome.specs.Calls.{call, given, outcome}
-use Rattle.call_outcome.specs.Isolation.{Isolation}
+use Rattle.call_means.specs.Promise.{Meets as Promised}
 use Rattle.call_apply_lent.specs.Answers.{answerOf, appliedWith}
 use Rattle.call_apply_lent.specs.Laws.Answer.{answered}
 use Rattle.call_apply_lent.specs.declared.Answer.{Answer}
@@ -154,10 +154,10 @@ module _ {M : Type 1} (𝓤 : URA M) (H : Heap 𝓤) (A : Atoms 𝓤) (W : Given
   goes2 r1 f0 =
       qed W (‵ ftrue ∷ []) ∵ drop ! $ nothing ! $ nothing ! $ owned ! Appliedᵀ.the-row (Is Appliedᵀ.the-row) (LL.makes Appliedᵀ.the-type Appliedᴸ.the-plain 𝓤 H A) r1 _ f0 $ fjoin ! $ move ! (1 ∷ 0 ∷ []) $ join ! $ frame ! $ done !
 
-  facts : (r1 : Applied) (z1-0 : List ℕ) (z1-1 : List ℕ) (z1-3 : List ℕ) (z1-8 : List ℕ) (z1-9 : List ℕ) (z1-10 : List ℕ) (r2 : Answer) → (given r1 (((z1-0))) (((z1-1))) (((z1-3))) (((z1-8))) (((z1-9))) (((z1-10))) ≡ outcome (call (ys₁) (ys₂) n₃ (ys₄) h₅ (ys₆) n₇ n₈ (ys₉) (ys₁₀) (ys₁₁))) × Isolation (call (ys₁) (ys₂) n₃ (ys₄) h₅ (ys₆) n₇ n₈ (ys₉) (ys₁₀) (ys₁₁)) (given r1 (((z1-0))) (((z1-1))) (((z1-3))) (((z1-8))) (((z1-9))) (((z1-10)))) → r2 ≡ answerOf r1 → (given (appliedWith r2 (((r1 .session)))) (((z1-0))) (((z1-1))) (((z1-3))) (((z1-8))) (((z1-9))) (((z1-10))) ≡ outcome (call (ys₁) (ys₂) n₃ (ys₄) (h₅) (ys₆) n₇ n₈ (ys₉) (ys₁₀) (ys₁₁))) × Isolation (call (ys₁) (ys₂) n₃ (ys₄) (h₅) (ys₆) n₇ n₈ (ys₉) (ys₁₀) (ys₁₁)) (given (appliedWith r2 (((r1 .session)))) (((z1-0))) (((z1-1))) (((z1-3))) (((z1-8))) (((z1-9))) (((z1-10))))
+  facts : (r1 : Applied) (z1-0 : List ℕ) (z1-1 : List ℕ) (z1-3 : List ℕ) (z1-8 : List ℕ) (z1-9 : List ℕ) (z1-10 : List ℕ) (r2 : Answer) → Promised (call (ys₁) (ys₂) n₃ (ys₄) h₅ (ys₆) n₇ n₈ (ys₉) (ys₁₀) (ys₁₁)) (given r1 (((z1-0))) (((z1-1))) (((z1-3))) (((z1-8))) (((z1-9))) (((z1-10)))) → r2 ≡ answerOf r1 → Promised (call (ys₁) (ys₂) n₃ (ys₄) (h₅) (ys₆) n₇ n₈ (ys₉) (ys₁₀) (ys₁₁)) (given (appliedWith r2 (((r1 .session)))) (((z1-0))) (((z1-1))) (((z1-3))) (((z1-8))) (((z1-9))) (((z1-10))))
   facts r1 z1-0 z1-1 z1-3 z1-8 z1-9 z1-10 r2 e1 e2 = answered r1 r2 _ _ _ _ _ _ _ e2 e1
 
-  exits : (c₁ : List ℕ) → (c₂ : List ℕ) → (c₄ : List ℕ) → (c₅ : Session) → (c₉ : List ℕ) → (c₁₀ : List ℕ) → (c₁₁ : List ℕ) → length c₁ ≡ length ys₁ → length c₂ ≡ length ys₂ → length c₄ ≡ length ys₄ → length c₉ ≡ length ys₉ → length c₁₀ ≡ length ys₁₀ → length c₁₁ ≡ length ys₁₁ → (r : Answer) → Is Answerᵀ.the-row r (LL.val Answerᵀ.the-type Answerᴸ.the-laws r ∷ []) → (given (appliedWith r (c₅)) (c₁) (c₂) (c₄) (c₉) (c₁₀) (c₁₁) ≡ outcome (call (ys₁) (ys₂) n₃ (ys₄) (h₅) (ys₆) n₇ n₈ (ys₉) (ys₁₀) (ys₁₁))) × Isolation (call (ys₁) (ys₂) n₃ (ys₄) (h₅) (ys₆) n₇ n₈ (ys₉) (ys₁₀) (ys₁₁)) (given (appliedWith r (c₅)) (c₁) (c₂) (c₄) (c₉) (c₁₀) (c₁₁))
+  exits : (c₁ : List ℕ) → (c₂ : List ℕ) → (c₄ : List ℕ) → (c₅ : Session) → (c₉ : List ℕ) → (c₁₀ : List ℕ) → (c₁₁ : List ℕ) → length c₁ ≡ length ys₁ → length c₂ ≡ length ys₂ → length c₄ ≡ length ys₄ → length c₉ ≡ length ys₉ → length c₁₀ ≡ length ys₁₀ → length c₁₁ ≡ length ys₁₁ → (r : Answer) → Is Answerᵀ.the-row r (LL.val Answerᵀ.the-type Answerᴸ.the-laws r ∷ []) → Promised (call (ys₁) (ys₂) n₃ (ys₄) (h₅) (ys₆) n₇ n₈ (ys₉) (ys₁₀) (ys₁₁)) (given (appliedWith r (c₅)) (c₁) (c₂) (c₄) (c₉) (c₁₀) (c₁₁))
       → ent 𝓤 (⋆ 𝓤 H A (‵ (flft κ₀ q₀) ∷ ‵ (flft κ₁ q₁) ∷ ‵ (flft κ₂ q₂) ∷ ‵ (flft κ₃ q₃) ∷ ‵ (flft κ₄ q₄) ∷ ‵ (flft κ₅ q₅) ∷ ‵ (flft κ₆ q₆) ∷ ‵ (flft κ₇ q₇) ∷ ‵ (finally u64 γ₁ c₁) ∷ ‵ (finally u64 γ₂ c₂) ∷ ‵ (finally u32 γ₄ c₄) ∷ ‵ (fobs γ₅ (Sessionᵀ.the-row .coded .code c₅)) ∷ ‵ (fbor κ₃ (Body (mem Sessionᵀ.the-row) b₅ o₅ γ₅)) ∷ ‵ (finally u32 γ₉ c₉) ∷ ‵ (finally u64 γ₁₀ c₁₀) ∷ ‵ (finally u32 γ₁₁ c₁₁) ∷ [])) (Post (LL.val Answerᵀ.the-type Answerᴸ.the-laws r))
   exits c₁ c₂ c₄ c₅ c₉ c₁₀ c₁₁ g₁ g₂ g₄ g₉ g₁₀ g₁₁ r fits e =
       qed W (‵ (flft κ₀ q₀) ∷ ‵ (flft κ₁ q₁) ∷ ‵ (flft κ₂ q₂) ∷ ‵ (flft κ₃ q₃) ∷ ‵ (flft κ₄ q₄) ∷ ‵ (flft κ₅ q₅) ∷ ‵ (flft κ₆ q₆) ∷ ‵ (flft κ₇ q₇) ∷ ‵ (finally u64 γ₁ c₁) ∷ ‵ (finally u64 γ₂ c₂) ∷ ‵ (finally u32 γ₄ c₄) ∷ ‵ (fobs γ₅ (Sessionᵀ.the-row .coded .code c₅)) ∷ ‵ (fbor κ₃ (Body (mem Sessionᵀ.the-row) b₅ o₅ γ₅)) ∷ ‵ (finally u32 γ₉ c₉) ∷ ‵ (finally u64 γ₁₀ c₁₀) ∷ ‵ (finally u32 γ₁₁ c₁₁) ∷ []) ∵
@@ -189,8 +189,8 @@ module _ {M : Type 1} (𝓤 : URA M) (H : Heap 𝓤) (A : Atoms 𝓤) (W : Given
         move ! (10 ∷ 9 ∷ 8 ∷ 7 ∷ 6 ∷ 5 ∷ 4 ∷ 17 ∷ 16 ∷ 15 ∷ 14 ∷ 13 ∷ 12 ∷ 11 ∷ []) $  -- `apply_signature`
         move ! (12 ∷ 13 ∷ []) $ join ! $ move ! (12 ∷ 0 ∷ []) $ join ! $ move ! (11 ∷ 0 ∷ []) $ join ! $ move ! (10 ∷ 0 ∷ []) $ join ! $ move ! (9 ∷ 0 ∷ []) $ join ! $ move ! (8 ∷ 0 ∷ []) $ join ! $ move ! (7 ∷ 0 ∷ []) $ join ! $ move ! (6 ∷ 0 ∷ []) $ join ! $ move ! (5 ∷ 0 ∷ []) $ join ! $ move ! (4 ∷ 0 ∷ []) $ join ! $ move ! (3 ∷ 0 ∷ []) $ join ! $ move ! (2 ∷ 0 ∷ []) $ join ! $ move ! (1 ∷ 0 ∷ []) $ join ! $ use1 W (raw (Callee-apply_signature 𝓤 H A at-mem run .pre (to1))) (goes1 was₅ p₇ (p₈ .1)) $ calls-at ! fm (Callee-apply_signature 𝓤 H A at-mem run) known-apply_signature (to1) (and-then ! (load ! (from ! (stop !)) (look ! 27 refl)) (and-then ! (load ! (from ! (stop !)) (look ! 23 refl)) (and-then ! (load ! (from ! (stop !)) (look ! 49 refl)) (and-then ! (load ! (from ! (stop !)) (look ! 19 refl)) (and-then ! (load ! (from ! (stop !)) (look ! 17 refl)) (and-then ! (load ! (from ! (stop !)) (look ! 43 refl)) (and-then ! (load ! (from ! (stop !)) (look ! 41 refl)) (and-then ! (load ! (from ! (stop !)) (look ! 39 refl)) (and-then ! (load ! (from ! (stop !)) (look ! 13 refl)) (and-then ! (load ! (from ! (stop !)) (look ! 9 refl)) (and-then ! (load ! (from ! (stop !)) (look ! 5 refl)) (no-more !)))))))))))) (λ w1.
         use1 W (later (some (λ (r1 : Applied). ((‵ (flft κ₀ q₀) ⊛ (‵ (flft κ₁ q₁) ⊛ (‵ (flft κ₂ q₂) ⊛ (‵ (flft κ₄ q₄) ⊛ (‵ (flft κ₅ q₅) ⊛ (‵ (flft κ₆ q₆) ⊛ (‵ (flft κ₇ q₇) ⊛ ‵ ftrue))))))) ⊛ ‵ (Appliedᵀ.the-row .own r1 (w1 ∷ []))) ⊛ raw (ensured 𝓤 H A of-apply-signature.ended (of-apply-signature.clauses 𝓤 H A at-mem run) (κ₀, (κ₁, (κ₂, (κ₄, (κ₅, (κ₆, (κ₇, tt))))))) (x₁, (x₂, (n₃, (x₄, (h₅, (x₆, (n₇, (n₈, (x₉, (x₁₀, (x₁₁, tt))))))))))) tt r1)))) (id⊢ 𝓤 _) $ await ! tt $ pick ! (λ r1.
-        split ! $ move ! (1 ∷ []) $ use1 W (some (λ (z1 : Lasts of-apply-signature.ended (κ₀, (κ₁, (κ₂, (κ₄, (κ₅, (κ₆, (κ₇, tt))))))) (x₁, (x₂, (n₃, (x₄, (h₅, (x₆, (n₇, (n₈, (x₉, (x₁₀, (x₁₁, tt)))))))))))). ‵ (lasts of-apply-signature.ended (κ₀, (κ₁, (κ₂, (κ₄, (κ₅, (κ₆, (κ₇, tt))))))) (x₁, (x₂, (n₃, (x₄, (h₅, (x₆, (n₇, (n₈, (x₉, (x₁₀, (x₁₁, tt))))))))))) z1) ⊛ raw (fact 𝓤 ((given r1 (((z1 .0))) (((z1 .1 .0))) (((z1 .1 .1 .1 .0))) (((z1 .1 .1 .1 .1 .1 .1 .1 .1 .0))) (((z1 .1 .1 .1 .1 .1 .1 .1 .1 .1 .0))) (((z1 .1 .1 .1 .1 .1 .1 .1 .1 .1 .1 .0))) ≡ outcome (call (ys₁) (ys₂) n₃ (ys₄) h₅ (ys₆) n₇ n₈ (ys₉) (ys₁₀) (ys₁₁))) × Isolation (call (ys₁) (ys₂) n₃ (ys₄) h₅ (ys₆) n₇ n₈ (ys₉) (ys₁₀) (ys₁₁)) (given r1 (((z1 .0))) (((z1 .1 .0))) (((z1 .1 .1 .1 .0))) (((z1 .1 .1 .1 .1 .1 .1 .1 .1 .0))) (((z1 .1 .1 .1 .1 .1 .1 .1 .1 .1 .0))) (((z1 .1 .1 .1 .1 .1 .1 .1 .1 .1 .1 .0)))))))) (id⊢ 𝓤 _) $ pick ! (λ z1.
-        split ! $ move ! (1 ∷ []) $ heard ! ((given r1 (((z1 .0))) (((z1 .1 .0))) (((z1 .1 .1 .1 .0))) (((z1 .1 .1 .1 .1 .1 .1 .1 .1 .0))) (((z1 .1 .1 .1 .1 .1 .1 .1 .1 .1 .0))) (((z1 .1 .1 .1 .1 .1 .1 .1 .1 .1 .1 .0))) ≡ outcome (call (ys₁) (ys₂) n₃ (ys₄) h₅ (ys₆) n₇ n₈ (ys₉) (ys₁₀) (ys₁₁))) × Isolation (call (ys₁) (ys₂) n₃ (ys₄) h₅ (ys₆) n₇ n₈ (ys₉) (ys₁₀) (ys₁₁)) (given r1 (((z1 .0))) (((z1 .1 .0))) (((z1 .1 .1 .1 .0))) (((z1 .1 .1 .1 .1 .1 .1 .1 .1 .0))) (((z1 .1 .1 .1 .1 .1 .1 .1 .1 .1 .0))) (((z1 .1 .1 .1 .1 .1 .1 .1 .1 .1 .1 .0))))) (λ e1. fsplit ! $ fsplit ! $ move ! (1 ∷ []) $ feqL ! (λ len1-0. move ! (1 ∷ []) $ fsplit ! $ fsplit ! $ move ! (1 ∷ []) $ feqL ! (λ len1-1. move ! (1 ∷ []) $ fsplit ! $ drop ! $ fsplit ! $ fsplit ! $ move ! (1 ∷ []) $ feqL ! (λ len1-3. move ! (1 ∷ []) $ fsplit ! $ drop ! $ fsplit ! $ drop ! $ fsplit ! $ drop ! $ fsplit ! $ drop ! $ fsplit ! $ fsplit ! $ move ! (1 ∷ []) $ feqL ! (λ len1-8. move ! (1 ∷ []) $ fsplit ! $ fsplit ! $ move ! (1 ∷ []) $ feqL ! (λ len1-9. move ! (1 ∷ []) $ fsplit ! $ fsplit ! $ move ! (1 ∷ []) $ feqL ! (λ len1-10. move ! (1 ∷ []) $ drop ! $
+        split ! $ move ! (1 ∷ []) $ use1 W (some (λ (z1 : Lasts of-apply-signature.ended (κ₀, (κ₁, (κ₂, (κ₄, (κ₅, (κ₆, (κ₇, tt))))))) (x₁, (x₂, (n₃, (x₄, (h₅, (x₆, (n₇, (n₈, (x₉, (x₁₀, (x₁₁, tt)))))))))))). ‵ (lasts of-apply-signature.ended (κ₀, (κ₁, (κ₂, (κ₄, (κ₅, (κ₆, (κ₇, tt))))))) (x₁, (x₂, (n₃, (x₄, (h₅, (x₆, (n₇, (n₈, (x₉, (x₁₀, (x₁₁, tt))))))))))) z1) ⊛ raw (fact 𝓤 (Promised (call (ys₁) (ys₂) n₃ (ys₄) h₅ (ys₆) n₇ n₈ (ys₉) (ys₁₀) (ys₁₁)) (given r1 (((z1 .0))) (((z1 .1 .0))) (((z1 .1 .1 .1 .0))) (((z1 .1 .1 .1 .1 .1 .1 .1 .1 .0))) (((z1 .1 .1 .1 .1 .1 .1 .1 .1 .1 .0))) (((z1 .1 .1 .1 .1 .1 .1 .1 .1 .1 .1 .0)))))))) (id⊢ 𝓤 _) $ pick ! (λ z1.
+        split ! $ move ! (1 ∷ []) $ heard ! (Promised (call (ys₁) (ys₂) n₃ (ys₄) h₅ (ys₆) n₇ n₈ (ys₉) (ys₁₀) (ys₁₁)) (given r1 (((z1 .0))) (((z1 .1 .0))) (((z1 .1 .1 .1 .0))) (((z1 .1 .1 .1 .1 .1 .1 .1 .1 .0))) (((z1 .1 .1 .1 .1 .1 .1 .1 .1 .1 .0))) (((z1 .1 .1 .1 .1 .1 .1 .1 .1 .1 .1 .0))))) (λ e1. fsplit ! $ fsplit ! $ move ! (1 ∷ []) $ feqL ! (λ len1-0. move ! (1 ∷ []) $ fsplit ! $ fsplit ! $ move ! (1 ∷ []) $ feqL ! (λ len1-1. move ! (1 ∷ []) $ fsplit ! $ drop ! $ fsplit ! $ fsplit ! $ move ! (1 ∷ []) $ feqL ! (λ len1-3. move ! (1 ∷ []) $ fsplit ! $ drop ! $ fsplit ! $ drop ! $ fsplit ! $ drop ! $ fsplit ! $ drop ! $ fsplit ! $ fsplit ! $ move ! (1 ∷ []) $ feqL ! (λ len1-8. move ! (1 ∷ []) $ fsplit ! $ fsplit ! $ move ! (1 ∷ []) $ feqL ! (λ len1-9. move ! (1 ∷ []) $ fsplit ! $ fsplit ! $ move ! (1 ∷ []) $ feqL ! (λ len1-10. move ! (1 ∷ []) $ drop ! $
         move ! (6 ∷ []) $ split ! $ split ! $ move ! (1 ∷ []) $ split ! $ move ! (1 ∷ []) $ split ! $ move ! (1 ∷ []) $ split ! $ move ! (1 ∷ []) $ split ! $ move ! (1 ∷ []) $ split ! $ move ! (1 ∷ []) $ split ! $ move ! (1 ∷ []) $ drop ! $ move ! (7 ∷ []) $ peeks ! Appliedᵀ.the-row (Is Appliedᵀ.the-row) (shows 𝓤 H A Appliedᵀ.the-row) r1 (w1 ∷ []) (λ is1. drop ! $ land ! (from ! (stop !)) (init ! 43 refl (LL.lawful Appliedᵀ.the-type Appliedᴸ.the-laws 𝓤 H A W .typed r1 _ is1 .0)) $ rewrite ! 43 (λ (u : Val). ‵ (fat fullShare Appliedᴸ.mir l₁₂ 0 u)) (ap only (LL.tells Appliedᵀ.the-type Appliedᴸ.the-laws r1 _ is1)) refl $
         assigns ! (of-opd ! (load ! (from ! (fld ! refl (stop !))) (look-in ! 43 (sub ! 3 refl (whole !))))) (from ! (hop ! (look ! 57 refl) (stop !))) (store-raw ! 13 refl (LL.lawful Sessionᵀ.the-type Sessionᴸ.the-laws 𝓤 H A W .typed (r1 .session) _ (LL.owed Appliedᵀ.the-type Appliedᴸ.the-laws r1 _ is1 .1 .1 .1 .0) .0)) $
         -- `without_session`

@@ -16,7 +16,7 @@ use Rattle.def_image.specs.Decode.{listFrom, placeAt, placesFrom, makers, effec
 use Rattle.image_decode.specs.Decoded.{after, decodedCandidate, decodedCandidates}
 use Rattle.image_decode.specs.Laws.Candidate.{run-length}
 use Rattle.image_decode.specs.Laws.StateBack.{after-length}
-use Rattle.image_decode.specs.Laws.EffectBack.{captureCount, effect-back}
+use Rattle.lent_effects.specs.Laws.Back.{captureCount, effect-back}
 
 -- a candidate of an image in range has at most sixteen captures
 -- "first and count of captures (16)"

@@ -16,7 +16,7 @@ use Rattle.def_image.specs.Decode.{listFrom, placeAt, placesFrom}
 use Rattle.image_decode.specs.Decoded.{after, decodedIdentifier, decodedIdentifiers, decodedCounts, decodedFunction, decodedFunctions, decodedHeader, decodedContext}
 use Rattle.image_decode.specs.Laws.Candidate.{run-length}
 use Rattle.image_decode.specs.Laws.StateBack.{after-length}
-use Rattle.image_decode.specs.Laws.PlacesBack.{word-back, word-beside, run-beside, run-back}
+use Rattle.lent_tables.specs.Laws.Back.{word-back, word-beside, run-beside, run-back}
 
 -- ---- lengths
 

@@ -10,7 +10,7 @@ use native.Mathlib.Omega.{arith}
 use lib.Dec.{lit<}
 use lib.Bits.{bitOr, or-lt}
 use lib.Pow.{pow-lt}
-use lib.ListN.{length, getD}
+use lib.ListN.{length}
 use borrow.Author.Tests.{eq-eqb, ne-eqb}
 use Rattle.base_orders.specs.Laws.Union.{or-odd}
 use Rattle.lent_copies.specs.Copies.{zeros}
@@ -28,6 +28,7 @@ use Rattle.def_transfer.specs.Pure.{at}
 use Rattle.def_image.specs.Layout.{Image, valueNumber, valueKind, valueReasons, pairIdentifier, pairValue}
 use Rattle.def_image.specs.Decode.{memberOf, withPair, valueTable, setTable}
 use Rattle.image_decode.specs.Decoded.{after, decodedValue, decodedValues, decodedPair, decodedSets}
+use Rattle.lent_copies.specs.Laws.Copy.{zero-word}
 
 -- ---- lists and tables
 
@@ -46,14 +47,6 @@ at-same f i j x e = ap (λ (b : Bool). elim b [ true ↦ x | false ↦ f j ]) (e
 at-other : {A : Type 0} (f : ℕ → A) (i j : ℕ) (x : A) → (i ≡ j → ⊥) → at f i x j ≡ f j
 unfolding at
 at-other f i j x e = ap (λ (b : Bool). elim b [ true ↦ x | false ↦ f j ]) (ne-eqb i j e)
-
--- a word of zeros is 0
--- a table is zero before an image is decoded into it
-pub zero-word : (m k : ℕ) → getD (zeros m) k 0 ≡ 0
-unfolding zeros
-zero-word zero k = refl
-zero-word (suc m) zero = refl
-zero-word (suc m) (suc k) = zero-word m k
 
 -- ---- values
 

@@ -16,7 +16,7 @@ use Rattle.def_image.specs.Decode.{placesFrom}
 use Rattle.image_decode.specs.Decoded.{after, decodedIdentifier, decodedIdentifiers, decodedCounts, decodedFunction, decodedFunctions, decodedHeader, decodedContext}
 use Rattle.image_decode.specs.Laws.StateBack.{after-length}
 use Rattle.image_decode.specs.Laws.ContextBack.{identifier-length, header-length}
-use Rattle.image_decode.specs.Laws.PlacesBack.{word-back, word-beside}
+use Rattle.lent_tables.specs.Laws.Back.{word-back, word-beside}
 
 -- what each record leaves, all leave
 after-kept : (read : List ℕ → ℕ) (g : ℕ → List ℕ → List ℕ) → ((k : ℕ) (c : List ℕ) → read (g k c) ≡ read c) → (n : ℕ) (c : List ℕ) → read (after g n c) ≡ read c

@@ -1,7 +1,8 @@
--- `image_infer::infer` meets its contract: the listing, and all that was lent for it is zero. Assumes nothing.
+-- `image_infer::infer` meets its contract: the listing, all that was lent for it is zero, and what it means on plain tables is a law. Assumes nothing.
 use borrow.Author.Needs.{needs}
 use mathlib.Core.Path.{ap, _∙_}
 use Rattle.lent_copies.specs.Copies.{zeros}
+use Rattle.image_means.specs.Laws.Inferred.{inferred-is}
 use Rattle.image_infer.proofs.infer.Statement.{statement}
 use Rattle.image_infer.proofs.infer.Tie as tie
 
@@ -49,7 +50,7 @@ returns c =
     let before-29 = at-clear-tables .before .before .before .before .before .before .before .before in
     let before-37 = before-29 .before .before .before .before .before .before .before .before in
     let at-list-image = before-37 .before .before .before .before .before .before .before in
-    (at-list-image .list-image .ensures, at-clear-lists .clear-lists .ensures .0 ∙ ap zeros (at-list-image .list-image .kept .1 .0), at-clear-tables .clear-tables .ensures .0 ∙ ap zeros (at-list-image .list-image .kept .1 .1 .0), at-clear-tables .clear-tables .ensures .1 ∙ ap zeros (at-list-image .list-image .kept .1 .1 .1 .0), at-clear-tables .clear-tables .ensures .2 ∙ ap zeros (at-list-image .list-image .kept .1 .1 .1 .1 .0), at-clear-tables .clear-tables .ensures .3 ∙ ap zeros (at-list-image .list-image .kept .1 .1 .1 .1 .1 .0), at-clear-lists .clear-lists .ensures .1 ∙ ap zeros (at-list-image .list-image .kept .1 .1 .1 .1 .1 .1 .0), at-clear-lists .clear-lists .ensures .2 ∙ ap zeros (at-list-image .list-image .kept .1 .1 .1 .1 .1 .1 .1 .0), at-clear-lists .clear-lists .ensures .3 ∙ ap zeros (at-list-image .list-image .kept .1 .1 .1 .1 .1 .1 .1 .1 .0))
+    (at-list-image .list-image .ensures, at-clear-lists .clear-lists .ensures .0 ∙ ap zeros (at-list-image .list-image .kept .1 .0), at-clear-tables .clear-tables .ensures .0 ∙ ap zeros (at-list-image .list-image .kept .1 .1 .0), at-clear-tables .clear-tables .ensures .1 ∙ ap zeros (at-list-image .list-image .kept .1 .1 .1 .0), at-clear-tables .clear-tables .ensures .2 ∙ ap zeros (at-list-image .list-image .kept .1 .1 .1 .1 .0), at-clear-tables .clear-tables .ensures .3 ∙ ap zeros (at-list-image .list-image .kept .1 .1 .1 .1 .1 .0), at-clear-lists .clear-lists .ensures .1 ∙ ap zeros (at-list-image .list-image .kept .1 .1 .1 .1 .1 .1 .0), at-clear-lists .clear-lists .ensures .2 ∙ ap zeros (at-list-image .list-image .kept .1 .1 .1 .1 .1 .1 .1 .0), at-clear-lists .clear-lists .ensures .3 ∙ ap zeros (at-list-image .list-image .kept .1 .1 .1 .1 .1 .1 .1 .1 .0), inferred-is _)
 
 pub infer-spec : {M : Type 1} → statement M
 infer-spec =

@@ -1,6 +1,6 @@
 -- `image_infer::list_image` meets its contract: one law for each of its three ways. Assumes nothing.
 use borrow.Author.Needs.{needs}
-use Rattle.image_infer.specs.Laws.Inferring.{lists-memory, lists-refused, lists-job}
+use Rattle.image_outcome.specs.Laws.Inferring.{lists-memory, lists-refused, lists-job}
 use mathlib.Core.Path.{sym, refl, _∙_}
 use Rattle.image_infer.proofs.list_image.Statement.{statement}
 use Rattle.image_infer.proofs.list_image.Tie as tie

@@ -1,5 +1,5 @@
 -- `image_infer::memory_wrong` meets its contract: one law for each of its four ways. Assumes nothing.
-use Rattle.image_infer.specs.Laws.Inferring.{wrong-output, wrong-64, wrong-32, wrong-buffer}
+use Rattle.image_outcome.specs.Laws.Inferring.{wrong-output, wrong-64, wrong-32, wrong-buffer}
 use Rattle.image_infer.proofs.memory_wrong.Statement.{statement}
 use Rattle.image_infer.proofs.memory_wrong.Tie as tie
 

@@ -1,5 +1,5 @@
 -- `image_infer::run_job` meets its contract: a refusal's number, or the listing. Assumes nothing.
-use Rattle.image_infer.specs.Laws.Inferring.{shows-refused, shows-listing}
+use Rattle.image_outcome.specs.Laws.Inferring.{shows-refused, shows-listing}
 use borrow.Author.Needs.{needs}
 use Rattle.image_infer.proofs.run_job.Statement.{statement}
 use Rattle.image_infer.proofs.run_job.Tie as tie

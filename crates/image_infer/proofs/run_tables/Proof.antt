@@ -1,6 +1,6 @@
 -- `image_infer::run_tables` meets its contract: what does not fit is no accepted image; what fits runs. Assumes nothing.
 use borrow.Author.Needs.{needs}
-use Rattle.image_infer.specs.Laws.Inferring.{runs-job}
+use Rattle.image_outcome.specs.Laws.Inferring.{runs-job}
 use mathlib.Core.Path.{ap, sym, refl}
 use Prim.Native.Nat.{ℕ, _*_}
 use lib.Seq.{length-take-le}

@@ -14,7 +14,7 @@ use Rattle.def_image.specs.Layout.{Image, word, identifiers, functions, countOf
 use Rattle.def_image.specs.Refusals.{refusalOfWords}
 use Rattle.def_image.specs.Decode.{placeAt}
 use Rattle.call_outcome.specs.Calls.{candidateCount, callClass}
-use Rattle.image_infer.specs.Inferring.{imageCall}
+use Rattle.image_outcome.specs.Inferring.{imageCall}
 use Rattle.laws_image_accepted.specs.Laws.Records.{lower-both, earns-not}
 use Rattle.laws_image_accepted.specs.Laws.Lengths.{lentSets, lentContext, lentCandidates, call-is, sets-identifiers, candidates-count, lengths-right}
 use Rattle.laws_image_accepted.specs.Laws.State.{state-right}

@@ -31,7 +31,7 @@ use Rattle.def_image.specs.Refusals.{refusalOfWords}
 use Rattle.def_image.specs.Decode.{placeAt, placesFrom}
 use Rattle.image_decode.specs.Decoded.{after, decodedIdentifier, decodedIdentifiers, decodedCounts, decodedFunction, decodedFunctions, decodedHeader, decodedContext}
 use Rattle.image_decode.specs.Laws.Candidate.{run-length}
-use Rattle.image_decode.specs.Laws.StateBack.{zero-word}
+use Rattle.lent_copies.specs.Laws.Copy.{zero-word}
 use Rattle.image_decode.specs.Laws.ContextBack.{function-length, identifier-length, contexts-back, insides-back, flags-back}
 use Rattle.image_decode.specs.Laws.WordsBack.{word-stays, options-back, identifier-count-back, function-count-back, identifiers-back}
 use Rattle.laws_image_accepted.specs.Laws.Facts.{few-identifiers, few-functions, few-context, few-inside, options-small, identifier-range, function-flags, function-known, context-places, inside-places, access-zero, some-identifier, cell-small}
@@ -155,7 +155,7 @@ module _ (im : Image) where
 
   -- every record of such a table is zero
   -- links, cached numbers, diagnostics, interned effects
-  far-zero : (t : Table) → 17605 ≤ t .base → (j : ℕ) → Zero t j (lentContext im)
+  pub far-zero : (t : Table) → 17605 ≤ t .base → (j : ℕ) → Zero t j (lentContext im)
   far-zero t h j v = go (within t j v) refl
     where
       go : (b : Bool) → within t j v ≡ b → field t (lentContext im) j v ≡ 0
@@ -163,12 +163,12 @@ module _ (im : Image) where
       go false e = field-out t (lentContext im) j v e
 
   -- nothing is interned
-  none-interned : internedCount (lentContext im) ≡ 0
+  pub none-interned : internedCount (lentContext im) ≡ 0
   unfolding end internedCount
   none-interned = word-stays im (zeros 235973) 12483 (omega arith) (inr (let z : 2051 ≤ 12483 = omega arith in z)) (inr (let z : 12483 ≤ 12483 = omega arith in z)) (inl (let z : 12483 < 12485 = omega arith in z)) ∙ zero-word 235973 12483
 
   -- and there is no diagnostic
-  none-told : instanceCount (lentContext im) ≡ 0
+  pub none-told : instanceCount (lentContext im) ≡ 0
   unfolding end instanceCount
   none-told = word-stays im (zeros 235973) 12484 (omega arith) (inr (let z : 2051 ≤ 12484 = omega arith in z)) (inr (let z : 12483 ≤ 12484 = omega arith in z)) (inl (let z : 12484 < 12485 = omega arith in z)) ∙ zero-word 235973 12484
 
@@ -292,7 +292,7 @@ module _ (im : Image) (small : (i : ℕ) → word im i < 4294967296) (ok : refus
       (λ i d. Good Layout.identifiers i (naming i) d) (λ k i d e g v. ap (wordClass (naming i v)) (identifier-other im k i d e v) ∙ g v) (identifier-length im) n (λ k d h e z. identifier-made k d h z) j l)
 
   -- and what stands after the last is zero
-  identifiers-after : (j : ℕ) → n ≤ j → Zero Layout.identifiers j c
+  pub identifiers-after : (j : ℕ) → n ≤ j → Zero Layout.identifiers j c
   identifiers-after j l =
       functions-leave im (Zero Layout.identifiers j) (λ k d z v. function-apart im k j d v ∙ z v)
       (rest-stays (decodedIdentifier im) (λ i d. Zero Layout.identifiers i d) (λ k i d e z v. identifier-other im k i d e v ∙ z v) (headed im) (headed-zero im Layout.identifiers (omega arith)) n j l)
@@ -319,7 +319,7 @@ module _ (im : Image) (small : (i : ℕ) → word im i < 4294967296) (ok : refus
   run k = runLimit n (contextCount im k)
 
   -- both records of function k are zero
-  abbrev Blank : ℕ → List ℕ → Type 0
+  abbrev pub Blank : ℕ → List ℕ → Type 0
   Blank k d = Zero Layout.functions k d × Zero Layout.contexts k d
 
   -- or both earn nothing
@@ -379,7 +379,7 @@ module _ (im : Image) (small : (i : ℕ) → word im i < 4294967296) (ok : refus
   functions-good = each-done (decodedFunction im) Blank blank-stays (named im) before Done done-stays (function-length im) f (λ k d h e z. (function-made k d h (z .0), places-made k d h (z .1)))
 
   -- and what stands after the last is zero
-  functions-after : (j : ℕ) → f ≤ j → Blank j c
+  pub functions-after : (j : ℕ) → f ≤ j → Blank j c
   unfolding decodedContext decodedFunctions decodedIdentifiers
   functions-after = rest-stays (decodedFunction im) Blank blank-stays (named im) before f
 

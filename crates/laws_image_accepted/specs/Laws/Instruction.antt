@@ -34,8 +34,8 @@ use Rattle.def_image.specs.Refusals.{usedWords, detailsOf, uses, limitOf, refus
 use Rattle.def_image.specs.Decode.{placeAt, placesFrom, makers, effectAt}
 use Rattle.image_decode.specs.Decoded.{decodedCandidate, decodedCandidates}
 use Rattle.image_decode.specs.Laws.Candidate.{run-length}
-use Rattle.image_decode.specs.Laws.StateBack.{zero-word}
-use Rattle.image_decode.specs.Laws.PlacesBack.{word-back, word-beside, place-beside, run-beside}
+use Rattle.lent_copies.specs.Laws.Copy.{zero-word}
+use Rattle.lent_tables.specs.Laws.Back.{word-back, word-beside, place-beside, run-beside}
 use Rattle.laws_image_accepted.specs.Laws.Facts.{few-candidates, few-captures, lvalue-place, own-most, code-range, word-range, capture-places, no-apply, some-identifier}
 use Rattle.laws_image_accepted.specs.Laws.Records.{lower-both, lowest-both, earns-not, Good, Zero, zero-record, record-good, Limits, Fine, zero-good, put-below, place-good, run-good, run-limits, each-done}
 use Rattle.laws_image_accepted.specs.Laws.Limits.{Pos, pos-some, pos-used, pos-ite, pos-at, pos-place, pos-run}

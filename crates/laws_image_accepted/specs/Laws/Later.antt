@@ -18,7 +18,7 @@ use Rattle.def_image.specs.Layout.{Image, word, wrongLength, wordsOf, identifie
 use Rattle.def_image.specs.Refusals.{refusalOfWords, refusalOf}
 use Rattle.call_outcome.specs.Calls.{Call, Outcome, callClass, lentInstruction, lentWorld, concluded, outcome}
 use Rattle.call_outcome.specs.Laws.Attempt.{applies}
-use Rattle.image_infer.specs.Inferring.{imageCall}
+use Rattle.image_outcome.specs.Inferring.{imageCall}
 use Rattle.laws_image_accepted.specs.Laws.Lengths.{values-length, context-length, sets-length, lentCall, call-is}
 use Rattle.laws_image_accepted.specs.Laws.Accepted.{accepted-call}
 
@@ -55,7 +55,7 @@ module _ (im : Image) (small : (i : ℕ) → word im i < 4294967296) (ok : refus
 
   -- how the transfer ends
   -- with no refusal, or with one of 6 to 11
-  ends-later : InRange (applySignature (lentInstruction (lentCall im)) (lentWorld (lentCall im)))
+  pub ends-later : InRange (applySignature (lentInstruction (lentCall im)) (lentWorld (lentCall im)))
   ends-later =
       subst InRange (sym (applies (lentInstruction (lentCall im)) (lentCall im .values) (lentCall im .sets) (lentCall im .context) (lentCall im .output) (lentCall im .session) (lentCall im .flag) refl))
       (restored (lentWorld (lentCall im)) (run (lentInstruction (lentCall im)) (lentWorld (lentCall im)))
@@ -85,7 +85,7 @@ words-small (a ∷ b ∷ c ∷ d ∷ bs) h (suc i) = words-small bs (λ k. h (su
 
 -- the words of bytes that earn no refusal earn none
 -- "Order 1 to 5 over the whole input"
-words-accepted : (bs : List ℕ) → refusalOf bs ≡ 0 → refusalOfWords (wordsOf bs) ≡ 0
+pub words-accepted : (bs : List ℕ) → refusalOf bs ≡ 0 → refusalOfWords (wordsOf bs) ≡ 0
 unfolding refusalOf
 words-accepted bs h = go (wrongLength bs) h
   where

@@ -22,7 +22,7 @@ use Rattle.image_decode.specs.Laws.StateBack.{after-length, value-length}
 use Rattle.image_decode.specs.Laws.ContextBack.{function-length, identifier-length, header-length}
 use Rattle.image_read.specs.Reading.{sessionOf, jobOf, filled}
 use Rattle.call_outcome.specs.Calls.{Call, call, lengthsWrong, candidateCount}
-use Rattle.image_infer.specs.Inferring.{jobCall, imageCall}
+use Rattle.image_outcome.specs.Inferring.{jobCall, imageCall}
 use Rattle.laws_image_accepted.specs.Laws.Facts.{few-identifiers, few-candidates}
 
 -- ---- the tables of an image, each with its length

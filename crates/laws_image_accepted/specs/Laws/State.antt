@@ -37,7 +37,8 @@ use Rattle.def_image.specs.Layout.{Image, identifiers, values, pairs, countOf, 
 use Rattle.def_image.specs.Refusals.{refusalOfWords}
 use Rattle.def_image.specs.Decode.{memberOf}
 use Rattle.image_decode.specs.Decoded.{after, decodedValue, decodedValues, decodedPair, decodedSets}
-use Rattle.image_decode.specs.Laws.StateBack.{zero-word, no-set}
+use Rattle.image_decode.specs.Laws.StateBack.{no-set}
+use Rattle.lent_copies.specs.Laws.Copy.{zero-word}
 use Rattle.laws_image_accepted.specs.Laws.Facts.{few-identifiers, next-range, value-range, pair-range, value-fresh, pair-fresh}
 use Rattle.laws_image_accepted.specs.Laws.Lengths.{values-length, rows-length, sets-length, sets-identifiers, lentValues, lentSets}
 
@@ -183,7 +184,7 @@ module _ (im : Image) (ok : refusalOfWords im ≡ 0) where
   row-kept i w h l = getD-take (16 * n) (decodedSets im (countOf im pairs) (zeros 8192)) (i * 16 + w) 0 (omega arith)
 
   -- so its set is as it was written
-  set-kept : (i : ℕ) → i < n → setAt (lentSets im) i ≡ setAt (decodedSets im (countOf im pairs) (zeros 8192)) i
+  pub set-kept : (i : ℕ) → i < n → setAt (lentSets im) i ≡ setAt (decodedSets im (countOf im pairs) (zeros 8192)) i
   unfolding setAt rowNumber rowWord
   set-kept i h = ap (λ (x : ℕ). marked (x % 2) x) (number-same 16 (lentSets im) (decodedSets im (countOf im pairs) (zeros 8192)) (i * 16) (i * 16) (λ w l. row-kept i w h l))
 

@@ -62,3 +62,11 @@ pub copied-length : (c : List ℕ) (start at n : ℕ) (ws : List ℕ) → length
 unfolding copied
 copied-length c start at zero ws = refl
 copied-length c start at (suc n) ws = copied-length c (suc start) (suc at) n (set ws at (getD c start 0)) ∙ length-set ws at (getD c start 0)
+
+-- a word of zeros is 0
+-- a table is zero before an image is decoded into it
+pub zero-word : (m k : ℕ) → getD (zeros m) k 0 ≡ 0
+unfolding zeros
+zero-word zero k = refl
+zero-word (suc m) zero = refl
+zero-word (suc m) (suc k) = zero-word m k

@@ -2,7 +2,7 @@
 -- Each change writes into one table, and the tables stand apart. Assumes nothing.
 use Prim.Native.Nat.{ℕ, zero, suc, _+_, _*_, _≤_, _<_}
 use mathlib.Core.Path.{_≡_, refl, sym, ap, ap₂, _∙_}
-use mathlib.Core.Bool.{Bool, true, false, _&&_}
+use mathlib.Core.Bool.{true}
 use mathlib.Core.Logic.{_⊎_, inl, inr, ⊎-elim}
 use mathlib.Core.List.{List, _∷_}
 use mathlib.Core.Option.{none, some}
@@ -11,7 +11,7 @@ use lib.Dec.{eqb}
 use lib.ListN.{length}
 use Rattle.base_tests.specs.Tests.{ite}
 use Rattle.base_tests.specs.Laws.Order.{lt-or-ge, same-or-not}
-use Rattle.def_effects.specs.Places.{identifiers, Capture, Read}
+use Rattle.def_effects.specs.Places.{identifiers}
 use Rattle.def_effects.specs.Effects.{AliasingEffect}
 use Rattle.def_effects.specs.Keys.{EffectKey, effectKey}
 use Rattle.def_transfer.specs.Diagnostics.{Diagnostic}
@@ -25,9 +25,10 @@ use Rattle.lent_effects.specs.Laws.EffectFrames.{effect-apart}
 use Rattle.lent_keys.specs.KeyRecords.{optionIn, putOption}
 use Rattle.lent_keys.specs.KeyRecords as Keys
 use Rattle.lent_context.specs.Layout as Layout
-use Rattle.lent_context.specs.Lent.{effectsIn, internedCount, findEffect, addEffect, keyAt, findNumber, putKey, linkOf, putLink, contextOf, readPlace, readPlaces, makeRead, instanceCount, putDiagnostic, addDiagnostic}
+use Rattle.lent_context.specs.Lent.{effectsIn, internedCount, findEffect, addEffect, keyAt, findNumber, putKey, linkOf, putLink, contextOf, makeRead, instanceCount, putDiagnostic, addDiagnostic}
 use Rattle.lent_world.specs.World.{lent}
 use Rattle.lent_keys.specs.Laws.KeyFrames.{option-cong, key-cong, key-apart, key-record, option-apart, option-record}
+use Rattle.lent_context.specs.Laws.ReadMade.{read-keeps}
 
 -- ---- the tables that lead somewhere
 
@@ -110,26 +111,6 @@ diagnostic-same c n d =
     (diagnostic-leaves Layout.functions c n d refl (inr (omega arith)))
 
 -- ---- context places made Read
-
--- what each write of a place's effect keeps, making places Read keeps
-module _ (f i : ℕ) (P : List ℕ → Type 0) (s : (d : List ℕ) (k x : ℕ) → P d → P (putField Layout.contexts d f (k * 5 + 1) x)) where
-  read-place : (k : ℕ) (c : List ℕ) → P c → P (readPlace f i k c)
-  unfolding readPlace
-  read-place k c h = go (eqb (field Layout.contexts c f (k * 5)) i && eqb (field Layout.contexts c f (k * 5 + 1)) Capture)
-    where
-      go : (b : Bool) → P (ite b (putField Layout.contexts c f (k * 5 + 1) Read) c)
-      go true = s c k Read h
-      go false = h
-
-  read-places : (k n : ℕ) (c : List ℕ) → P c → P (readPlaces f i k n c)
-  unfolding readPlaces
-  read-places k zero c h = h
-  read-places k (suc n) c h = read-places (suc k) n (readPlace f i k c) (read-place k c h)
-
-  -- all the places of a function
-  pub read-keeps : (c : List ℕ) → P c → P (makeRead c f i)
-  unfolding makeRead
-  read-keeps c h = read-places 0 (field Layout.functions c f 1) c h
 
 -- they leave every table that stands apart
 pub read-leaves : (u : Table) (c : List ℕ) (f i : ℕ) → apart Layout.contexts u ≡ true → Same u c (makeRead c f i)

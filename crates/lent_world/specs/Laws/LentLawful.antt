@@ -28,7 +28,8 @@ use Rattle.lent_context.specs.Lent.{internedCount, addEffect, putKey, putLink, 
 use Rattle.lent_keys.specs.Laws.KeyFrames.{key-length, key-outside, option-length, option-outside}
 use Rattle.lent_world.specs.World.{lent}
 use Rattle.lent_world.specs.Laws.State.{FitValues, fit-value, value-cong, value-other, FitSets, fit-set, set-cong, set-other, set-has}
-use Rattle.lent_world.specs.Laws.Context.{diagnostic-keeps, read-keeps, effect-found, number-found, effect-same, diagnostic-same, read-same, key-put, key-links, key-contexts, link-put, link-keys, link-contexts}
+use Rattle.lent_world.specs.Laws.Context.{diagnostic-keeps, effect-found, number-found, effect-same, diagnostic-same, read-same, key-put, key-links, key-contexts, link-put, link-keys, link-contexts}
+use Rattle.lent_context.specs.Laws.ReadMade.{read-keeps}
 
 -- ---- what no instruction writes
 

@@ -15,7 +15,6 @@ use Rattle.base_tests.specs.Laws.Choice.{ite-eq, ite-ne, the}
 use Rattle.base_tests.specs.Laws.Bool.{or-first, or-second}
 use Rattle.def_kinds.specs.declared.AbstractValue.{AbstractValue}
 use Rattle.def_effects.specs.declared.Span.{Span}
-use Rattle.def_effects.specs.declared.Place.{Place}
 use Rattle.def_effects.specs.declared.Session.{Session}
 use Rattle.def_effects.specs.declared.MutateVariant.{MutateVariant}
 use Rattle.def_effects.specs.declared.MutationResult.{MutationResult}
@@ -36,7 +35,7 @@ use Rattle.state_ops.specs.Laws.Text.{phi-lists}
 use Rattle.state_calls.specs.declared.MutationAnswer.{MutationAnswer}
 use Rattle.state_calls.specs.declared.CountAnswer.{CountAnswer}
 use Rattle.state_calls.specs.Calls as Calls
-use Rattle.state_calls.specs.Calls.{Lent, Outcome, start, restOf, refusalOf, outside, refusal1, mutationAnswer, written, valuesRefusal, valuesAnswer, valuesListed}
+use Rattle.state_calls.specs.Calls.{Lent, Outcome, start, restOf, refusalOf, outside, refusal1, used, mutationAnswer, written, valuesRefusal, valuesAnswer, valuesListed}
 use Rattle.state_ops.specs.Use.{afterUse}
 use Rattle.state_calls.specs.Laws.Call.{call-refused, call-runs, kind-runs, inside1}
 
@@ -79,14 +78,11 @@ module _ (vs ss : List ℕ) (s : Session) (place : ℕ) (operands : List ℕ) (n
 
 -- ---- mutation
 
-abbrev used : ℕ → Span → Place
-used i span = record { identifier = i; effect = 0; reactive = 0; span = span }
-
-mutate-ref : (vs ss : List ℕ) (s : Session) (variant : MutateVariant) (i : ℕ) (span : Span) → Step.mutate variant (used i span) (start true vs ss s) ≡ ok Result.MutateRef (start true vs ss s)
+pub mutate-ref : (vs ss : List ℕ) (s : Session) (variant : MutateVariant) (i : ℕ) (span : Span) → Step.mutate variant (used i span) (start true vs ss s) ≡ ok Result.MutateRef (start true vs ss s)
 unfolding Step.mutate State.ask if_then_else_ return _>>=_ andThen
 mutate-ref vs ss s variant i span = refl
 
-mutate-kind : (vs ss : List ℕ) (s : Session) (variant : MutateVariant) (i : ℕ) (span : Span) → i < 512
+pub mutate-kind : (vs ss : List ℕ) (s : Session) (variant : MutateVariant) (i : ℕ) (span : Span) → i < 512
     → Step.mutate variant (used i span) (start false vs ss s) ≡ ok (resultOf (isStrict variant) (State.kindOf (valueAt vs) (setAt ss i) .kind)) (start false vs ss (afterUse ss s i span))
 unfolding Step.mutate State.ask if_then_else_ return _>>=_ andThen
 mutate-kind vs ss s variant i span h = ap (λ (x : Res (World Lent) AbstractValue). andThen x (λ a. return (resultOf (isStrict variant) (a .kind)))) (kind-runs false vs ss s i span h)

@@ -1,4 +1,5 @@
 -- `state_merge_calls::merge` meets its contract, refused or not. Assumes nothing.
+use Rattle.state_merge_calls.specs.Laws.Promises.{merge-promise}
 use Rattle.state_merge_calls.specs.Laws.MergeCall.{merge-refused, merge-ends}
 use borrow.Author.Needs.{needs}
 use Rattle.state_merge_calls.proofs.merge.Statement.{statement}
@@ -22,7 +23,7 @@ same-length-2 c = search needs
 returns : tie.Need-returns
 returns c =
     let test = c .before in
-    merge-refused _ _ _ _ _ _ _ _ _ _ (test .before .before .third-refusal .ensures) (test .before .pair-refusal .ensures) (test .lower .ensures) _ _ (c .if1 .taken)
+    merge-promise _ _ _ _ _ _ _ _ _ _ _ _ (merge-refused _ _ _ _ _ _ _ _ _ _ (test .before .before .third-refusal .ensures) (test .before .pair-refusal .ensures) (test .lower .ensures) _ _ (c .if1 .taken))
 
 merge-into-requires : tie.Need-merge-into-requires
 merge-into-requires c κs = search needs
@@ -40,9 +41,9 @@ returns-2 : tie.Need-returns-2
 returns-2 c =
     let merged = c .before .before .before .before .before in
     let test = merged .before .before .before in
-    merge-ends _ _ _ _ _ _ _ _ _ _
+    merge-promise _ _ _ _ _ _ _ _ _ _ _ _ (merge-ends _ _ _ _ _ _ _ _ _ _
     (test .before .before .before .third-refusal .ensures) (test .before .before .pair-refusal .ensures) (test .before .lower .ensures)
-    _ _ _ _ _ _ (test .if1 .left) (merged .merge-into .ensures) (c .merged-flag .ensures)
+    _ _ _ _ _ _ (test .if1 .left) (merged .merge-into .ensures) (c .merged-flag .ensures))
 
 pub merge-spec : {M : Type 1} → statement M
 merge-spec =

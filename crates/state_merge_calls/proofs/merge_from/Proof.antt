@@ -1,4 +1,5 @@
 -- `state_merge_calls::merge_from` meets its contract, refused or not. Assumes nothing.
+use Rattle.state_merge_calls.specs.Laws.Promises.{from-promise}
 use Rattle.state_merge_calls.specs.Laws.MergeCall.{from-refused, from-ends}
 use borrow.Author.Needs.{needs}
 use Rattle.state_merge_calls.proofs.merge_from.Statement.{statement}
@@ -14,7 +15,7 @@ same-length-2 : tie.Need-same-length-2
 same-length-2 c = search needs
 
 returns : tie.Need-returns
-returns c = from-refused _ _ _ _ _ _ _ _ (c .before .pair-refusal .ensures) (c .if1 .taken)
+returns c = from-promise _ _ _ _ _ _ _ _ _ _ (from-refused _ _ _ _ _ _ _ _ (c .before .pair-refusal .ensures) (c .if1 .taken))
 
 merge-values-requires : tie.Need-merge-values-requires
 merge-values-requires c κs = search needs
@@ -33,7 +34,7 @@ returns-2 c =
     let sets = c .before .before in
     let values = sets .before .before .before .before in
     let test = values .before .before in
-    from-ends _ _ _ _ _ _ _ _ _ _ (test .before .pair-refusal .ensures) (test .if1 .left) (values .merge-values .ensures) (sets .merge-sets .ensures)
+    from-promise _ _ _ _ _ _ _ _ _ _ (from-ends _ _ _ _ _ _ _ _ _ _ (test .before .pair-refusal .ensures) (test .if1 .left) (values .merge-values .ensures) (sets .merge-sets .ensures))
 
 pub merge-from-spec : {M : Type 1} → statement M
 merge-from-spec =

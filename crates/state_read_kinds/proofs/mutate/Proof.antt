@@ -1,4 +1,5 @@
 use Rattle.state_calls.specs.Laws.More.{mutate-refused, mutate-of-ref, mutate-ends}
+use Rattle.state_means.specs.Laws.Promises.{mutate-promise}
 use borrow.Author.Needs.{needs}
 use Rattle.state_read_kinds.proofs.mutate.Statement.{statement}
 use Rattle.state_read_kinds.proofs.mutate.Tie as tie
@@ -7,10 +8,10 @@ refusal1-requires : tie.Need-refusal1-requires
 refusal1-requires c κs = search needs
 
 returns : tie.Need-returns
-returns c = mutate-refused _ _ _ _ _ _ _ (c .before .refusal1 .ensures) _ (c .if1 .taken)
+returns c = mutate-promise _ _ _ _ _ _ _ _ (mutate-refused _ _ _ _ _ _ _ (c .before .refusal1 .ensures) _ (c .if1 .taken))
 
 returns-2 : tie.Need-returns-2
-returns-2 c = mutate-of-ref _ _ _ _ _ _ _ (c .before .before .refusal1 .ensures) _ (c .before .if1 .left) (c .if2 .taken)
+returns-2 c = mutate-promise _ _ _ _ _ _ _ _ (mutate-of-ref _ _ _ _ _ _ _ (c .before .before .refusal1 .ensures) _ (c .before .if1 .left) (c .if2 .taken))
 
 after-use-requires : tie.Need-after-use-requires
 after-use-requires c κs = search needs
@@ -31,7 +32,7 @@ returns-3 c =
     let at-if2 = at-after-use .before in
     let at-if1 = at-if2 .before in
     let at-refusal1 = at-if1 .before in
-    mutate-ends _ _ _ _ _ _ _ (at-refusal1 .refusal1 .ensures) _ _ _ _ _ (at-if1 .if1 .left) (at-if2 .if2 .left) (at-after-use .after-use .ensures) (at-kind-of .kind-of .ensures) (c .before .is-strict .ensures) (c .result-of .ensures)
+    mutate-promise _ _ _ _ _ _ _ _ (mutate-ends _ _ _ _ _ _ _ (at-refusal1 .refusal1 .ensures) _ _ _ _ _ (at-if1 .if1 .left) (at-if2 .if2 .left) (at-after-use .after-use .ensures) (at-kind-of .kind-of .ensures) (c .before .is-strict .ensures) (c .result-of .ensures))
 
 pub mutate-spec : {M : Type 1} → statement M
 mutate-spec =

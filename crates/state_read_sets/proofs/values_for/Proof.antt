@@ -1,5 +1,6 @@
 use Prim.Native.Nat.{_-_}
 use Rattle.state_calls.specs.Laws.More.{list-refused, list-ends}
+use Rattle.state_means.specs.Laws.Promises.{valuesFor-promise}
 use borrow.Author.Needs.{needs}
 use Rattle.state_read_sets.proofs.values_for.Statement.{statement}
 use Rattle.state_read_sets.proofs.values_for.Tie as tie
@@ -14,7 +15,7 @@ same-length : tie.Need-same-length
 same-length c = search needs
 
 returns : tie.Need-returns
-returns c = list-refused _ _ _ _ _ _ (c .before .before .before .before .before .values-refusal .ensures) _ (c .before .before .before .clear .ensures) (c .if1 .taken)
+returns c = valuesFor-promise _ _ _ _ _ _ _ (list-refused _ _ _ _ _ _ (c .before .before .before .before .before .values-refusal .ensures) _ (c .before .before .before .clear .ensures) (c .if1 .taken))
 
 write-values-requires : tie.Need-write-values-requires
 write-values-requires c κs = search needs
@@ -31,7 +32,7 @@ returns-2 c =
     let at-if1 = at-write-values .before .before in
     let at-clear = at-if1 .before .before .before in
     let at-values-refusal = at-clear .before .before in
-    list-ends _ _ _ _ _ _ (at-values-refusal .values-refusal .ensures) _ _ _ (at-clear .clear .ensures) (at-if1 .if1 .left) (at-write-values .write-values .ensures) (c .size .ensures)
+    valuesFor-promise _ _ _ _ _ _ _ (list-ends _ _ _ _ _ _ (at-values-refusal .values-refusal .ensures) _ _ _ (at-clear .clear .ensures) (at-if1 .if1 .left) (at-write-values .write-values .ensures) (c .size .ensures))
 
 pub values-for-spec : {M : Type 1} → statement M
 values-for-spec =

@@ -1,4 +1,5 @@
 use Rattle.state_calls.specs.Laws.Call.{assign-refused, assign-ends}
+use Rattle.state_means.specs.Laws.Promises.{assign-promise}
 use borrow.Author.Needs.{needs}
 use Rattle.state_write_sets.proofs.assign.Statement.{statement}
 use Rattle.state_write_sets.proofs.assign.Tie as tie
@@ -13,7 +14,7 @@ same-length-2 : tie.Need-same-length-2
 same-length-2 c = search needs
 
 returns : tie.Need-returns
-returns c = assign-refused _ _ _ _ _ _ (c .before .refusal2 .ensures) (c .if1 .taken)
+returns c = assign-promise _ _ _ _ _ _ _ _ (assign-refused _ _ _ _ _ _ (c .before .refusal2 .ensures) (c .if1 .taken))
 
 assign-requires : tie.Need-assign-requires
 assign-requires c κs = search needs
@@ -29,7 +30,7 @@ returns-2 c =
     let at-assign = c .before .before .before .before in
     let at-if1 = at-assign .before .before .before in
     let at-refusal2 = at-if1 .before in
-    assign-ends _ _ _ _ _ _ _ _ (at-refusal2 .refusal2 .ensures) (at-if1 .if1 .left) (at-assign .assign .ensures)
+    assign-promise _ _ _ _ _ _ _ _ (assign-ends _ _ _ _ _ _ _ _ (at-refusal2 .refusal2 .ensures) (at-if1 .if1 .left) (at-assign .assign .ensures))
 
 pub assign-spec : {M : Type 1} → statement M
 assign-spec =

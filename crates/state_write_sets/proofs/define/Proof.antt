@@ -1,4 +1,5 @@
 use Rattle.state_calls.specs.Laws.Call.{define-refused, define-ends}
+use Rattle.state_means.specs.Laws.Promises.{define-promise}
 use borrow.Author.Needs.{needs}
 use Rattle.state_write_sets.proofs.define.Statement.{statement}
 use Rattle.state_write_sets.proofs.define.Tie as tie
@@ -27,7 +28,7 @@ returns c =
     let at-number-too-new = at-either .before .before in
     let at-no-number = at-number-too-new .before in
     let at-outside = at-no-number .before .before in
-    define-refused _ _ _ _ _ _ _ _ _ _ (at-outside .outside .ensures) (at-no-number .no-number .ensures) (at-number-too-new .number-too-new .ensures) (at-either .either .ensures) (c .before .refusal-of .ensures) (c .if1 .taken)
+    define-promise _ _ _ _ _ _ _ (define-refused _ _ _ _ _ _ _ _ _ _ (at-outside .outside .ensures) (at-no-number .no-number .ensures) (at-number-too-new .number-too-new .ensures) (at-either .either .ensures) (c .before .refusal-of .ensures) (c .if1 .taken))
 
 define-requires : tie.Need-define-requires
 define-requires c κs = search needs
@@ -44,7 +45,7 @@ returns-2 c =
     let at-number-too-new = at-either .before .before in
     let at-no-number = at-number-too-new .before in
     let at-outside = at-no-number .before .before in
-    define-ends _ _ _ _ _ _ _ _ _ _ (at-outside .outside .ensures) (at-no-number .no-number .ensures) (at-number-too-new .number-too-new .ensures) (at-either .either .ensures) (at-refusal-of .refusal-of .ensures) _ (at-if1 .if1 .left) (at-define .define .ensures)
+    define-promise _ _ _ _ _ _ _ (define-ends _ _ _ _ _ _ _ _ _ _ (at-outside .outside .ensures) (at-no-number .no-number .ensures) (at-number-too-new .number-too-new .ensures) (at-either .either .ensures) (at-refusal-of .refusal-of .ensures) _ (at-if1 .if1 .left) (at-define .define .ensures))
 
 pub define-spec : {M : Type 1} → statement M
 define-spec =

@@ -1,4 +1,5 @@
 use Rattle.state_calls.specs.Laws.More.{phi-refused, phi-ends}
+use Rattle.state_means.specs.Laws.Promises.{inferPhi-promise}
 use borrow.Author.Needs.{needs}
 use Rattle.state_write_sets.proofs.infer_phi.Statement.{statement}
 use Rattle.state_write_sets.proofs.infer_phi.Tie as tie
@@ -23,7 +24,7 @@ returns c =
     let at-either = c .before .before in
     let at-any-outside = at-either .before .before in
     let at-outside = at-any-outside .before .before in
-    phi-refused _ _ _ _ _ _ _ _ _ (at-outside .outside .ensures) (at-any-outside .any-outside .ensures) (at-either .either .ensures) (c .before .refusal-of .ensures) (c .if1 .taken)
+    inferPhi-promise _ _ _ _ _ _ _ (phi-refused _ _ _ _ _ _ _ _ _ (at-outside .outside .ensures) (at-any-outside .any-outside .ensures) (at-either .either .ensures) (c .before .refusal-of .ensures) (c .if1 .taken))
 
 infer-phi-requires : tie.Need-infer-phi-requires
 infer-phi-requires c κs = search needs
@@ -39,7 +40,7 @@ returns-2 c =
     let at-either = at-refusal-of .before in
     let at-any-outside = at-either .before .before in
     let at-outside = at-any-outside .before .before in
-    phi-ends _ _ _ _ _ _ _ _ _ (at-outside .outside .ensures) (at-any-outside .any-outside .ensures) (at-either .either .ensures) (at-refusal-of .refusal-of .ensures) _ (at-if1 .if1 .left) (at-infer-phi .infer-phi .ensures)
+    inferPhi-promise _ _ _ _ _ _ _ (phi-ends _ _ _ _ _ _ _ _ _ (at-outside .outside .ensures) (at-any-outside .any-outside .ensures) (at-either .either .ensures) (at-refusal-of .refusal-of .ensures) _ (at-if1 .if1 .left) (at-infer-phi .infer-phi .ensures))
 
 pub infer-phi-spec : {M : Type 1} → statement M
 infer-phi-spec =

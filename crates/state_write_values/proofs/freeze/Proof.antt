@@ -1,4 +1,5 @@
 use Rattle.state_calls.specs.Laws.Call.{freeze-refused, freeze-ends}
+use Rattle.state_means.specs.Laws.Promises.{freeze-promise}
 use borrow.Author.Needs.{needs}
 use Rattle.state_write_values.proofs.freeze.Statement.{statement}
 use Rattle.state_write_values.proofs.freeze.Tie as tie
@@ -23,7 +24,7 @@ returns c =
     let at-either = c .before .before in
     let at-is-reason = at-either .before .before in
     let at-outside = at-is-reason .before in
-    freeze-refused _ _ _ _ _ _ _ _ _ (at-outside .outside .ensures) (at-is-reason .is-reason .ensures) (at-either .either .ensures) (c .before .refusal-of .ensures) (c .if1 .taken)
+    freeze-promise _ _ _ _ _ _ _ (freeze-refused _ _ _ _ _ _ _ _ _ (at-outside .outside .ensures) (at-is-reason .is-reason .ensures) (at-either .either .ensures) (c .before .refusal-of .ensures) (c .if1 .taken))
 
 freeze-requires : tie.Need-freeze-requires
 freeze-requires c κs = search needs
@@ -39,7 +40,7 @@ returns-2 c =
     let at-either = at-refusal-of .before in
     let at-is-reason = at-either .before .before in
     let at-outside = at-is-reason .before in
-    freeze-ends _ _ _ _ _ _ _ _ _ (at-outside .outside .ensures) (at-is-reason .is-reason .ensures) (at-either .either .ensures) (at-refusal-of .refusal-of .ensures) _ _ (at-if1 .if1 .left) (at-freeze .freeze .ensures)
+    freeze-promise _ _ _ _ _ _ _ (freeze-ends _ _ _ _ _ _ _ _ _ (at-outside .outside .ensures) (at-is-reason .is-reason .ensures) (at-either .either .ensures) (at-refusal-of .refusal-of .ensures) _ _ (at-if1 .if1 .left) (at-freeze .freeze .ensures))
 
 pub freeze-spec : {M : Type 1} → statement M
 freeze-spec =

@@ -1,4 +1,5 @@
 use Rattle.state_calls.specs.Laws.Call.{initialize-refused, initialize-ends}
+use Rattle.state_means.specs.Laws.Promises.{initialize-promise}
 use borrow.Author.Needs.{needs}
 use Rattle.state_write_values.proofs.initialize.Statement.{statement}
 use Rattle.state_write_values.proofs.initialize.Tie as tie
@@ -27,7 +28,7 @@ returns c =
     let at-number-too-new = at-either .before .before in
     let at-are-reasons = at-number-too-new .before in
     let at-no-number = at-are-reasons .before in
-    initialize-refused _ _ _ _ _ _ _ _ _ _ (at-no-number .no-number .ensures) (at-are-reasons .are-reasons .ensures) (at-number-too-new .number-too-new .ensures) (at-either .either .ensures) (c .before .refusal-of .ensures) (c .if1 .taken)
+    initialize-promise _ _ _ _ _ _ _ (initialize-refused _ _ _ _ _ _ _ _ _ _ (at-no-number .no-number .ensures) (at-are-reasons .are-reasons .ensures) (at-number-too-new .number-too-new .ensures) (at-either .either .ensures) (c .before .refusal-of .ensures) (c .if1 .taken))
 
 wide32-requires : tie.Need-wide32-requires
 wide32-requires c κs = search needs
@@ -48,7 +49,7 @@ returns-2 c =
     let at-number-too-new = at-either .before .before in
     let at-are-reasons = at-number-too-new .before in
     let at-no-number = at-are-reasons .before in
-    initialize-ends _ _ _ _ _ _ _ _ _ _ (at-no-number .no-number .ensures) (at-are-reasons .are-reasons .ensures) (at-number-too-new .number-too-new .ensures) (at-either .either .ensures) (at-refusal-of .refusal-of .ensures) _ _ (at-if1 .if1 .left) (at-wide32 .wide32 .ensures) (at-put-value .put-value .ensures)
+    initialize-promise _ _ _ _ _ _ _ (initialize-ends _ _ _ _ _ _ _ _ _ _ (at-no-number .no-number .ensures) (at-are-reasons .are-reasons .ensures) (at-number-too-new .number-too-new .ensures) (at-either .either .ensures) (at-refusal-of .refusal-of .ensures) _ _ (at-if1 .if1 .left) (at-wide32 .wide32 .ensures) (at-put-value .put-value .ensures))
 
 pub initialize-spec : {M : Type 1} → statement M
 initialize-spec =

@@ -12,11 +12,11 @@ use Rattle.def_effects.specs.Effects.{AliasingEffect, Freeze, Mutate, MutateCon
 use Rattle.lent_tables.specs.declared.Table.{Table}
 use Rattle.lent_tables.specs.Words.{field, putField, placeIn, putPlace, placesIn, putPlaces}
 use Rattle.lent_tables.specs.Laws.Word.{put-length, place-length}
 use Rattle.lent_effects.specs.declared.AliasingEffect.{AliasingEffect as Head}
 use Rattle.lent_effects.specs.declared.AliasingEffect.the-variants as Head
 use Rattle.lent_effects.specs.Records.{countedPlaces, effectWith, diagnostic, headIn, effectIn, onePlace, twoPlaces, reported, putEffect}
 use Rattle.lent_effects.specs.Laws.Head.{head-0, head-1, head-2, head-3, head-4, head-5, head-6, head-7, head-8, head-9, head-10, head-11, head-13, head-14, head-15, head-16, head-rest}
-use Rattle.image_decode.specs.Laws.PlacesBack.{Held, held-as, place-back, word-back, word-beside, place-beside, run-beside, place-same, run-back}
+use Rattle.lent_tables.specs.Laws.Back.{Held, held-as, place-back, word-back, word-beside, place-beside, run-beside, place-same, run-back}
 
 -- how many captures an effect has
 -- a CreateFunction alone has any, and a record has room for sixteen

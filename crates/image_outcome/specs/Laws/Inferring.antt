@@ -40,7 +40,7 @@ use Rattle.image_listing.specs.Laws.Text.{put-fits}
 use Rattle.laws_suffices.specs.Laws.Suffices.{nothing-lost}
 use Rattle.image_read.specs.Laws.Reading.{wrong-here, right-here}
 use Rattle.image_read.specs.Reading.{Tables, tables, Read, jobOf, filled, noJob, lentWrong, readClass, readImage}
-use Rattle.image_infer.specs.Inferring.{empty, setWords, candidateWords, jobCall, imageCall, shown, inferred, memoryWrong, written, Fits, Writes}
+use Rattle.image_outcome.specs.Inferring.{empty, setWords, candidateWords, jobCall, imageCall, shown, inferred, memoryWrong, written, Fits, Writes}
 
 -- ---- what is shown of a call
 

@@ -1,0 +1,3 @@
+pub mod Accepting
+pub mod CallMeans
+pub mod PlainReach

@@ -1,0 +1,6 @@
+pub mod Means
+pub mod Touching
+pub mod Steps
+pub mod PureFaithful
+pub mod Clipped
+pub mod Reach

@@ -1,0 +1,3 @@
+pub mod Inferred
+pub mod Case1
+pub mod Cases

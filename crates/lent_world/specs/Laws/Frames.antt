@@ -1,0 +1,93 @@
+-- What each write of a context leaves of its meaning. Assumes nothing.
+use Prim.Native.Nat.{ℕ, zero, suc, _+_, _/_, _%_, _≤_, _<_}
+use mathlib.Core.Path.{_≡_, refl, ap, ap₂, _∙_, fun-ext}
+use mathlib.Core.Bool.{true, not}
+use mathlib.Core.Logic.{_⊎_, inl}
+use mathlib.Core.List.{List, _∷_}
+use mathlib.Core.Option.{Option}
+use lib.Dec.{eqb}
+use lib.ListN.{getD}
+use lib.Seq.{getD-set-other}
+use Rattle.def_effects.specs.Effects.{AliasingEffect}
+use Rattle.def_transfer.specs.Pure.{Interned}
+use Rattle.def_transfer.specs.Diagnostics.{Diagnostic}
+use Rattle.lent_tables.specs.declared.Table.{Table}
+use Rattle.lent_tables.specs.Words.{end, apart, field, placesIn}
+use Rattle.lent_tables.specs.Laws.Word.{put-apart, put-outside, set-outside, places-cong}
+use Rattle.lent_effects.specs.Records.{putEffect}
+use Rattle.lent_effects.specs.Laws.EffectFrames.{effect-cong, effect-apart, effect-outside}
+use Rattle.lent_keys.specs.KeyRecords.{optionIn, keyIn}
+use Rattle.lent_keys.specs.Laws.KeyFrames.{option-cong, key-cong}
+use Rattle.lent_context.specs.Layout as Layout
+use Rattle.lent_context.specs.Lent.{effectsIn, internedCount, addEffect, diagnosticIn, diagnosticsIn, instanceCount, putDiagnostic, addDiagnostic}
+use Rattle.lent_world.specs.Laws.Context.{Same, diagnostic-keeps}
+use Rattle.lent_context.specs.Abstract.{functionIn, identifierIn}
+
+effects-cong : (t : Table) (c d : List ℕ) (k n : ℕ) → ((j v : ℕ) → field t d j v ≡ field t c j v) → effectsIn t d k n ≡ effectsIn t c k n
+unfolding effectsIn
+effects-cong t c d k zero h = refl
+effects-cong t c d k (suc n) h = ap₂ (λ (x : AliasingEffect) (xs : List AliasingEffect). x ∷ xs) (effect-cong t c d k (h k)) (effects-cong t c d (suc k) n h)
+
+pub diagnostic-cong : (c d : List ℕ) (k : ℕ) → ((v : ℕ) → field Layout.diagnostics d k v ≡ field Layout.diagnostics c k v) → diagnosticIn d k ≡ diagnosticIn c k
+unfolding diagnosticIn
+diagnostic-cong c d k h = λ j. record {
+  identity = h 0 j;
+  diagnostic = record { identifier = h 1 j; case = h 2 j; sentence = h 3 j; name = h 4 j; access = record { start = h 5 j; end = h 6 j }; own = record { start = h 7 j; end = h 8 j } };
+}
+
+diagnostics-cong : (c d : List ℕ) (k n : ℕ) → Same Layout.diagnostics c d → diagnosticsIn d k n ≡ diagnosticsIn c k n
+unfolding diagnosticsIn
+diagnostics-cong c d k zero h = refl
+diagnostics-cong c d k (suc n) h = ap₂ (λ (x : Interned) (xs : List Interned). x ∷ xs) (diagnostic-cong c d k (h k)) (diagnostics-cong c d (suc k) n h)
+
+module _ (c d : List ℕ) where
+  pub interned-same : Same Layout.interned c d → getD d 12483 0 ≡ getD c 12483 0 → effectsIn Layout.interned d 0 (getD d 12483 0) ≡ effectsIn Layout.interned c 0 (getD c 12483 0)
+  interned-same h e = effects-cong Layout.interned c d 0 (getD d 12483 0) h ∙ ap (effectsIn Layout.interned c 0) e
+
+  pub cached-same : Same Layout.cached c d → keyIn Layout.cached d ≡ keyIn Layout.cached c
+  cached-same h = fun-ext (λ v. key-cong Layout.cached c d v (h v))
+
+  pub links-same : Same Layout.links c d → _≡_ {A = ℕ → Option ℕ} (λ v. optionIn Layout.links d v 0) (λ v. optionIn Layout.links c v 0)
+  links-same h = fun-ext (λ v. option-cong Layout.links c d v 0 (h v))
+
+  -- a function whose words stay
+  pub function-same : (f : ℕ) → ((v : ℕ) → field Layout.contexts d f v ≡ field Layout.contexts c f v) → Same Layout.functions c d → functionIn d f ≡ functionIn c f
+  function-same f h g = λ j. record {
+    context = (places-cong Layout.contexts c d f 0 0 (field Layout.functions d f 1) h ∙ ap (placesIn Layout.contexts c f 0 0) (g f 1)) j;
+    inside = (places-cong Layout.functions c d f 3 0 (field Layout.functions d f 2) (g f) ∙ ap (placesIn Layout.functions c f 3 0) (g f 2)) j;
+    tracked = eqb (g f 0 j / 2 % 2) 1;
+  }
+
+  pub functions-same : Same Layout.contexts c d → Same Layout.functions c d → functionIn d ≡ functionIn c
+  functions-same h g = fun-ext (λ f. function-same f (h f) g)
+
+  pub identifiers-same : Same Layout.identifiers c d → identifierIn d ≡ identifierIn c
+  identifiers-same h = fun-ext (λ i j. record { ref = eqb (h i 0 j % 2) 1; hoisted = eqb (h i 0 j / 2 % 2) 1; access = record { start = h i 2 j; end = h i 3 j }; name = h i 1 j })
+
+  pub transitive-same : getD d 0 0 ≡ getD c 0 0 → not (eqb (getD d 0 0) 0) ≡ not (eqb (getD c 0 0) 0)
+  transitive-same e = ap (λ (x : ℕ). not (eqb x 0)) e
+
+  pub diagnostics-same : Same Layout.diagnostics c d → getD d 12484 0 ≡ getD c 12484 0 → diagnosticsIn d 0 (getD d 12484 0) ≡ diagnosticsIn c 0 (getD c 12484 0)
+  diagnostics-same h e = diagnostics-cong c d 0 (getD d 12484 0) h ∙ ap (diagnosticsIn c 0) e
+
+-- ---- an effect added, a diagnostic added
+
+pub effect-leaves : (u : Table) (c : List ℕ) (e : AliasingEffect) → apart Layout.interned u ≡ true → (12483 < u .base) ⊎ (end u ≤ 12483) → Same u c (addEffect c e)
+unfolding addEffect
+effect-leaves u c e a o j v = set-outside u (putEffect Layout.interned c (internedCount c) e) 12483 (internedCount c + 1) j v o ∙ effect-apart Layout.interned u c (internedCount c) e j v a
+
+pub effect-word : (c : List ℕ) (e : AliasingEffect) (k : ℕ) → k < 35269 → (k ≡ 12483 → ⊥) → getD (addEffect c e) k 0 ≡ getD c k 0
+unfolding addEffect
+effect-word c e k l n = getD-set-other (putEffect Layout.interned c (internedCount c) e) 12483 k (internedCount c + 1) 0 n ∙ effect-outside Layout.interned c (internedCount c) e k (inl l)
+
+pub diagnostic-leaves : (u : Table) (c : List ℕ) (n : ℕ) (d : Diagnostic) → apart Layout.diagnostics u ≡ true → (12484 < u .base) ⊎ (end u ≤ 12484) → Same u c (addDiagnostic c n d)
+unfolding addDiagnostic
+diagnostic-leaves u c n d a o j v =
+    set-outside u (putDiagnostic c (instanceCount c) n d) 12484 (instanceCount c + 1) j v o
+    ∙ diagnostic-keeps (instanceCount c) (λ (b : List ℕ). field u b j v ≡ field u c j v) (λ b w x h. put-apart Layout.diagnostics u b (instanceCount c) w x j v a ∙ h) c n d refl
+
+pub diagnostic-word : (c : List ℕ) (n : ℕ) (d : Diagnostic) (k : ℕ) → k < 32965 → (k ≡ 12484 → ⊥) → getD (addDiagnostic c n d) k 0 ≡ getD c k 0
+unfolding addDiagnostic
+diagnostic-word c n d k l o =
+    getD-set-other (putDiagnostic c (instanceCount c) n d) 12484 k (instanceCount c + 1) 0 o
+    ∙ diagnostic-keeps (instanceCount c) (λ (b : List ℕ). getD b k 0 ≡ getD c k 0) (λ b w x h. put-outside Layout.diagnostics b (instanceCount c) w x k (inl l) ∙ h) c n d refl
