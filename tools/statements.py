@@ -45,14 +45,19 @@ def tree(rev):
     return out
 
 
-# The tables of docs/NAMES.md: crates, functions, definitions, and the names of definitions that stood twice.
+# The tables of docs/NAMES.md: crates, functions, definitions, the names of definitions that stood twice, and where the functions of
+# a divided crate went.
 def renamed():
-    crates, functions, definitions, twice = {}, {}, {}, set()
+    crates, functions, definitions, twice, divided = {}, {}, {}, set(), {}
     part = ""
     for line in open(os.path.join(ROOT, "docs", "NAMES.md"), encoding="utf-8"):
         part = line.strip("# \n") if line.startswith("#") else part
         if part == "Definitions that stood twice":
             twice |= set(re.findall(r"`([^`. ]+)`", line.split(" | ")[0]))
+        m = re.match(r"\| out of `(\w+)` \| `(\w+)` \| (.*?) \|", line)
+        if m:
+            for name in re.findall(r"`(\w+)`", m.group(3)):
+                divided[(m.group(1), name)] = m.group(2)
         m = re.match(r"\| `(\w+)` \| `(\w+)` \|", line)
         if m:
             crates[m.group(1)] = m.group(2)
@@ -62,7 +67,7 @@ def renamed():
         m = re.match(r"\| `\w+` `\w+\.antt`: `(\S+)` \| `\w+` `\w+\.antt`: `(\S+)` \|", line)
         if m:
             definitions[m.group(1)] = m.group(2)
-    return crates, functions, definitions, twice
+    return crates, functions, definitions, twice, divided
 
 
 # ---- terms: nested lists of words, one form for terms that differ in parentheses alone
@@ -175,7 +180,7 @@ def settled(term):
 # ---- statements
 
 # crate, function -> statement: its types, then its clauses
-def statements(files, short, crates, functions, definitions):
+def statements(files, short, crates, functions, definitions, divided):
     found = {}
     for path, text in files.items():
         m = re.match(r"crates/(\w+)/src/", path)
@@ -215,15 +220,16 @@ def statements(files, short, crates, functions, definitions):
                 said.append("%s %s. %s" % (kind, answer or "", fact))
             name = (crate, owner + m.group(1))
             key = functions.get((crate, m.group(1)), (crates.get(crate, crate), owner + m.group(1)))
-            said = [names_of(s, crates, definitions) for s in said]
+            key = (divided.get(key, key[0]), key[1])
+            said = [names_of(s, definitions) for s in said]
             types = re.sub(r"fn \w+", "fn", types)
             found[key] = types + "\n    " + "\n    ".join(said)
     return found
 
 
-# A text with new names for old ones.
-def names_of(text, crates, definitions):
-    text = re.sub(r"Rattle·(\w+?)(·specs)?\.specs", lambda m: "Rattle.%s%s.specs" % (crates.get(m.group(1), m.group(1)), m.group(2) or ""), text)
+# A text with new names for old ones, and without the crate of a module.
+def names_of(text, definitions):
+    text = re.sub(r"Rattle·\w+(·specs)?\.specs\.(specs\.)?", "", text)
     for old, new in definitions.items():
         text = re.sub(r"(?<![\w′·-])(Step|Context|Walk|Reasons)\.%s(?![\w′-])" % re.escape(old), r"\1." + new, text)
     return text
@@ -259,17 +265,17 @@ def main():
     parser = argparse.ArgumentParser(description="what is promised")
     parser.add_argument("--against")
     options = parser.parse_args()
-    crates, functions, definitions, twice = renamed()
+    crates, functions, definitions, twice, divided = renamed()
     now = tree(None)
     short = abbreviations(now)
-    here = statements(now, short, {}, {}, {})
+    here = statements(now, short, {}, {}, {}, {})
     if not options.against:
         for (crate, name), said in sorted(here.items()):
             print("%s::%s\n    %s" % (crate, name, said))
         print("%d public functions" % len(here))
         return 0
     past = tree(options.against)
-    there = statements(past, abbreviations(past), crates, functions, definitions)
+    there = statements(past, abbreviations(past), crates, functions, definitions, divided)
     wrong = 0
     for key in sorted(set(here) | set(there)):
         if key not in there:

@@ -92,12 +92,12 @@ fn lend_function(context: &mut [u32]) {
 fn lend_walk(values: &mut [u64], sets: &mut [u64]) {
     lent_values::put_value(values, 1, mutable());
     lent_values::put_value(values, 2, mutable());
-    lent_sets::define(sets, 0, 1);
-    lent_sets::define(sets, 1, 1);
+    lent_set_writes::define(sets, 0, 1);
+    lent_set_writes::define(sets, 1, 1);
     let mut row = [0u64; 16];
-    lent_sets::add_set(&mut row, sets, 1);
+    lent_set_writes::add_set(&mut row, sets, 1);
     lent_sets::add_value(&mut row, 2);
-    lent_sets::put_set(sets, 1, &row);
+    lent_set_writes::put_set(sets, 1, &row);
 }
 
 // Interned effect k of a full context: ImmutableCapture from identifier k % 512 into identifier k / 512.
@@ -150,7 +150,7 @@ fn fill_values(values: &mut [u64]) {
 fn fill_sets(sets: &mut [u64], all: &[u64]) {
     let mut i: u32 = 0;
     while i < 512 {
-        lent_sets::put_set(sets, i, all);
+        lent_set_writes::put_set(sets, i, all);
         i += 1;
     }
 }

@@ -69,7 +69,7 @@ fn fill_values(values: &mut [u64]) {
 fn fill_sets(sets: &mut [u64], all: &[u64]) {
     let mut i: u32 = 0;
     while i < 512 {
-        lent_sets::put_set(sets, i, all);
+        lent_set_writes::put_set(sets, i, all);
         i += 1;
     }
 }
@@ -89,8 +89,8 @@ fn fill(values: &mut [u64], sets: &mut [u64], full: u32) {
             reason: 2048,
         },
     );
-    lent_sets::define(sets, 0, 1);
-    lent_sets::define(sets, 1, 1);
+    lent_set_writes::define(sets, 0, 1);
+    lent_set_writes::define(sets, 1, 1);
 }
 
 // Value 1 is Mutable {Other} again, so that the next freeze of its place acts: with frozen ones beside it the place is MaybeFrozen.

@@ -16,12 +16,12 @@ use Rattle.lent_work.specs.declared.Run.{Run}
 use Rattle.lent_work.specs.Marks.{noMarks}
 use Rattle.lent_context.specs.Layout as Layout
 use Rattle.lent_world.specs.World.{lent, world}
-use Rattle.refuse_state.specs.Words.{identifiers, stateRefusal}
+use Rattle.refuse_entries.specs.Words.{identifiers, stateRefusal}
 use Rattle.refuse_class.specs.Class.{lower}
 use Rattle.refuse_words.specs.Classes.{earns}
 use Rattle.refuse_instruction.specs.EffectClasses.{instructionClass}
 use Rattle.refuse_context.specs.Accepting.{contextClass}
-use Rattle.call_run.specs.Instructions.{instructionOf}
+use Rattle.call_parts.specs.Instructions.{instructionOf}
 use Rattle.call_outcome.specs.declared.Applied.{Applied}
 
 -- ---- what a call is lent and given

@@ -4,7 +4,7 @@ use lib.ListN.{length}
 use Rattle.def_transfer.specs.Tables.{State}
 use Rattle.def_transfer.specs.Reach.{Node, entry, Reach, Agree}
 use Rattle.lent_world.specs.World.{lent}
-use Rattle.refuse_state.specs.Words.{stateRefusal}
+use Rattle.refuse_entries.specs.Words.{stateRefusal}
 use Rattle.call_outcome.specs.Calls.{Call, Outcome, lentInstruction, outcome}
 
 -- the state that a call is lent, and the one that it leaves

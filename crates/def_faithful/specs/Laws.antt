@@ -1,3 +1,4 @@
+pub mod Ranges
 pub mod Means
 pub mod Touching
 pub mod Steps

@@ -3,25 +3,24 @@
 ghost use mathlib.Core.Path.{_≡_};
 ghost use mathlib.Core.List.{List};
 ghost use Prim.Native.Nat.{ℕ};
-ghost use lib.ListN.{length};
 ghost use Rattle.def_effects.specs.Effects.{AliasingEffect as Effect, Capture};
 ghost use Rattle.def_transfer.specs.Monad.{M, Done, each};
 ghost use Rattle.def_transfer.specs.Tables.{World};
 ghost use Rattle.def_transfer.specs.Step as Step;
 ghost use Rattle.laws_monad.specs.Answers.{answer};
 ghost use Rattle.lent_effects.specs.Records.{capturesOf};
-ghost use Rattle.effect_intern.specs.Interning.{chosen};
 ghost use Rattle.lent_world.specs.World.{lent, world};
 ghost use Rattle.effect_acts.specs.Acts.{sequel};
-ghost use Rattle.effect_function.specs.NewFunctions.{functionKind, linked};
+ghost use Rattle.effect_captures.specs.NewFunctions.{linked};
 ghost use Rattle.lent_slices.specs.Lent.{old, new};
 ghost use Rattle.lent_world.specs.Promise.{before, after};
 use def_effects::Place;
 use def_kinds::AbstractValue;
 use def_kinds::ValueKind;
+use effect_captures::function_kind;
 use effect_function_context::any_ref;
 use effect_function_context::update_context;
-use effect_intern::get_or_create_value_id;
+use effect_number::get_or_create_value_id;
 use effect_parts::any_written;
 use effect_parts::begin;
 use effect_parts::create;
@@ -29,47 +28,9 @@ use effect_parts::emit;
 use lent_context::has_tracked_side_effect;
 use lent_context::put_link;
 use lent_effects::AliasingEffect;
-use lent_effects::copy_captures;
-use lent_keys::Found;
-use lent_keys::key_of;
-use lent_slices::set32;
-use lent_slices::wide32;
-use lent_tables::Table;
-use lent_tables::field;
+use lent_key_of::key_of;
 use lent_work::Ran;
 use lent_work::Run;
-
-// Interned effects.
-// 2,048 records of 98 words at most.
-const INTERNED: Table = Table {
-    base: 35269,
-    count: 2048,
-    width: 98,
-};
-
-// The captures beside an effect: one record of 81 words.
-// A count, then sixteen places of five words.
-const ONE_RUN: Table = Table {
-    base: 0,
-    count: 1,
-    width: 81,
-};
-
-// The kind of a new function: Mutable if it captures what can be written, has a tracked side effect or a ref in its context, else Frozen.
-fn function_kind(written: bool, tracked: bool, refs: bool) -> ValueKind
-    ensures { λ r. ⌜ r ≡ functionKind written tracked refs ⌝ }
-{
-    if written {
-        return ValueKind::Mutable;
-    }
-    if tracked {
-        return ValueKind::Mutable;
-    }
-    if refs {
-        return ValueKind::Mutable;
-    }
-    ValueKind::Frozen
-}
 
 // The second half of a new function: its number, the link to it, and the place that gets it.
 // 9 refuses a fresh number at next 512.
@@ -155,33 +116,4 @@ pub fn make_function(
     let k = function_kind(written, tracked, refs);
     update_context(values, sets, context, function);
     link_function(values, sets, context, listed, function, into, k, captures)
-}
-
-// The captures beside an effect are copied to another slice of 81 words.
-// A count, then sixteen places of five words.
-fn copy_run(captures: &[u32], out: &mut [u32])
-    ensures { λ _. ⌜ (length (old out) ≡ 81 → capturesOf (new out) ≡ capturesOf (old captures)) ⌝ }
-{
-    let mut k: usize = 0;
-    while k < 81 {
-        set32(out, k, field(ONE_RUN, captures, 0, k));
-        k += 1;
-    }
-}
-
-// The captures of the effect that stands for another are copied to a slice of 81 words: those of its record where it was found, else those given.
-// The table changes while they are gone through.
-pub fn choose_captures(context: &[u32], found: Found, captures: &[u32], out: &mut [u32])
-    ensures { λ _. ⌜
-        (length (old out) ≡ 81
-        → capturesOf (new out) ≡ chosen (old context) found (capturesOf (old captures))) ⌝ }
-{
-    match found {
-        Found::At(j) => {
-            copy_captures(INTERNED, context, wide32(j), out);
-            return;
-        }
-        Found::Nowhere => {}
-    }
-    copy_run(captures, out);
 }

@@ -4,32 +4,24 @@ ghost use mathlib.Core.Path.{_≡_};
 ghost use mathlib.Core.List.{List};
 ghost use Prim.Native.Nat.{ℕ};
 ghost use Rattle.def_effects.specs.declared.Place.{Place as APlace};
-ghost use Rattle.def_effects.specs.Places.{identifiers};
 ghost use Rattle.def_transfer.specs.Context as Context;
 ghost use Rattle.def_transfer.specs.Context.{diagnosticOf, refreshed};
 ghost use Rattle.laws_monad.specs.Answers.{answer};
 ghost use Rattle.lent_work.specs.declared.Run.{Run as ARun};
 ghost use Rattle.lent_effects.specs.Records.{effectWith, capturesOf};
-ghost use Rattle.lent_keys.specs.KeyRecords.{keyWith};
 ghost use Rattle.lent_world.specs.World.{world};
 ghost use Rattle.effect_intern.specs.Interning.{chosen};
 ghost use Rattle.lent_slices.specs.Lent.{old, new};
 use def_effects::AliasingDiagnostic;
-use def_effects::Session;
-use effect_parts::with_session;
-use lent_context::find_effect;
-use lent_context::find_number;
 use lent_context::interned_count;
-use lent_context::put_key;
+use lent_effect_read::effect_in;
+use lent_effect_write::put_effect;
 use lent_effects::AliasingEffect;
-use lent_effects::effect_in;
-use lent_effects::put_effect;
 use lent_keys::Found;
-use lent_keys::Key;
+use lent_search::find_effect;
 use lent_slices::set32;
 use lent_slices::wide32;
 use lent_tables::Table;
-use lent_work::Run;
 
 // Interned effects: the first effect under a key.
 // 2,048 records of 98 words at most.
@@ -45,14 +37,6 @@ pub struct Interned {
     pub refusal: u32,
     pub found: Found,
     pub effect: AliasingEffect,
-}
-
-// The number under a key: 0 or 9, the number, and what the instruction has by value then.
-// A fresh one moves the session's next number.
-pub struct NumberFor {
-    pub refusal: u32,
-    pub number: u32,
-    pub run: Run,
 }
 
 // The diagnostic of an effect, or another where it has none.
@@ -182,54 +166,5 @@ pub fn intern_effect(context: &mut [u32], e: AliasingEffect, captures: &[u32]) -
         refusal: 0,
         found: Found::Nowhere,
         effect: e,
-    }
-}
-
-// The number cached under a key, or a fresh one; 9 refuses a fresh number at next 512.
-// This is get_or_create_value_id of the Rust.
-pub fn get_or_create_value_id(
-    context: &mut [u32],
-    run: Run,
-    key: Key,
-    captures: &[u32],
-) -> NumberFor
-    ensures { λ r. ⌜
-        ((vs ss os : List ℕ)
-        → Context.getOrCreateValueId (keyWith key (identifiers (capturesOf (old captures))))
-        (world vs ss (old context) os run)
-        ≡ answer (r .refusal) (r .number) (world vs ss (new context) os (r .run))) ⌝ }
-{
-    let found = find_number(context, key, captures);
-    match found {
-        Found::At(n) => {
-            return NumberFor {
-                refusal: 0,
-                number: n,
-                run,
-            };
-        }
-        Found::Nowhere => {}
-    }
-    let session = run.session;
-    let next = session.next;
-    if next >= 512 {
-        return NumberFor {
-            refusal: 9,
-            number: 0,
-            run,
-        };
-    }
-    put_key(context, next, key, captures);
-    let span = session.span;
-    let after = Session {
-        next: next + 1,
-        access: session.access,
-        span,
-        entries: session.entries,
-    };
-    NumberFor {
-        refusal: 0,
-        number: next,
-        run: with_session(run, after),
     }
 }

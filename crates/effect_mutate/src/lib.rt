@@ -2,126 +2,33 @@
 ghost use mathlib.Core.Path.{_≡_};
 ghost use mathlib.Core.List.{List};
 ghost use Prim.Native.Nat.{ℕ};
-ghost use Rattle.def_kinds.specs.Reasons as Reasons;
 ghost use Rattle.def_effects.specs.declared.Place.{Place as APlace};
 ghost use Rattle.def_effects.specs.Effects.{AliasingEffect as Effect};
 ghost use Rattle.def_transfer.specs.Monad.{M, Done};
 ghost use Rattle.def_transfer.specs.Tables.{World};
-ghost use Rattle.def_transfer.specs.Step.{mutating, report, reportModified, reportHoisted, modified, hoistedAccess};
+ghost use Rattle.def_transfer.specs.Step.{mutating, report, reportModified, reportHoisted};
 ghost use Rattle.lent_world.specs.World.{lent, world};
 ghost use Rattle.effect_acts.specs.Acts.{follow, sequel};
-ghost use Rattle.effect_mutate.specs.Mutations.{accessLabel};
 ghost use Rattle.lent_slices.specs.Lent.{old, new};
-use def_effects::Diagnostic;
 use def_effects::MutateVariant;
 use def_effects::MutationResult;
 use def_effects::Place;
-use def_effects::Span;
 use def_effects::is_strict;
 use def_effects::result_of;
 use def_kinds::AbstractValue;
-use def_kinds::has_reason;
 use effect_acts::Acted;
 use effect_acts::Next;
 use effect_diagnostic::intern_diagnostic;
 use effect_parts::kind;
 use effect_parts::kind_with_span;
+use effect_reports::hoisted_diagnostic;
+use effect_reports::modified_diagnostic;
 use lent_context::access_span;
 use lent_context::is_hoisted;
 use lent_context::is_ref;
 use lent_context::name_of;
 use lent_effects::AliasingEffect;
 use lent_work::Run;
-
-// The number of the sentence that says why a value cannot be written: the first of the reasons that get_write_error_reason asks for; 10 for none.
-// Global, JsxCaptured, Context, KnownReturnSignature, ReactiveFunctionArgument, State, ReducerState, Effect, HookCaptured, HookReturn.
-pub fn get_write_error_reason(s: u32) -> u32
-    ensures { λ r. ⌜ r ≡ Reasons.getWriteErrorReason s ⌝ }
-{
-    if has_reason(s, 7) {
-        return 0;
-    }
-    if has_reason(s, 8) {
-        return 1;
-    }
-    if has_reason(s, 3) {
-        return 2;
-    }
-    if has_reason(s, 0) {
-        return 3;
-    }
-    if has_reason(s, 10) {
-        return 4;
-    }
-    if has_reason(s, 1) {
-        return 5;
-    }
-    if has_reason(s, 2) {
-        return 6;
-    }
-    if has_reason(s, 4) {
-        return 7;
-    }
-    if has_reason(s, 5) {
-        return 8;
-    }
-    if has_reason(s, 6) {
-        return 9;
-    }
-    10
-}
-
-// The diagnostic of a value that cannot be modified: message case 0, its one label the place's own span.
-// The sentence goes by the joined reasons.
-pub fn modified_diagnostic(p: Place, name: u32, a: AbstractValue) -> Diagnostic
-    ensures { λ r. ⌜ r ≡ modified p name a ⌝ }
-{
-    let own = p.span;
-    Diagnostic {
-        identifier: p.identifier,
-        case: 0,
-        sentence: get_write_error_reason(a.reason),
-        name,
-        access: Span {
-            start: 4294967295,
-            end: 4294967295,
-        },
-        own,
-    }
-}
-
-// The access span as a label: none where it equals the place's own.
-fn access_label(access: Span, own: Span) -> Span
-    ensures { λ r. ⌜ r ≡ accessLabel access own ⌝ }
-{
-    if access.start != own.start {
-        return access;
-    }
-    if access.end != own.end {
-        return access;
-    }
-    Span {
-        start: 4294967295,
-        end: 4294967295,
-    }
-}
-
-// The diagnostic of an access before the declaration: message case 1, sentence 0.
-// Its labels are the access span, unless it equals the place's, then the place's.
-pub fn hoisted_diagnostic(p: Place, name: u32, access: Span) -> Diagnostic
-    ensures { λ r. ⌜ r ≡ hoistedAccess p name access ⌝ }
-{
-    let own = p.span;
-    let label = access_label(access, own);
-    Diagnostic {
-        identifier: p.identifier,
-        case: 1,
-        sentence: 0,
-        name,
-        access: label,
-        own,
-    }
-}
 
 // A value that cannot be modified is reported: a MutateFrozen is derived where it is Frozen, else a MutateGlobal.
 // 10 refuses a 257th diagnostic or instance.

@@ -14,7 +14,7 @@ ghost use Rattle.effect_acts.specs.Acts.{actOf};
 ghost use Rattle.effect_acts.specs.declared.Act.the-variants as Acts;
 ghost use Rattle.lent_slices.specs.Lent.{old, new};
 ghost use Rattle.lent_world.specs.Promise.{Does};
-use effect_create::capturing_immutably;
+use effect_assign::capturing_immutably;
 use effect_create::creating;
 use effect_freeze::freezing;
 use effect_parts::emit;

@@ -1,152 +1,14 @@
 // From the bytes of a job image to the bytes of its listing: all that the program `infer` does between reading and writing (document 01, 'The job image and its program').
 // A host that wants more than a listing calls `image_read::read_image` and `call_apply::apply_signature` itself.
-ghost use mathlib.Core.Path.{_≡_};
-ghost use Prim.Native.Nat.{_≤_};
 ghost use lib.ListN.{length};
-ghost use mathlib.Core.Bool.{false};
-ghost use Rattle.call_outcome.specs.Calls.{outcome};
-ghost use Rattle.image_read.specs.Reading.{tables};
-ghost use Rattle.image_outcome.specs.Inferring.{Fits, jobCall, shown, memoryWrong};
-ghost use Rattle.lent_slices.specs.Lent.{old};
 ghost use Rattle.lent_copies.specs.Cleared.{Cleared};
-ghost use Rattle.call_means.specs.Promise.{lentCall};
 ghost use Rattle.image_outcome.specs.Promise.{WritesInto, writtenFor, MeansPlain};
-use call_apply::apply_signature;
-use image_listing::put_listing;
 use image_listing::put_refusal;
-use image_read::Job;
 use image_read::read_image;
-use lent_copies::clear32;
-use lent_copies::clear64;
-
-// The call for an instruction, and its listing in the buffer; the answer is how long the listing is.
-// "A refusal prints only `REFUSED n`."
-fn run_job(
-    values: &mut [u64],
-    sets: &mut [u64],
-    context: &mut [u32],
-    job: Job,
-    candidates: &[u32],
-    output: &mut [u32],
-    scratch64: &mut [u64],
-    scratch32: &mut [u32],
-    buffer: &mut [u8],
-) -> usize
-    ensures { λ r. ⌜
-        (job .session .entries ≤ 4294967295
-        → WritesInto buffer r
-        (shown
-        (outcome
-        (lentCall values sets false context (job .session)
-        candidates (job .lvalue) (job .own) output
-        scratch64 scratch32)))) ⌝ }
-{
-    let session = job.session;
-    let lvalue = job.lvalue;
-    let applied = apply_signature(
-        values,
-        sets,
-        false,
-        context,
-        session,
-        candidates,
-        lvalue,
-        job.own,
-        output,
-        scratch64,
-        scratch32,
-    );
-    if applied.refusal != 0 {
-        return put_refusal(buffer, applied.refusal);
-    }
-    let after = applied.session;
-    put_listing(
-        buffer,
-        output,
-        applied.count,
-        applied.entries,
-        values,
-        sets,
-        after.access,
-    )
-}
-
-// A number as wide as an index.
-// It always fits, so a caller has no cast to prove.
-fn wide(x: u32) -> usize
-    ensures { λ r. ⌜ r ≡ x ⌝ }
-{
-    x as usize
-}
-
-// The job of the tables that were read: the call is lent the rows of the identifiers and the records of the candidates, and as much scratch as it asks for.
-// Tables that hold an accepted image have room for it.
-fn run_tables(
-    values: &mut [u64],
-    sets: &mut [u64],
-    context: &mut [u32],
-    candidates: &[u32],
-    job: Job,
-    output: &mut [u32],
-    scratch64: &mut [u64],
-    scratch32: &mut [u32],
-    buffer: &mut [u8],
-) -> usize
-    ensures { λ r. ⌜
-        (Fits (old sets) (old candidates) (old scratch64) job
-        → length (old output) ≡ 109760
-        → length (old scratch32) ≡ 22786
-        → WritesInto buffer r
-        (shown
-        (outcome
-        (jobCall job
-        (tables (old values) (old sets) (old context)
-        (old candidates)))))) ⌝ }
-{
-    let m = 16 * wide(job.identifiers);
-    let n = 98 * wide(job.candidates);
-    let e = 1024 + m;
-    if m > sets.len() {
-        return 0;
-    }
-    if n > candidates.len() {
-        return 0;
-    }
-    if e > scratch64.len() {
-        return 0;
-    }
-    run_job(
-        values,
-        &mut sets[..m],
-        context,
-        job,
-        &candidates[..n],
-        output,
-        &mut scratch64[..e],
-        scratch32,
-        buffer,
-    )
-}
-
-// Whether the memory for the call and for the listing has the wrong length.
-// The tables are tested where the image is read.
-fn memory_wrong(output: &[u32], scratch64: &[u64], scratch32: &[u32], buffer: &[u8]) -> bool
-    ensures { λ r. ⌜
-        r
-        ≡ memoryWrong (length (old output)) (length (old scratch64)) (length (old scratch32))
-        (length (old buffer)) ⌝ }
-{
-    if output.len() != 109760 {
-        return true;
-    }
-    if scratch64.len() != 9216 {
-        return true;
-    }
-    if scratch32.len() != 22786 {
-        return true;
-    }
-    buffer.len() != 2900000
-}
+use image_run::clear_lists;
+use image_run::clear_tables;
+use image_run::memory_wrong;
+use image_run::run_tables;
 
 // The image is read and its job runs; the listing of what comes of it is written into the buffer, or the number with which it is refused.
 // What stands in the tables afterwards is cleared by the caller.
@@ -184,28 +46,6 @@ fn list_image(
         scratch32,
         buffer,
     )
-}
-
-// The tables that an image filled become zero.
-// They are scratch of the call above.
-fn clear_tables(values: &mut [u64], sets: &mut [u64], context: &mut [u32], candidates: &mut [u32])
-    ensures { λ _. ⌜ Cleared values × Cleared sets × Cleared context × Cleared candidates ⌝ }
-{
-    clear64(values);
-    clear64(sets);
-    clear32(context);
-    clear32(candidates);
-}
-
-// The output list and what else was lent become zero.
-// They are scratch of the call above.
-fn clear_lists(words: &mut [u32], output: &mut [u32], scratch64: &mut [u64], scratch32: &mut [u32])
-    ensures { λ _. ⌜ Cleared words × Cleared output × Cleared scratch64 × Cleared scratch32 ⌝ }
-{
-    clear32(words);
-    clear32(output);
-    clear64(scratch64);
-    clear32(scratch32);
 }
 
 // From the bytes of an image to the bytes of its listing, from the first byte of the buffer on; the answer is how long the listing is.

@@ -1,7 +1,7 @@
 // The listing of a job as bytes in a lent buffer (document 01, 'The job image and its program').
 // Every function writes from a place of the buffer on and answers the place after; what does not fit is left out.
 ghost use mathlib.Core.Path.{_≡_};
-ghost use Prim.Native.Nat.{_+_, _%_, _≤_};
+ghost use Prim.Native.Nat.{_+_, _≤_};
 ghost use lib.ListN.{length};
 ghost use mathlib.Core.List.{[], _∷_};
 ghost use mathlib.Core.Option.{none, some};
@@ -10,15 +10,22 @@ ghost use Rattle.lent_keys.specs.KeyRecords.{optionOf};
 ghost use Rattle.lent_values.specs.Cells.{valueAt};
 ghost use Rattle.lent_sets.specs.Rows.{setAt};
 ghost use Rattle.base_sets.specs.Members.{valuesOf};
-ghost use Rattle.def_image.specs.Listing.{ascii, decimal, newline, line, row, place, mutationReason, undefinedIdentifier, valueLine, setLine, orAbsent};
-ghost use Rattle.image_listing.specs.Texts.{cursor, putAll, column, columns, headLine, listedLines, valueLines, setLines, lentListing, lentRefusal};
+ghost use Rattle.def_image.specs.Listing.{ascii, line, row, place, undefinedIdentifier, valueLine, setLine, orAbsent};
+ghost use Rattle.image_text.specs.Texts.{cursor, putAll, columns, headLine, listedLines, valueLines, setLines, lentListing, lentRefusal};
 ghost use Rattle.lent_slices.specs.Lent.{old, new};
 use def_effects::AliasingDiagnostic;
 use def_effects::Place;
 use def_kinds::AbstractValue;
 use def_kinds::ValueKind;
+use image_text::mutation_reason;
+use image_text::put_absent;
+use image_text::put_byte;
+use image_text::put_column;
+use image_text::put_newline;
+use image_text::put_number;
+use image_text::undefined_identifier;
+use lent_effect_read::effect_in;
 use lent_effects::AliasingEffect;
-use lent_effects::effect_in;
 use lent_effects::kind_word;
 use lent_keys::Found;
 use lent_sets::is_defined;
@@ -35,74 +42,6 @@ const OUTPUT: Table = Table {
     count: 1120,
     width: 98,
 };
-
-// One byte is written, and the place moves on; past the end nothing changes.
-// Every byte of a listing goes through it.
-fn put_byte(buffer: &mut [u8], at: usize, x: u8) -> usize
-    ensures { λ r. ⌜ cursor r (new buffer) ≡ putAll (x ∷ []) (cursor at (old buffer)) ⌝ }
-{
-    if at < buffer.len() {
-        buffer[at] = x;
-        return at + 1;
-    }
-    at
-}
-
-// The ASCII code of a number's last digit.
-// 48 is that of 0.
-fn last_digit(n: u32) -> u8
-    ensures { λ r. ⌜ r ≡ 48 + n % 10 ⌝ }
-{
-    48 + (n % 10) as u8
-}
-
-// A number in decimal digits, the highest first.
-// Those of its tenth come before its last one.
-fn put_decimal(buffer: &mut [u8], at: usize, n: u32) -> usize
-    ensures { λ r. ⌜ cursor r (new buffer) ≡ putAll (decimal n) (cursor at (old buffer)) ⌝ }
-{
-    if n < 10 {
-        return put_byte(buffer, at, last_digit(n));
-    }
-    let next = put_decimal(buffer, at, n / 10);
-    put_byte(buffer, next, last_digit(n))
-}
-
-// A blank and a number.
-// The columns of a line are parted by blanks.
-fn put_number(buffer: &mut [u8], at: usize, n: u32) -> usize
-    ensures { λ r. ⌜ cursor r (new buffer) ≡ putAll (column (some n)) (cursor at (old buffer)) ⌝ }
-{
-    let next = put_byte(buffer, at, 32);
-    put_decimal(buffer, next, n)
-}
-
-// A blank and a dash.
-// "Absent is `-`."
-fn put_absent(buffer: &mut [u8], at: usize) -> usize
-    ensures { λ r. ⌜ cursor r (new buffer) ≡ putAll (column none) (cursor at (old buffer)) ⌝ }
-{
-    let next = put_byte(buffer, at, 32);
-    put_byte(buffer, next, 45)
-}
-
-// A blank and a number that may be absent.
-// A column of an effect's line.
-fn put_column(buffer: &mut [u8], at: usize, x: Found) -> usize
-    ensures { λ r. ⌜ cursor r (new buffer) ≡ putAll (column (optionOf x)) (cursor at (old buffer)) ⌝ }
-{
-    match x {
-        Found::Nowhere => put_absent(buffer, at),
-        Found::At(n) => put_number(buffer, at, n),
-    }
-}
-
-// The end of a line.
-fn put_newline(buffer: &mut [u8], at: usize) -> usize
-    ensures { λ r. ⌜ cursor r (new buffer) ≡ putAll (newline ∷ []) (cursor at (old buffer)) ⌝ }
-{
-    put_byte(buffer, at, 10)
-}
 
 // The first line of a listing.
 // "OK: effects, walk entries."
@@ -147,17 +86,6 @@ fn put_row(
     let f = put_column(buffer, d, reason);
     let g = put_column(buffer, f, last);
     put_newline(buffer, g)
-}
-
-// How a mutation reason is shown.
-// "A mutation reason stands under reason by its code, none as `-`."
-fn mutation_reason(r: u32) -> Found
-    ensures { λ f. ⌜ optionOf f ≡ mutationReason r ⌝ }
-{
-    if r == 0 {
-        return Found::Nowhere;
-    }
-    Found::At(r)
 }
 
 // The line of an effect of two places.
@@ -432,16 +360,6 @@ fn set_lines(buffer: &mut [u8], at: usize, sets: &[u64]) -> usize
 }
 
 // ---- the whole
-
-// The identifier of an access: "0, or 1 + identifier".
-fn undefined_identifier(access: u32) -> Found
-    ensures { λ f. ⌜ optionOf f ≡ undefinedIdentifier access ⌝ }
-{
-    if access == 0 {
-        return Found::Nowhere;
-    }
-    Found::At(access - 1)
-}
 
 // The last line of a listing.
 // "U: first undefined identifier."

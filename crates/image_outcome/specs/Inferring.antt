@@ -12,10 +12,10 @@ use Rattle.lent_context.specs.Layout as Layout
 use Rattle.def_image.specs.Layout.{Image, wordsOf}
 use Rattle.def_image.specs.Refusals.{refusalOf}
 use Rattle.def_image.specs.Listing.{refusalLine}
-use Rattle.image_read.specs.declared.Job.{Job}
-use Rattle.image_read.specs.Reading.{Tables, tables, jobOf, filled, lentWrong}
+use Rattle.image_job.specs.declared.Job.{Job}
+use Rattle.image_job.specs.Reading.{Tables, tables, jobOf, filled, lentWrong}
 use Rattle.call_outcome.specs.Calls.{Call, Outcome, call, outcome}
-use Rattle.image_listing.specs.Texts.{Cursor, putAll, lentListing}
+use Rattle.image_text.specs.Texts.{Cursor, putAll, lentListing}
 
 -- tables at their full size, and nothing in them
 -- 1,024 values, 512 rows of 16 words, a context, 64 records of 98 words

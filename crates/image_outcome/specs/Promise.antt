@@ -5,7 +5,7 @@ use mathlib.Core.List.{List}
 use lib.ListN.{length, getD}
 use Rattle.lent_slices.specs.Lent.{Lent, old, new}
 use Rattle.def_image.specs.Infer.{infer}
-use Rattle.image_listing.specs.Texts.{cursor}
+use Rattle.image_text.specs.Texts.{cursor}
 use Rattle.image_outcome.specs.Inferring.{inferred, written, Writes}
 
 -- a text is written from the beginning of the buffer on, and the call answers where it ends

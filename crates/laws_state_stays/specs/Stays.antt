@@ -1,6 +1,6 @@
 -- What a call on a state leaves is accepted. Assumes nothing: these are definitions.
 use mathlib.Core.Path.{_≡_}
-use Rattle.refuse_state.specs.Words.{stateRefusal}
+use Rattle.refuse_entries.specs.Words.{stateRefusal}
 use Rattle.state_calls.specs.Calls.{Outcome}
 
 -- what a call leaves is accepted

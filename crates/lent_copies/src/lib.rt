@@ -33,6 +33,15 @@ pub fn clear64(xs: &mut [u64])
     }
 }
 
+// All that is lent as scratch becomes zero.
+// "Scratch is zero after each call."
+pub fn clear_scratch(scratch64: &mut [u64], scratch32: &mut [u32])
+    ensures { λ _. ⌜ Cleared scratch64 × Cleared scratch32 ⌝ }
+{
+    clear64(scratch64);
+    clear32(scratch32);
+}
+
 // n words from `start` on are copied to another slice, from `at` on.
 // What lies past either end is read as 0 and not written.
 pub fn copy32(from: &[u32], start: u32, to: &mut [u32], at: u32, n: u32)

@@ -2,19 +2,14 @@
 ghost use mathlib.Core.Path.{_≡_};
 ghost use mathlib.Core.List.{List, []};
 ghost use Prim.Native.Nat.{ℕ, _+_, _*_};
-ghost use Rattle.def_effects.specs.declared.Place.{Place as APlace};
-ghost use Rattle.def_effects.specs.Keys.{one, two, effectKey, eqKey, eqOption, eqList};
+ghost use Rattle.def_effects.specs.Keys.{eqOption, eqList};
 ghost use Rattle.def_effects.specs.Places.{identifiers};
 ghost use Rattle.base_tests.specs.Tests.{ite};
 ghost use Rattle.lent_tables.specs.Words as Words;
 ghost use Rattle.def_transfer.specs.Pure.{isKey};
-ghost use Rattle.lent_effects.specs.Records.{effectWith, effectIn, capturesOf, oneRun};
+ghost use Rattle.lent_effects.specs.Records.{capturesOf, oneRun};
 ghost use Rattle.lent_keys.specs.KeyRecords.{isOther, optionOf, keyWith, sameHead, numbersIn, putNumbers, optionIn, putOption, keyHeadIn, keyIn, putHead, putKey};
 ghost use Rattle.lent_slices.specs.Lent.{old, new};
-use def_effects::Place;
-use lent_effects::AliasingEffect;
-use lent_effects::effect_in;
-use lent_effects::kind_word;
 use lent_slices::wide32;
 use lent_tables::Table;
 use lent_tables::field;
@@ -47,84 +42,6 @@ const ONE_RUN: Table = Table {
     count: 1,
     width: 81,
 };
-
-// The key of an effect with one place that is no destination.
-// Reason and identity are 0 where the key has none.
-fn one_key(code: u32, p: Place, reason: u32, identity: u32) -> Key
-    ensures { λ r. ⌜ ((is : List ℕ) → keyWith r is ≡ one code p reason identity) ⌝ }
-{
-    Key {
-        code,
-        from: Found::At(p.identifier),
-        into: Found::Nowhere,
-        kind: 0,
-        reason,
-        function: Found::Nowhere,
-        identity,
-        captured: false,
-    }
-}
-
-// The key of an effect with a source and a destination.
-// The synthetic keys of Assign have this shape too.
-pub fn two_key(code: u32, from: Place, into: Place) -> Key
-    ensures { λ r. ⌜ ((is : List ℕ) → keyWith r is ≡ two code from into) ⌝ }
-{
-    Key {
-        code,
-        from: Found::At(from.identifier),
-        into: Found::At(into.identifier),
-        kind: 0,
-        reason: 0,
-        function: Found::Nowhere,
-        identity: 0,
-        captured: false,
-    }
-}
-
-// The key of an effect, without the identifiers of its captures.
-// Not in the key: Mutate's reason, and the diagnostic of Impure.
-pub fn key_of(e: AliasingEffect) -> Key
-    ensures { λ r. ⌜ ((cs : List APlace) → keyWith r (identifiers cs) ≡ effectKey (effectWith e cs)) ⌝ }
-{
-    match e {
-        AliasingEffect::Freeze { place, reason } => one_key(0, place, reason, 0),
-        AliasingEffect::Mutate { place, reason: _ } => one_key(1, place, 0, 0),
-        AliasingEffect::MutateConditionally { place } => one_key(2, place, 0, 0),
-        AliasingEffect::MutateTransitive { place } => one_key(3, place, 0, 0),
-        AliasingEffect::MutateTransitiveConditionally { place } => one_key(4, place, 0, 0),
-        AliasingEffect::Capture { from, into } => two_key(5, from, into),
-        AliasingEffect::Alias { from, into } => two_key(6, from, into),
-        AliasingEffect::MaybeAlias { from, into } => two_key(7, from, into),
-        AliasingEffect::Assign { from, into } => two_key(8, from, into),
-        AliasingEffect::Create { into, kind, reason } => Key {
-            code: 9,
-            from: Found::Nowhere,
-            into: Found::At(into.identifier),
-            kind: kind_word(kind),
-            reason,
-            function: Found::Nowhere,
-            identity: 0,
-            captured: false,
-        },
-        AliasingEffect::CreateFrom { from, into } => two_key(10, from, into),
-        AliasingEffect::ImmutableCapture { from, into } => two_key(11, from, into),
-        AliasingEffect::CreateFunction { function, into } => Key {
-            code: 13,
-            from: Found::Nowhere,
-            into: Found::At(into.identifier),
-            kind: 0,
-            reason: 0,
-            function: Found::At(function),
-            identity: 0,
-            captured: true,
-        },
-        AliasingEffect::MutateFrozen { place, error } => one_key(14, place, 0, error.identity),
-        AliasingEffect::MutateGlobal { place, error } => one_key(15, place, 0, error.identity),
-        AliasingEffect::Impure { place, error: _ } => one_key(16, place, 0, 0),
-        AliasingEffect::Render { place } => one_key(17, place, 0, 0),
-    }
-}
 
 // Whether two numbers that may be absent are equal.
 fn same_option(a: Found, b: Found) -> bool
@@ -215,7 +132,7 @@ pub fn same_head(a: Key, b: Key) -> bool
 
 // How many captures a key has, of those that stand beside it.
 // A key without captures takes none of them.
-fn taken(has: bool, n: u32) -> u32
+pub fn taken(has: bool, n: u32) -> u32
     ensures { λ r. ⌜ r ≡ ite has n 0 ⌝ }
 {
     if has {
@@ -233,31 +150,6 @@ pub fn is_other(o: Found, x: u32) -> bool
         Found::Nowhere => false,
         Found::At(y) => y != x,
     }
-}
-
-// Whether the effect of record i has a key; the key's captures stand beside it, the record's in the record.
-// This is the comparison of `intern_effect`. Most keys differ in a place, so two words are looked at before the whole record is read.
-pub fn effect_has_key(t: Table, xs: &[u32], i: usize, key: Key, captures: &[u32]) -> bool
-    ensures { λ r. ⌜
-        r
-        ≡ eqKey (keyWith key (identifiers (capturesOf (old captures))))
-        (effectKey (effectIn t (old xs) i)) ⌝ }
-{
-    let into = key.into;
-    if is_other(into, field(t, xs, i, 6)) {
-        return false;
-    }
-    let from = key.from;
-    if is_other(from, field(t, xs, i, 1)) {
-        return false;
-    }
-    let other = key_of(effect_in(t, xs, i));
-    if !same_head(key, other) {
-        return false;
-    }
-    let n = taken(key.captured, field(ONE_RUN, captures, 0, 0));
-    let m = taken(other.captured, field(t, xs, i, 17));
-    same_numbers(ONE_RUN, captures, 0, 1, 5, n, t, xs, i, 18, 5, m)
 }
 
 // ---- a key as a record of 28 words

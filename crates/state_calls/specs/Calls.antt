@@ -27,7 +27,7 @@ use Rattle.def_transfer.specs.Step as Step
 use Rattle.lent_sets.specs.Rows.{setAt}
 use Rattle.base_sets.specs.Members.{valuesOf}
 use Rattle.state_ops.specs.OnLists.{onLists, lists}
-use Rattle.refuse_state.specs.Words.{stateRefusal, identifiers}
+use Rattle.refuse_entries.specs.Words.{stateRefusal, identifiers}
 use Rattle.state_calls.specs.declared.KindAnswer.{KindAnswer}
 use Rattle.state_calls.specs.declared.TestAnswer.{TestAnswer}
 use Rattle.state_calls.specs.declared.MutationAnswer.{MutationAnswer}

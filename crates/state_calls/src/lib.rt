@@ -3,7 +3,7 @@
 ghost use mathlib.Core.Path.{_≡_};
 ghost use mathlib.Core.Bool.{_||_};
 ghost use Rattle.def_transfer.specs.Accepted.{notANumber};
-ghost use Rattle.refuse_state.specs.Words.{identifiers};
+ghost use Rattle.refuse_entries.specs.Words.{identifiers};
 ghost use Rattle.state_calls.specs.Calls.{worst, refusalOf, outside, refusal1, refusal2};
 ghost use Rattle.lent_slices.specs.Lent.{old};
 use def_effects::MutationResult;

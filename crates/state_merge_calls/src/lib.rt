@@ -6,7 +6,7 @@ ghost use Rattle.refuse_class.specs.Class.{lower};
 ghost use Rattle.state_merge_calls.specs.MergeCalls.{wrongLength, pairRefusal, thirdRefusal, mergedFlag, mergeAnswer, sessionAnswer};
 ghost use Rattle.lent_slices.specs.Lent.{old, new};
 ghost use Rattle.state_merge_calls.specs.Promise.{mergeOf, mergeFromOf};
-ghost use Rattle.refuse_state.specs.Words.{entries};
+ghost use Rattle.refuse_entries.specs.Words.{entries};
 ghost use Rattle.state_merge_calls.specs.Plain.{AbovePlain, MergesPlain, MergesFromPlain};
 use def_effects::Session;
 use def_effects::Span;
@@ -89,7 +89,7 @@ pub fn is_above(
             answer: false,
         };
     }
-    let answer = state_merge::is_above(values1, sets1, values2, sets2);
+    let answer = state_adds::is_above(values1, sets1, values2, sets2);
     TestAnswer { refusal, answer }
 }
 

@@ -5,7 +5,7 @@ ghost use mathlib.Core.Bool.{false};
 ghost use lib.ListN.{length, take, replicate};
 ghost use Rattle.lent_sets.specs.Rows.{setAt};
 ghost use Rattle.base_sets.specs.Members.{valuesOf};
-ghost use Rattle.refuse_state.specs.Words.{stateRefusal};
+ghost use Rattle.refuse_entries.specs.Words.{stateRefusal};
 ghost use Rattle.def_transfer.specs.State as State;
 ghost use Rattle.state_calls.specs.Calls as Calls;
 ghost use Rattle.state_calls.specs.Calls.{testAnswer, written, valuesRefusal, valuesAnswer, valuesListed};

@@ -11,7 +11,7 @@ ghost use Rattle.lent_slices.specs.Lent.{old, new};
 use def_effects::Session;
 use lent_sets;
 use lent_slices::get32;
-use refuse_state::number_too_new;
+use refuse_entries::number_too_new;
 use state_calls::either;
 use state_calls::no_number;
 use state_calls::outside;
@@ -35,7 +35,7 @@ pub fn define(values: &[u64], sets: &mut [u64], session: Session, i: u32, v: u32
     if refusal != 0 {
         return refusal;
     }
-    lent_sets::define(sets, i, v);
+    lent_set_writes::define(sets, i, v);
     refusal
 }
 
@@ -76,7 +76,7 @@ pub fn append_alias(
     if refusal != 0 {
         return refusal;
     }
-    lent_sets::append_set(sets, place, value);
+    lent_set_writes::append_set(sets, place, value);
     refusal
 }
 

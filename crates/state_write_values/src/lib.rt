@@ -13,7 +13,7 @@ use def_kinds::are_reasons;
 use def_kinds::is_reason;
 use lent_slices::wide32;
 use lent_values::put_value;
-use refuse_state::number_too_new;
+use refuse_entries::number_too_new;
 use state_calls::TestAnswer;
 use state_calls::either;
 use state_calls::no_number;

@@ -106,7 +106,7 @@ fn undefined() {
 fn empty_set() {
     let values = [0u64; 1024];
     let mut sets = [0u64; 8192];
-    lent_sets::put_set(&mut sets, 7, &[0u64; 16]);
+    lent_set_writes::put_set(&mut sets, 7, &[0u64; 16]);
     say_kind(6, state_read_kinds::kind(&values, &sets, session(), 7));
 }
 

@@ -122,9 +122,9 @@ fn load_pair(bytes: &[u8], at: &mut [u32], sets: &mut [u64]) {
     let i = take(bytes, at);
     let v = take(bytes, at);
     let mut acc = [0u64; 16];
-    lent_sets::add_set(&mut acc, sets, i);
+    lent_set_writes::add_set(&mut acc, sets, i);
     lent_sets::add_value(&mut acc, v);
-    lent_sets::put_set(sets, i, &acc);
+    lent_set_writes::put_set(sets, i, &acc);
 }
 
 // Some pairs.

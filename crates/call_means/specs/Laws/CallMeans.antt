@@ -20,9 +20,9 @@ use Rattle.lent_context.specs.Layout as Layout
 use Rattle.lent_context.specs.Lent as Lent
 use Rattle.lent_context.specs.Lent.{effectsIn}
 use Rattle.lent_world.specs.World.{lent, output}
-use Rattle.refuse_state.specs.Words.{identifiers}
-use Rattle.refuse_state.specs.Laws.Accepted.{accepted-lent}
-use Rattle.call_run.specs.Instructions.{instructionOf}
+use Rattle.refuse_entries.specs.Words.{identifiers}
+use Rattle.refuse_entries.specs.Laws.Accepted.{accepted-lent}
+use Rattle.call_parts.specs.Instructions.{instructionOf}
 use Rattle.laws_counts.specs.Laws.Grows.{after}
 use Rattle.laws_counts.specs.Laws.Steps.{mutated}
 use Rattle.laws_counts.specs.Laws.Counts.{Fits, listed-most, entries-most, append-length}

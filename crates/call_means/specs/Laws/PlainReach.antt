@@ -8,8 +8,8 @@ use Rattle.def_faithful.specs.Laws.Reach.{reach-means}
 use Rattle.lent_world.specs.World.{lent}
 use Rattle.lent_context.specs.Abstract.{abstract}
 use Rattle.lent_world.specs.Laws.LentFaithful.{lent-faithful}
-use Rattle.refuse_state.specs.Words.{identifiers}
-use Rattle.refuse_state.specs.Laws.Accepted.{accepted-lent}
+use Rattle.refuse_entries.specs.Words.{identifiers}
+use Rattle.refuse_entries.specs.Laws.Accepted.{accepted-lent}
 use Rattle.call_outcome.specs.Calls.{Call, callClass, lentInstruction}
 use Rattle.call_outcome.specs.Isolation.{stateOf, reach}
 use Rattle.call_means.specs.Meaning.{plainWorld}

@@ -17,7 +17,7 @@ use Rattle.laws_monad.specs.Laws.Answers.{answer-ok, answer-refused}
 use Rattle.lent_work.specs.declared.Run.{Run}
 use Rattle.lent_world.specs.World.{lent, world}
 use Rattle.lent_world.specs.Laws.LentLawful.{LentEnded, after, lent-ends}
-use Rattle.call_run.specs.Instructions.{instructionOf}
+use Rattle.call_parts.specs.Instructions.{instructionOf}
 use Rattle.call_undo.specs.Saves.{savedState, savedContext, restoredContext}
 use Rattle.call_undo.specs.Laws.Save.{values-restored, sets-restored, context-restored}
 use Rattle.call_outcome.specs.Calls.{candidateCount, startRun}

@@ -18,8 +18,8 @@ use Rattle.def_effects.specs.declared.Session.{Session}
 use Rattle.lent_tables.specs.Words.{index}
 use Rattle.lent_context.specs.Layout as Layout
 use Rattle.lent_context.specs.Lent.{internedCount}
-use Rattle.refuse_state.specs.Words.{identifiers, wrongLengths, stateRefusal}
-use Rattle.refuse_state.specs.Laws.State.{lengths-fit, refused-1}
+use Rattle.refuse_entries.specs.Words.{identifiers, wrongLengths, stateRefusal}
+use Rattle.refuse_entries.specs.Laws.State.{lengths-fit, refused-1}
 use Rattle.refuse_class.specs.Class.{lower}
 use Rattle.refuse_class.specs.Laws.Class.{lower-none, lower-alone, lower-first, lower-0}
 use Rattle.refuse_words.specs.Classes.{lowestBelow, earns, wordClass, strayFrom, strayAfter}

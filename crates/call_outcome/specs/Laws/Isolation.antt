@@ -17,8 +17,8 @@ use Rattle.def_transfer.specs.Reach as Reach
 use Rattle.lent_context.specs.Layout as Layout
 use Rattle.lent_world.specs.World.{lent}
 use Rattle.lent_world.specs.Laws.LentLawful.{Sized, lent-isolation}
-use Rattle.refuse_state.specs.Words.{identifiers}
-use Rattle.refuse_state.specs.Laws.Accepted.{accepted-lent}
+use Rattle.refuse_entries.specs.Words.{identifiers}
+use Rattle.refuse_entries.specs.Laws.Accepted.{accepted-lent}
 use Rattle.refuse_class.specs.Class.{lower}
 use Rattle.refuse_words.specs.Classes.{earns}
 use Rattle.refuse_instruction.specs.EffectClasses.{instructionClass}
@@ -95,7 +95,7 @@ module _ (c d : Call) (t : Twins c d) where
       (lent-isolation (length (c .sets) / 16) (lentInstruction c) (lentWorld c) (lentWorld d) fits fits′ (t .session) (t .context) (t .agree)))
     where
       same : lentInstruction c ≡ lentInstruction d
-      same = λ j. Rattle.call_run.specs.Instructions.instructionOf (t .candidates j) (candidateCount (t .candidates j)) (t .lvalue j) (t .own j)
+      same = λ j. Rattle.call_parts.specs.Instructions.instructionOf (t .candidates j) (candidateCount (t .candidates j)) (t .lvalue j) (t .own j)
 
       long : length (c .context) ≡ 235973
       long = lengths-right (length (c .sets)) (length (c .context)) (length (c .candidates)) (length (c .output)) (length (c .scratch64)) (length (c .scratch32))

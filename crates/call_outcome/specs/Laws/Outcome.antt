@@ -26,9 +26,9 @@ use Rattle.lent_work.specs.declared.Run.{Run}
 use Rattle.lent_context.specs.Layout as Layout
 use Rattle.lent_world.specs.World.{lent, world}
 use Rattle.lent_world.specs.Laws.LentLawful.{after}
-use Rattle.refuse_state.specs.Words.{identifiers}
-use Rattle.refuse_state.specs.Laws.Accepted.{accepted-lent}
-use Rattle.call_run.specs.Instructions.{instructionOf}
+use Rattle.refuse_entries.specs.Words.{identifiers}
+use Rattle.refuse_entries.specs.Laws.Accepted.{accepted-lent}
+use Rattle.call_parts.specs.Instructions.{instructionOf}
 use Rattle.call_outcome.specs.Calls.{Call, Outcome, call, given, candidateCount, callClass, lentInstruction, startRun, lentWorld, refusedWith, concluded, outcome}
 use Rattle.call_outcome.specs.Attempts.{Ready}
 use Rattle.call_outcome.specs.Laws.Class.{lengths-right, class-0, zero-after}

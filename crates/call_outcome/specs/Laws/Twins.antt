@@ -3,7 +3,7 @@ use mathlib.Core.Path.{_≡_, sym, subst}
 use Rattle.def_transfer.specs.Reach.{Node, Reach}
 use Rattle.def_transfer.specs.Laws.Isolation.{reach-same}
 use Rattle.lent_world.specs.World.{lent}
-use Rattle.call_run.specs.Instructions.{instructionOf}
+use Rattle.call_parts.specs.Instructions.{instructionOf}
 use Rattle.call_outcome.specs.Calls.{Call, candidateCount, lentInstruction}
 use Rattle.call_outcome.specs.Isolation.{stateOf, reach, Twins}
 

@@ -1,6 +1,6 @@
 -- `call_run::run_instruction` meets its contract: one law for each of its three ways. Assumes nothing.
 use mathlib.Core.Path.{_∙_}
-use Rattle.call_run.specs.Laws.Instruction.{run-early, run-stops, run-ends}
+use Rattle.call_parts.specs.Laws.Instruction.{run-early, run-stops, run-ends}
 use borrow.Author.Needs.{needs}
 use Rattle.call_run.proofs.run_instruction.Statement.{statement}
 use Rattle.call_run.proofs.run_instruction.Tie as tie

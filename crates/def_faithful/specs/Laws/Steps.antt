@@ -21,7 +21,8 @@ use Rattle.def_transfer.specs.Context.{functionContext}
 use Rattle.def_transfer.specs.Step.{flowing, reportModified, reportHoisted, report, mutating, freezing, creating, capturingImmutably, listCreated, creatingFrom, assigning, creatingFunction, act, applyEffect}
 use Rattle.def_transfer.specs.Instruction.{Instruction, reportEarly, earlyError, earlyErrors, defineLvalue, startInstruction, run, applySignature}
 use Rattle.def_transfer.specs.Pure.{pure}
-use Rattle.def_faithful.specs.Ranges.{Number, Short, own-number, fresh-number, none-reasoned}
+use Rattle.def_faithful.specs.Ranges.{Number, Short}
+use Rattle.def_faithful.specs.Laws.Ranges.{own-number, fresh-number, none-reasoned}
 use Rattle.def_faithful.specs.Faithful.{Faithful}
 use Rattle.def_faithful.specs.Laws.Means.{Any, Begins, Rel, Means, bind-means, then-means, bind-any, bind-fresh, bind-set, bind-value, done-means, refuse-means, if-means, each-any, each-place, each-all, atomically-means, setOf-means, peek-means, ask-means, change-means}
 use Rattle.def_faithful.specs.Laws.Touching.{parts, read-tracked, read-inside, read-transitive, read-name, freeze-means, walk-means, internDiagnostic-means, anyRef-means, functionContext-means, linkTo-means, emit-means, begin-means, numberFor-means, intern-means, create-means, anyWritten-means, updateContext-means}

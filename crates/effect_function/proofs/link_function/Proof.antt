@@ -1,6 +1,6 @@
 -- `effect_function::link_function` meets its contract: one law for each of its two ways. Assumes nothing.
 use mathlib.Core.Path.{_∙_}
-use Rattle.effect_function.specs.Laws.NewFunction.{linked-full, linked-done}
+use Rattle.effect_captures.specs.Laws.NewFunction.{linked-full, linked-done}
 use borrow.Author.Needs.{needs}
 use Rattle.effect_function.proofs.link_function.Statement.{statement}
 use Rattle.effect_function.proofs.link_function.Tie as tie

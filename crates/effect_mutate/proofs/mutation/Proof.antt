@@ -1,4 +1,4 @@
-use Rattle.effect_mutate.specs.Laws.Mutation.{mutation-ref, mutation-goes}
+use Rattle.effect_reports.specs.Laws.Mutation.{mutation-ref, mutation-goes}
 use borrow.Author.Needs.{needs}
 use Rattle.effect_mutate.proofs.mutation.Statement.{statement}
 use Rattle.effect_mutate.proofs.mutation.Tie as tie

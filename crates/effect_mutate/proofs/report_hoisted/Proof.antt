@@ -1,4 +1,4 @@
-use Rattle.effect_mutate.specs.Laws.Mutation.{hoisted-refused, hoisted-goes}
+use Rattle.effect_reports.specs.Laws.Mutation.{hoisted-refused, hoisted-goes}
 use borrow.Author.Needs.{needs}
 use Rattle.effect_mutate.proofs.report_hoisted.Statement.{statement}
 use Rattle.effect_mutate.proofs.report_hoisted.Tie as tie

@@ -1,4 +1,4 @@
-use Rattle.effect_mutate.specs.Laws.Mutation.{modified-refused, modified-frozen, modified-global}
+use Rattle.effect_reports.specs.Laws.Mutation.{modified-refused, modified-frozen, modified-global}
 use borrow.Author.Needs.{needs}
 use Rattle.effect_mutate.proofs.report_modified.Statement.{statement}
 use Rattle.effect_mutate.proofs.report_modified.Tie as tie

@@ -1,4 +1,4 @@
-use Rattle.effect_mutate.specs.Laws.Mutation.{result-none, result-ref, result-mutate, result-global, result-hoisted, result-frozen}
+use Rattle.effect_reports.specs.Laws.Mutation.{result-none, result-ref, result-mutate, result-global, result-hoisted, result-frozen}
 use borrow.Author.Needs.{needs}
 use Rattle.effect_mutate.proofs.report_result.Statement.{statement}
 use Rattle.effect_mutate.proofs.report_result.Tie as tie

@@ -2,8 +2,8 @@ use mathlib.Core.Path.{_≡_, refl, ap, _∙_}
 use Prim.Native.Nat.{_-_}
 use lib.ListN.{length}
 use borrow.Author.Needs.{needs}
-use Rattle.image_listing.specs.Laws.Loops.{effects-step, effects-end}
-use Rattle.image_listing.specs.Texts.{cursor, putAll}
+use Rattle.image_text.specs.Laws.Loops.{effects-step, effects-end}
+use Rattle.image_text.specs.Texts.{cursor, putAll}
 use Rattle.def_image.specs.Listing.{effectLines}
 use Rattle.lent_context.specs.Lent.{effectsIn}
 use Rattle.lent_world.specs.World as World

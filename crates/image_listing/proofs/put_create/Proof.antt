@@ -1,4 +1,4 @@
-use Rattle.image_listing.specs.Laws.Lines.{create-is}
+use Rattle.image_text.specs.Laws.Lines.{create-is}
 use borrow.Author.Needs.{needs}
 use Rattle.image_listing.proofs.put_create.Statement.{statement}
 use Rattle.image_listing.proofs.put_create.Tie as tie

@@ -1,4 +1,4 @@
-use Rattle.image_listing.specs.Laws.Lines.{head-is}
+use Rattle.image_text.specs.Laws.Lines.{head-is}
 use borrow.Author.Needs.{needs}
 use Rattle.image_listing.proofs.put_head.Statement.{statement}
 use Rattle.image_listing.proofs.put_head.Tie as tie

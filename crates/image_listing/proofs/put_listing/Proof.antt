@@ -1,7 +1,7 @@
 use native.Mathlib.Omega.{arith}
 use Prim.Native.Nat.{_-_}
-use Rattle.image_listing.specs.Laws.Loops.{listing-is}
-use Rattle.image_listing.specs.Laws.Suffices.{listing-suffices}
+use Rattle.image_text.specs.Laws.Loops.{listing-is}
+use Rattle.image_text.specs.Laws.Suffices.{listing-suffices}
 use borrow.Author.Needs.{needs}
 use Rattle.image_listing.proofs.put_listing.Statement.{statement}
 use Rattle.image_listing.proofs.put_listing.Tie as tie

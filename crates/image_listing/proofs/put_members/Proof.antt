@@ -3,8 +3,8 @@ use mathlib.Core.Path.{_≡_, refl, sym, _∙_}
 use Prim.Native.Nat.{_-_}
 use lib.ListN.{length}
 use borrow.Author.Needs.{needs}
-use Rattle.image_listing.specs.Laws.Loops.{members-none, members-empty, members-start, members-step, members-end}
-use Rattle.image_listing.specs.Texts.{cursor, putAll, columns}
+use Rattle.image_text.specs.Laws.Loops.{members-none, members-empty, members-start, members-step, members-end}
+use Rattle.image_text.specs.Texts.{cursor, putAll, columns}
 use Rattle.def_image.specs.Listing.{orAbsent}
 use mathlib.Core.List.{map}
 use mathlib.Core.Option.{some}

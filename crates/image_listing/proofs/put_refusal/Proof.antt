@@ -1,6 +1,6 @@
-use Rattle.image_listing.specs.Laws.Suffices.{refusal-suffices}
+use Rattle.image_text.specs.Laws.Suffices.{refusal-suffices}
 use native.Mathlib.Omega.{arith}
-use Rattle.image_listing.specs.Laws.Lines.{refusal-is}
+use Rattle.image_text.specs.Laws.Lines.{refusal-is}
 use borrow.Author.Needs.{needs}
 use Rattle.image_listing.proofs.put_refusal.Statement.{statement}
 use Rattle.image_listing.proofs.put_refusal.Tie as tie

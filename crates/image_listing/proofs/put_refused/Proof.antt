@@ -1,4 +1,4 @@
-use Rattle.image_listing.specs.Laws.Lines.{refused-is}
+use Rattle.image_text.specs.Laws.Lines.{refused-is}
 use borrow.Author.Needs.{needs}
 use Rattle.image_listing.proofs.put_refused.Statement.{statement}
 use Rattle.image_listing.proofs.put_refused.Tie as tie

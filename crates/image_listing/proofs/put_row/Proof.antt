@@ -1,4 +1,4 @@
-use Rattle.image_listing.specs.Laws.Lines.{row-is}
+use Rattle.image_text.specs.Laws.Lines.{row-is}
 use borrow.Author.Needs.{needs}
 use Rattle.image_listing.proofs.put_row.Statement.{statement}
 use Rattle.image_listing.proofs.put_row.Tie as tie

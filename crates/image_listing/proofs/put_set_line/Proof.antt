@@ -1,7 +1,7 @@
 use mathlib.Core.Path.{sym, _∙_}
 use Prim.Native.Nat.{_-_}
 use borrow.Author.Needs.{needs}
-use Rattle.image_listing.specs.Laws.Loops.{set-absent, set-is}
+use Rattle.image_text.specs.Laws.Loops.{set-absent, set-is}
 use Rattle.base_tests.specs.Laws.Bool.{not-true, not-false}
 use Rattle.image_listing.proofs.put_set_line.Statement.{statement}
 use Rattle.image_listing.proofs.put_set_line.Tie as tie

@@ -1,4 +1,4 @@
-use Rattle.image_listing.specs.Laws.Lines.{undefined-is}
+use Rattle.image_text.specs.Laws.Lines.{undefined-is}
 use borrow.Author.Needs.{needs}
 use Rattle.image_listing.proofs.put_undefined.Statement.{statement}
 use Rattle.image_listing.proofs.put_undefined.Tie as tie

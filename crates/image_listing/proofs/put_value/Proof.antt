@@ -1,4 +1,4 @@
-use Rattle.image_listing.specs.Laws.Lines.{value-is}
+use Rattle.image_text.specs.Laws.Lines.{value-is}
 use borrow.Author.Needs.{needs}
 use Rattle.image_listing.proofs.put_value.Statement.{statement}
 use Rattle.image_listing.proofs.put_value.Tie as tie

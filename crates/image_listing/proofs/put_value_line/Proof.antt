@@ -1,6 +1,6 @@
 use mathlib.Core.Path.{ap, _∙_}
 use Rattle.lent_values.specs.Cells.{valueAt}
-use Rattle.image_listing.specs.Laws.Lines.{value-absent, value-present}
+use Rattle.image_text.specs.Laws.Lines.{value-absent, value-present}
 use borrow.Author.Needs.{needs}
 use Rattle.image_listing.proofs.put_value_line.Statement.{statement}
 use Rattle.image_listing.proofs.put_value_line.Tie as tie

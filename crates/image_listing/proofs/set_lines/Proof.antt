@@ -2,8 +2,8 @@ use mathlib.Core.Path.{_≡_, refl, _∙_}
 use Prim.Native.Nat.{_-_}
 use lib.ListN.{length}
 use borrow.Author.Needs.{needs}
-use Rattle.image_listing.specs.Laws.Loops.{lines-step, lines-end}
-use Rattle.image_listing.specs.Texts.{cursor, putAll, setLines}
+use Rattle.image_text.specs.Laws.Loops.{lines-step, lines-end}
+use Rattle.image_text.specs.Texts.{cursor, putAll, setLines}
 use Rattle.def_image.specs.Listing.{linesFrom, setLine}
 use Rattle.lent_sets.specs.Rows.{setAt}
 use Rattle.image_listing.proofs.set_lines.Statement.{statement}

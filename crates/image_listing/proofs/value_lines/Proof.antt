@@ -2,8 +2,8 @@ use mathlib.Core.Path.{_≡_, refl, _∙_}
 use Prim.Native.Nat.{_-_}
 use lib.ListN.{length}
 use borrow.Author.Needs.{needs}
-use Rattle.image_listing.specs.Laws.Loops.{lines-step, lines-end}
-use Rattle.image_listing.specs.Texts.{cursor, putAll, valueLines}
+use Rattle.image_text.specs.Laws.Loops.{lines-step, lines-end}
+use Rattle.image_text.specs.Texts.{cursor, putAll, valueLines}
 use Rattle.def_image.specs.Listing.{linesFrom, valueLine}
 use Rattle.lent_values.specs.Cells.{valueAt}
 use Rattle.image_listing.proofs.value_lines.Statement.{statement}

@@ -24,7 +24,7 @@ use Rattle.lent_copies.specs.Laws.Copy.{zeros-length}
 use Rattle.lent_values.specs.Cells.{valueAt}
 use Rattle.lent_sets.specs.Rows.{setAt, number, rowNumber, marked}
 use Rattle.base_tests.specs.Laws.Order.{lt-or-ge}
-use Rattle.refuse_state.specs.Laws.Word.{reasons-lt}
+use Rattle.refuse_entries.specs.Laws.Word.{reasons-lt}
 use Rattle.lent_tables.specs.Words.{index, field, placesIn}
 use Rattle.lent_tables.specs.Laws.Word.{field-cong, within-word}
 use Rattle.lent_effects.specs.Records.{effectIn, putEffect, candidateTable}
@@ -48,16 +48,16 @@ use Rattle.lent_world.specs.Laws.LentFaithful.{lent-faithful}
 use Rattle.laws_image_accepted.specs.Laws.Context.{far-zero, none-interned, none-told, identifiers-after, functions-after}
 use Rattle.image_decode.specs.Laws.ContextBack.{contexts-back, insides-back, flags-back}
 use Rattle.image_decode.specs.Laws.WordsBack.{options-back, identifiers-back}
-use Rattle.refuse_state.specs.Words as Words
+use Rattle.refuse_entries.specs.Words as Words
 use Rattle.lent_keys.specs.KeyRecords.{keyIn, keyHeadIn, numbersIn, optionIn}
 use Rattle.lent_context.specs.Lent as Lent
 use Rattle.base_sets.specs.Members.{union, bitsOf}
 use Rattle.def_image.specs.Infer.{inferWords, infer}
 use Rattle.def_image.specs.Listing.{shownLines, okLines, listing, refusalLine}
 use Rattle.call_outcome.specs.Calls.{Call, callClass, lentInstruction, lentWorld, outcome}
-use Rattle.call_run.specs.Instructions as Instructions
+use Rattle.call_parts.specs.Instructions as Instructions
 use Rattle.image_outcome.specs.Inferring.{imageCall, shown, inferred}
-use Rattle.image_listing.specs.Texts.{lentListing}
+use Rattle.image_text.specs.Texts.{lentListing}
 use Rattle.def_faithful.specs.Ranges.{Entered, Pointing}
 use Rattle.def_faithful.specs.Laws.Means.{Any, Rel}
 use Rattle.def_faithful.specs.Laws.Steps.{Fine, call-means}

@@ -19,7 +19,7 @@ use Rattle.lent_copies.specs.Copies.{zeros}
 use Rattle.def_image.specs.Layout.{Image, wrongLength, wordsOf, countOf, identifiers, candidates, functions}
 use Rattle.def_image.specs.Refusals.{earnsTwo, wrongHeader, wrongEdition, tooManyRecords, refusalOfWords, refusalOf}
 use Rattle.def_image.specs.Listing.{refusalLine}
-use Rattle.image_read.specs.declared.Job.{Job}
+use Rattle.image_job.specs.declared.Job.{Job}
 use Rattle.call_outcome.specs.declared.Applied.{Applied}
 use Rattle.def_effects.specs.declared.Place.{Place}
 use Rattle.def_effects.specs.declared.Session.{Session}
@@ -28,18 +28,18 @@ use Rattle.def_transfer.specs.State.{change}
 use Rattle.def_transfer.specs.Instruction.{startInstruction, applySignature}
 use Rattle.def_transfer.specs.Tables.{World}
 use Rattle.lent_world.specs.World.{lent}
-use Rattle.refuse_state.specs.Words as States
-use Rattle.refuse_state.specs.Words.{stateRefusal}
+use Rattle.refuse_entries.specs.Words as States
+use Rattle.refuse_entries.specs.Words.{stateRefusal}
 use Rattle.refuse_class.specs.Class.{lower}
 use Rattle.refuse_words.specs.Classes.{earns}
 use Rattle.refuse_instruction.specs.EffectClasses.{instructionClass}
 use Rattle.refuse_context.specs.Accepting.{contextClass}
 use Rattle.call_outcome.specs.Calls.{Call, Outcome, call, given, lengthsWrong, candidateCount, callClass, lentInstruction, lentWorld, refusedWith, concluded, outcome}
-use Rattle.image_listing.specs.Texts.{Cursor, cursor, putAll, lentListing, lentRefusal}
-use Rattle.image_listing.specs.Laws.Text.{put-fits}
+use Rattle.image_text.specs.Texts.{Cursor, cursor, putAll, lentListing, lentRefusal}
+use Rattle.image_text.specs.Laws.Text.{put-fits}
 use Rattle.laws_suffices.specs.Laws.Suffices.{nothing-lost}
-use Rattle.image_read.specs.Laws.Reading.{wrong-here, right-here}
-use Rattle.image_read.specs.Reading.{Tables, tables, Read, jobOf, filled, noJob, lentWrong, readClass, readImage}
+use Rattle.image_job.specs.Laws.Reading.{wrong-here, right-here}
+use Rattle.image_job.specs.Reading.{Tables, tables, Read, jobOf, filled, noJob, lentWrong, readClass, readImage}
 use Rattle.image_outcome.specs.Inferring.{empty, setWords, candidateWords, jobCall, imageCall, shown, inferred, memoryWrong, written, Fits, Writes}
 
 -- ---- what is shown of a call

@@ -1,5 +1,5 @@
 -- `image_read::lent_wrong` meets its contract: one law for each of its five ways. Assumes nothing.
-use Rattle.image_read.specs.Laws.Reading.{wrong-words, wrong-values, wrong-sets, wrong-context, wrong-candidates}
+use Rattle.image_job.specs.Laws.Reading.{wrong-words, wrong-values, wrong-sets, wrong-context, wrong-candidates}
 use Rattle.image_read.proofs.lent_wrong.Statement.{statement}
 use Rattle.image_read.proofs.lent_wrong.Tie as tie
 

@@ -1,5 +1,5 @@
 -- `image_read::read_image` meets its contract: one law for each of its three ways. Assumes nothing.
-use Rattle.image_read.specs.Laws.Reading.{read-lent, read-length, read-words, words-fit, whole-length}
+use Rattle.image_job.specs.Laws.Reading.{read-lent, read-length, read-words, words-fit, whole-length}
 use mathlib.Core.Path.{sym, ap, _∙_}
 use lib.Seq.{length-take-le}
 use Rattle.lent_copies.specs.Copies.{zeros}

@@ -1,5 +1,5 @@
 -- `image_read::read_words` meets its contract: a class refuses the words, or all tables are filled. Assumes nothing.
-use Rattle.image_read.specs.Laws.Reading.{words-refused, words-read}
+use Rattle.image_job.specs.Laws.Reading.{words-refused, words-read}
 use borrow.Author.Needs.{needs}
 use Rattle.image_read.proofs.read_words.Statement.{statement}
 use Rattle.image_read.proofs.read_words.Tie as tie

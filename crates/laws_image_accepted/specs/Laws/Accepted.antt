@@ -6,7 +6,7 @@ use lib.ListN.{getD}
 use Rattle.lent_copies.specs.Copies.{zeros}
 use Rattle.lent_copies.specs.Laws.Copy.{zeros-length}
 use Rattle.lent_context.specs.Layout as Layout
-use Rattle.refuse_state.specs.Words as Words
+use Rattle.refuse_entries.specs.Words as Words
 use Rattle.refuse_instruction.specs.EffectClasses.{instructionClass}
 use Rattle.refuse_context.specs.Accepting.{contextClass}
 use Rattle.image_decode.specs.Laws.WordsBack.{function-count-back}

@@ -13,14 +13,14 @@ use Rattle.lent_copies.specs.Laws.Copy.{zeros-length}
 use Rattle.lent_sets.specs.Laws.Row.{fit-set}
 use Rattle.lent_effects.specs.Laws.EffectFrames.{effect-length}
 use Rattle.base_tests.specs.Laws.Bool.{or-neither}
-use Rattle.refuse_state.specs.Words as Words
+use Rattle.refuse_entries.specs.Words as Words
 use Rattle.def_image.specs.Layout.{Image, identifiers, values, pairs, functions, candidates, countOf, lvalue, own}
 use Rattle.def_image.specs.Decode.{placeAt}
 use Rattle.def_image.specs.Refusals.{refusalOfWords}
 use Rattle.image_decode.specs.Decoded.{after, decodedValue, decodedValues, decodedPair, decodedSets, decodedIdentifier, decodedIdentifiers, decodedFunction, decodedFunctions, decodedContext, decodedCandidate, decodedCandidates}
 use Rattle.image_decode.specs.Laws.StateBack.{after-length, value-length}
 use Rattle.image_decode.specs.Laws.ContextBack.{function-length, identifier-length, header-length}
-use Rattle.image_read.specs.Reading.{sessionOf, jobOf, filled}
+use Rattle.image_job.specs.Reading.{sessionOf, jobOf, filled}
 use Rattle.call_outcome.specs.Calls.{Call, call, lengthsWrong, candidateCount}
 use Rattle.image_outcome.specs.Inferring.{jobCall, imageCall}
 use Rattle.laws_image_accepted.specs.Laws.Facts.{few-identifiers, few-candidates}

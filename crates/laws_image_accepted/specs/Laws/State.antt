@@ -31,8 +31,8 @@ use Rattle.def_transfer.specs.Accepted.{notANumber, notYetHandedOut}
 use Rattle.base_tests.specs.Laws.Bool.{never, or-neither}
 use Rattle.base_tests.specs.Laws.Below.{any-no, list-no}
 use Rattle.base_tests.specs.Laws.Choice.{ite-no}
-use Rattle.refuse_state.specs.Words.{hasEntry, wordOutOfRange, wordUnfit, rowOutOfRange, rowInUse, rowTooNew, rowUnfit, nextOutOfRange, accessOutOfRange, wrongLengths, valuesOutOfRange, rowsOutOfRange, valuesUnfit, rowsUnfit, stateOutOfRange, stateUnfit, stateRefusal}
-use Rattle.refuse_state.specs.Words as Words
+use Rattle.refuse_entries.specs.Words.{hasEntry, wordOutOfRange, wordUnfit, rowOutOfRange, rowInUse, rowTooNew, rowUnfit, nextOutOfRange, accessOutOfRange, wrongLengths, valuesOutOfRange, rowsOutOfRange, valuesUnfit, rowsUnfit, stateOutOfRange, stateUnfit, stateRefusal}
+use Rattle.refuse_entries.specs.Words as Words
 use Rattle.def_image.specs.Layout.{Image, identifiers, values, pairs, countOf, next, valueNumber, valueKind, valueReasons, pairIdentifier, pairValue}
 use Rattle.def_image.specs.Refusals.{refusalOfWords}
 use Rattle.def_image.specs.Decode.{memberOf}

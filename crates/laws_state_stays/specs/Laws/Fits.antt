@@ -25,13 +25,13 @@ use Rattle.base_tests.specs.Laws.Order.{same-or-not}
 use Rattle.lent_sets.specs.Laws.Loop.{words-other}
 use Rattle.lent_sets.specs.Laws.Row.{Fit, fit-set, set-cut, set-other, set-has}
 use lib.Bits.{bitOr}
-use Rattle.refuse_state.specs.Words.{wordOutOfRange, wordUnfit, rowOutOfRange, rowInUse, rowTooNew, rowUnfit, nextOutOfRange, accessOutOfRange, identifiers, wrongLengths, valuesOutOfRange, rowsOutOfRange, valuesUnfit, rowsUnfit, stateOutOfRange, stateUnfit, stateRefusal}
+use Rattle.refuse_entries.specs.Words.{wordOutOfRange, wordUnfit, rowOutOfRange, rowInUse, rowTooNew, rowUnfit, nextOutOfRange, accessOutOfRange, identifiers, wrongLengths, valuesOutOfRange, rowsOutOfRange, valuesUnfit, rowsUnfit, stateOutOfRange, stateUnfit, stateRefusal}
 use Rattle.base_tests.specs.Laws.Bool.{never, or-no-first, or-no-second, or-neither}
 use Rattle.base_tests.specs.Laws.Below.{any-no, any-at, list-no, list-all}
-use Rattle.refuse_state.specs.Laws.Word.{number-in, new-past, word-reasons, unfit-entry}
-use Rattle.refuse_state.specs.Laws.Row.{new-undefined, unfit-defined, unfit-undefined}
-use Rattle.refuse_state.specs.Laws.State.{refused-0}
-use Rattle.refuse_state.specs.Laws.Accepted.{refusal-0, accepted-lent}
+use Rattle.refuse_entries.specs.Laws.Word.{number-in, new-past, word-reasons, unfit-entry}
+use Rattle.refuse_entries.specs.Laws.Row.{new-undefined, unfit-defined, unfit-undefined}
+use Rattle.refuse_entries.specs.Laws.State.{refused-0}
+use Rattle.refuse_entries.specs.Laws.Accepted.{refusal-0, accepted-lent}
 
 -- ---- the parts of an accepted state
 

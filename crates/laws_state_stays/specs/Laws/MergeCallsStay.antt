@@ -6,8 +6,8 @@ use mathlib.Core.Bool.{Bool, false}
 use native.Mathlib.Omega.{arith}
 use Rattle.def_effects.specs.declared.Session.{Session}
 use Rattle.def_transfer.specs.Merge.{adds, clearAccess}
-use Rattle.state_merge.specs.Lists.{mergeValues, mergeSets, rowsOf, mergedValues, mergedSets}
-use Rattle.refuse_state.specs.Words.{entries, stateRefusal}
+use Rattle.state_adds.specs.Lists.{mergeValues, mergeSets, rowsOf, mergedValues, mergedSets}
+use Rattle.refuse_entries.specs.Words.{entries, stateRefusal}
 use Rattle.def_transfer.specs.Monad.{Done}
 use Rattle.state_calls.specs.Calls.{Outcome}
 use Rattle.refuse_class.specs.Class.{lower}

@@ -23,11 +23,11 @@ use Rattle.lent_values.specs.Cells.{cellOf, valueAt}
 use Rattle.lent_values.specs.Laws.Cell.{cell-absent, cell-present}
 use Rattle.lent_sets.specs.Rows.{upto, rowWord, setAt}
 use Rattle.base_tests.specs.Laws.Order.{lt-or-ge, same-or-not}
-use Rattle.state_merge.specs.Lists.{valueAdds, setAdds, putEntry, mergeValue, mergeValues, putSome, mergeSet, mergeSets, rowsOf, mergedValues, mergedSets}
-use Rattle.state_merge.specs.Laws.MergeList.{rows-of, copy-all, cleared-set}
-use Rattle.refuse_state.specs.Words.{hasEntry, wordOutOfRange, stateRefusal, identifiers}
+use Rattle.state_adds.specs.Lists.{valueAdds, setAdds, putEntry, mergeValue, mergeValues, putSome, mergeSet, mergeSets, rowsOf, mergedValues, mergedSets}
+use Rattle.state_adds.specs.Laws.MergeList.{rows-of, copy-all, cleared-set}
+use Rattle.refuse_entries.specs.Words.{hasEntry, wordOutOfRange, stateRefusal, identifiers}
 use Rattle.base_tests.specs.Laws.Bool.{or-no-first, or-no-second, and-first}
-use Rattle.refuse_state.specs.Laws.Word.{reasons-lt, entry-yes, word-empty, unfit-empty, unfit-entry}
+use Rattle.refuse_entries.specs.Laws.Word.{reasons-lt, entry-yes, word-empty, unfit-empty, unfit-entry}
 use Rattle.laws_state_stays.specs.Laws.Fits.{Good, WordFit, ValuesFit, SetsFit, SessionFit, values-of, sets-of, session-of, accepted-of, value-stays, set-stays}
 
 -- ---- entries

@@ -33,7 +33,7 @@ use Rattle.lent_values.specs.Cells.{valueAt, putValue}
 use Rattle.lent_sets.specs.Rows.{setAt, putSet, appended, appendSet}
 use Rattle.state_ops.specs.Lists.{freezeAll, freezes, frozenValues, inserted, ownInserted, ownValue, assignedValues, ownSets, setOrOwn, assignedSets, unions, phiSets}
 use Rattle.state_ops.specs.Laws.Text.{initialize-lists, define-lists, assign-lists, append-lists, freeze-lists, phi-lists}
-use Rattle.refuse_state.specs.Words.{stateRefusal, identifiers}
+use Rattle.refuse_entries.specs.Words.{stateRefusal, identifiers}
 use Rattle.base_tests.specs.Laws.Bool.{or-no-first, or-no-second}
 use Rattle.base_tests.specs.Laws.Below.{list-all}
 use Rattle.state_calls.specs.Calls as Calls

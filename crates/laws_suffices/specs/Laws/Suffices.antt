@@ -30,13 +30,13 @@ use Rattle.def_transfer.specs.Monad.{Res, ok, refused, Done}
 use Rattle.def_transfer.specs.Tables.{World}
 use Rattle.def_transfer.specs.Instruction.{applySignature, ownOf}
 use Rattle.lent_world.specs.World.{lent}
-use Rattle.refuse_state.specs.Words.{identifiers}
+use Rattle.refuse_entries.specs.Words.{identifiers}
 use Rattle.refuse_class.specs.Laws.Class.{lower-0}
 use Rattle.refuse_words.specs.Classes.{lowestBelow, earns}
 use Rattle.refuse_instruction.specs.EffectClasses.{uses, usedParts, countClass, effectClass, instructionClass}
 use Rattle.refuse_tables.specs.TableClasses.{placesClass, functionClass}
 use Rattle.refuse_context.specs.Accepting.{countsWrong, functionsClass, tablesClass, contextClass}
-use Rattle.call_run.specs.Instructions.{instructionOf}
+use Rattle.call_parts.specs.Instructions.{instructionOf}
 use Rattle.laws_counts.specs.Laws.Grows.{after}
 use Rattle.laws_counts.specs.Laws.Steps.{mutated}
 use Rattle.laws_counts.specs.Laws.Counts.{Fits}

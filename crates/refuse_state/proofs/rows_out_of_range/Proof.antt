@@ -6,7 +6,7 @@ use native.Mathlib.Omega.{arith}
 use Prim.Native.Nat.{ℕ, _<_, _-_}
 use borrow.Author.Count.{below-more, below-none}
 use Rattle.base_tests.specs.Laws.Below.{any-yes, any-no}
-use Rattle.refuse_state.specs.Words.{rowOutOfRange, rowsOutOfRange}
+use Rattle.refuse_entries.specs.Words.{rowOutOfRange, rowsOutOfRange}
 use Rattle.refuse_state.proofs.rows_out_of_range.Statement.{statement}
 use Rattle.refuse_state.proofs.rows_out_of_range.Tie as tie
 

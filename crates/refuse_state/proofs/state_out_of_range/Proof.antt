@@ -1,6 +1,6 @@
 -- `refuse_state::state_out_of_range` meets its contract: the ways through it, a law of `StateLaws` each. Assumes nothing.
 use mathlib.Core.Path.{sym, _∙_}
-use Rattle.refuse_state.specs.Laws.State.{out-next, out-access, out-values, out-rows}
+use Rattle.refuse_entries.specs.Laws.State.{out-next, out-access, out-values, out-rows}
 use borrow.Author.Needs.{needs}
 use Rattle.refuse_state.proofs.state_out_of_range.Statement.{statement}
 use Rattle.refuse_state.proofs.state_out_of_range.Tie as tie

@@ -1,7 +1,7 @@
 -- `refuse_state::state_refusal` meets its contract: the lowest class first; a count of identifiers fits, since the lengths are right. Assumes nothing.
 use mathlib.Core.Path.{sym, _∙_}
 use native.Mathlib.Omega.{arith}
-use Rattle.refuse_state.specs.Laws.State.{lengths-fit, refused-1, refused-3, refused-4, refused-0}
+use Rattle.refuse_entries.specs.Laws.State.{lengths-fit, refused-1, refused-3, refused-4, refused-0}
 use borrow.Author.Needs.{needs}
 use Rattle.refuse_state.proofs.state_refusal.Statement.{statement}
 use Rattle.refuse_state.proofs.state_refusal.Tie as tie

@@ -1,6 +1,6 @@
 -- `refuse_state::state_unfit` meets its contract: the ways through it, a law of `StateLaws` each. Assumes nothing.
 use mathlib.Core.Path.{sym, _∙_}
-use Rattle.refuse_state.specs.Laws.State.{unfit-values, unfit-rows}
+use Rattle.refuse_entries.specs.Laws.State.{unfit-values, unfit-rows}
 use borrow.Author.Needs.{needs}
 use Rattle.refuse_state.proofs.state_unfit.Statement.{statement}
 use Rattle.refuse_state.proofs.state_unfit.Tie as tie

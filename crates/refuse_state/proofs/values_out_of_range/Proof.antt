@@ -7,7 +7,7 @@ use Prim.Native.Nat.{ℕ, _<_, _-_}
 use borrow.Author.Count.{below-more, below-none}
 use lib.ListN.{getD}
 use Rattle.base_tests.specs.Laws.Below.{any-yes, any-no}
-use Rattle.refuse_state.specs.Words.{wordOutOfRange, valuesOutOfRange}
+use Rattle.refuse_entries.specs.Words.{wordOutOfRange, valuesOutOfRange}
 use Rattle.refuse_state.proofs.values_out_of_range.Statement.{statement}
 use Rattle.refuse_state.proofs.values_out_of_range.Tie as tie
 

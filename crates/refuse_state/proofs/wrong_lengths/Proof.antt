@@ -1,6 +1,6 @@
 -- `refuse_state::wrong_lengths` meets its contract: one length after the other. Assumes nothing.
 use mathlib.Core.Path.{sym}
-use Rattle.refuse_state.specs.Laws.State.{length-values, length-rows, length-most}
+use Rattle.refuse_entries.specs.Laws.State.{length-values, length-rows, length-most}
 use Rattle.refuse_state.proofs.wrong_lengths.Statement.{statement}
 use Rattle.refuse_state.proofs.wrong_lengths.Tie as tie
 

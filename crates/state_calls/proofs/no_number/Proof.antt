@@ -1,6 +1,6 @@
 use mathlib.Core.Path.{refl, sym}
-use Rattle.refuse_state.specs.Laws.Word.{number-zero, number-other}
-use Rattle.refuse_state.specs.Words.{identifiers}
+use Rattle.refuse_entries.specs.Laws.Word.{number-zero, number-other}
+use Rattle.refuse_entries.specs.Words.{identifiers}
 use borrow.Author.Needs.{needs}
 use Rattle.state_calls.proofs.no_number.Statement.{statement}
 use Rattle.state_calls.proofs.no_number.Tie as tie

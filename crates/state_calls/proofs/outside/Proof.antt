@@ -1,7 +1,7 @@
 use mathlib.Core.Path.{ap, _∙_}
 use Rattle.base_tests.specs.Laws.Order.{le-not-lt}
 use Rattle.state_calls.specs.Calls.{outside}
-use Rattle.refuse_state.specs.Words.{identifiers}
+use Rattle.refuse_entries.specs.Words.{identifiers}
 use lib.Dec.{leb}
 use lib.ListN.{length}
 use Prim.Native.Nat.{_/_}

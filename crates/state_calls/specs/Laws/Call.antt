@@ -10,8 +10,8 @@ use borrow.Author.Tests.{lt-ltb, ltb-true, not-false, eq-eqb, ne-eqb}
 use mathlib.Core.Logic.{_⊎_, inl, inr}
 use Rattle.base_tests.specs.Tests.{ite, isSome}
 use Rattle.base_tests.specs.Laws.Bool.{never, or-first, or-second}
-use Rattle.refuse_state.specs.Laws.Accepted.{refusal-one, accepted-lent}
-use Rattle.refuse_state.specs.Words.{stateRefusal, identifiers}
+use Rattle.refuse_entries.specs.Laws.Accepted.{refusal-one, accepted-lent}
+use Rattle.refuse_entries.specs.Words.{stateRefusal, identifiers}
 use Rattle.def_kinds.specs.declared.AbstractValue.{AbstractValue}
 use Rattle.def_kinds.specs.Kinds.{writable}
 use Rattle.def_effects.specs.declared.Span.{Span}

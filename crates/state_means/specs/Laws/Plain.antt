@@ -20,8 +20,8 @@ use Rattle.def_transfer.specs.Tables.{World}
 use Rattle.def_transfer.specs.Pure.{pure}
 use Rattle.def_transfer.specs.State as State
 use Rattle.def_transfer.specs.Step as Step
-use Rattle.refuse_state.specs.Words.{stateRefusal, identifiers}
-use Rattle.refuse_state.specs.Laws.Accepted.{accepted-lent}
+use Rattle.refuse_entries.specs.Words.{stateRefusal, identifiers}
+use Rattle.refuse_entries.specs.Laws.Accepted.{accepted-lent}
 use Rattle.state_ops.specs.Laws.Text.{initialize-lists, define-lists, assign-lists, append-lists, freeze-lists, phi-lists}
 use Rattle.state_calls.specs.Calls as Calls
 use Rattle.state_calls.specs.Calls.{Lent, outcomeOf, callWith, start, restOf, outside, refusal1, refusal2, noKind, used}

@@ -5,8 +5,8 @@ use mathlib.Core.Path.{_≡_, refl, _∙_}
 use Prim.Native.Nat.{_-_}
 use lib.ListN.{length}
 use Rattle.lent_sets.specs.Rows.{upto}
-use Rattle.state_merge.specs.Lists.{copyWord, copyWords}
-use Rattle.state_merge.specs.Laws.Code.{loop-start, loop-turn, loop-end, copied}
+use Rattle.state_adds.specs.Lists.{copyWord, copyWords}
+use Rattle.state_adds.specs.Laws.Code.{loop-start, loop-turn, loop-end, copied}
 use Rattle.state_merge.proofs.copy_words.Statement.{statement}
 use Rattle.state_merge.proofs.copy_words.Tie as tie
 

@@ -1,5 +1,5 @@
 -- `state_merge::merge_into` meets its contract, by the two ways through it. Assumes nothing.
-use Rattle.state_merge.specs.Laws.Code.{into-some, into-none}
+use Rattle.state_adds.specs.Laws.Code.{into-some, into-none}
 use borrow.Author.Needs.{needs}
 use Rattle.state_merge.proofs.merge_into.Statement.{statement}
 use Rattle.state_merge.proofs.merge_into.Tie as tie

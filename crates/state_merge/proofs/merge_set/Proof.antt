@@ -2,7 +2,7 @@
 use mathlib.Core.Path.{refl}
 use lib.Dec.{lit≤}
 use Rattle.lent_sets.specs.Rows.{number}
-use Rattle.state_merge.specs.Laws.Code.{merge-set-is, merge-set-not}
+use Rattle.state_adds.specs.Laws.Code.{merge-set-is, merge-set-not}
 use borrow.Author.Needs.{needs}
 use Rattle.state_merge.proofs.merge_set.Statement.{statement}
 use Rattle.state_merge.proofs.merge_set.Tie as tie

@@ -5,8 +5,8 @@ use mathlib.Core.Path.{_≡_, refl, ap, _∙_}
 use Prim.Native.Nat.{ℕ, _-_}
 use lib.ListN.{length}
 use Rattle.lent_sets.specs.Rows.{upto}
-use Rattle.state_merge.specs.Lists.{mergeSet, mergeSets}
-use Rattle.state_merge.specs.Laws.Code.{loop-start, loop-turn, loop-end}
+use Rattle.state_adds.specs.Lists.{mergeSet, mergeSets}
+use Rattle.state_adds.specs.Laws.Code.{loop-start, loop-turn, loop-end}
 use Rattle.state_merge.proofs.merge_sets.Statement.{statement}
 use Rattle.state_merge.proofs.merge_sets.Tie as tie
 

@@ -1,5 +1,5 @@
 -- `state_merge::merge_value` meets its contract: the join is stored where the other adds to the entry. Assumes nothing.
-use Rattle.state_merge.specs.Laws.Code.{merge-value-is, merge-value-not}
+use Rattle.state_adds.specs.Laws.Code.{merge-value-is, merge-value-not}
 use borrow.Author.Needs.{needs}
 use Rattle.state_merge.proofs.merge_value.Statement.{statement}
 use Rattle.state_merge.proofs.merge_value.Tie as tie

@@ -5,8 +5,8 @@ use mathlib.Core.Path.{_≡_, refl, _∙_}
 use Prim.Native.Nat.{_-_}
 use lib.ListN.{length}
 use Rattle.lent_sets.specs.Rows.{upto}
-use Rattle.state_merge.specs.Lists.{mergeValue, mergeValues}
-use Rattle.state_merge.specs.Laws.Code.{loop-turn, loop-end}
+use Rattle.state_adds.specs.Lists.{mergeValue, mergeValues}
+use Rattle.state_adds.specs.Laws.Code.{loop-turn, loop-end}
 use Rattle.state_merge.proofs.merge_values.Statement.{statement}
 use Rattle.state_merge.proofs.merge_values.Tie as tie
 

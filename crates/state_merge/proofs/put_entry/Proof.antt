@@ -1,5 +1,5 @@
 -- `state_merge::put_entry` meets its contract, by the entry that it is given. Assumes nothing.
-use Rattle.state_merge.specs.Laws.Code.{put-present}
+use Rattle.state_adds.specs.Laws.Code.{put-present}
 use borrow.Author.Needs.{needs}
 use Rattle.state_merge.proofs.put_entry.Statement.{statement}
 use Rattle.state_merge.proofs.put_entry.Tie as tie

@@ -7,7 +7,7 @@ use lib.Dec.{T}
 use Rattle.def_effects.specs.declared.Session.{Session}
 use Rattle.def_transfer.specs.Merge.{above}
 use Rattle.laws_merge.specs.Laws.Merge.{state-above-refl}
-use Rattle.refuse_state.specs.Words.{entries}
+use Rattle.refuse_entries.specs.Words.{entries}
 use Rattle.state_merge_calls.specs.MergeCalls.{merge}
 use Rattle.state_merge_calls.specs.Laws.Theorems.{merge-answers-above}
 

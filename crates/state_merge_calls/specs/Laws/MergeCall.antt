@@ -11,8 +11,8 @@ use Rattle.base_tests.specs.Laws.Order.{same-or-not}
 use Rattle.def_effects.specs.declared.Session.{Session}
 use Rattle.def_transfer.specs.Monad.{Done}
 use Rattle.def_transfer.specs.Merge.{above, adds, clearAccess}
-use Rattle.refuse_state.specs.Words.{stateRefusal, entries}
-use Rattle.state_merge.specs.Lists.{mergeValues, mergeSets, rowsOf, mergedValues, mergedSets}
+use Rattle.refuse_entries.specs.Words.{stateRefusal, entries}
+use Rattle.state_adds.specs.Lists.{mergeValues, mergeSets, rowsOf, mergedValues, mergedSets}
 use Rattle.state_calls.specs.Calls.{Outcome}
 use Rattle.state_calls.specs.declared.TestAnswer.{TestAnswer}
 use Rattle.state_merge_calls.specs.MergeCalls as MergeCalls

@@ -6,7 +6,7 @@ use mathlib.Core.List.{List}
 use mathlib.Core.Option.{some}
 use Rattle.def_effects.specs.declared.Session.{Session}
 use Rattle.def_transfer.specs.Merge as Merge
-use Rattle.refuse_state.specs.Words.{entries}
+use Rattle.refuse_entries.specs.Words.{entries}
 use Rattle.state_calls.specs.declared.TestAnswer.{TestAnswer}
 use Rattle.state_merge_calls.specs.declared.MergeAnswer.{MergeAnswer}
 use Rattle.state_merge_calls.specs.declared.SessionAnswer.{SessionAnswer}

@@ -18,10 +18,10 @@ use Rattle.def_transfer.specs.Monad.{Done}
 use Rattle.def_transfer.specs.Merge.{Entries, nothing, above, adds, joined, clearAccess}
 use Rattle.def_transfer.specs.Merge as Merge
 use Rattle.laws_merge.specs.Laws.Merge.{adds-not-above, joined-above-left, joined-above-right, joined-least}
-use Rattle.refuse_state.specs.Words.{stateRefusal, identifiers, entries}
-use Rattle.refuse_state.specs.Laws.Accepted.{refusal-one, accepted-lent}
-use Rattle.state_merge.specs.Lists.{mergeValues, mergeSets, rowsOf, mergedValues, mergedSets}
-use Rattle.state_merge.specs.Laws.MergeList.{rows-of, merged-joined, merged-from, into-joined, into-merge, into-nothing}
+use Rattle.refuse_entries.specs.Words.{stateRefusal, identifiers, entries}
+use Rattle.refuse_entries.specs.Laws.Accepted.{refusal-one, accepted-lent}
+use Rattle.state_adds.specs.Lists.{mergeValues, mergeSets, rowsOf, mergedValues, mergedSets}
+use Rattle.state_adds.specs.Laws.MergeList.{rows-of, merged-joined, merged-from, into-joined, into-merge, into-nothing}
 use Rattle.state_calls.specs.Calls.{Outcome}
 use Rattle.state_calls.specs.declared.TestAnswer.{TestAnswer}
 use Rattle.refuse_class.specs.Class.{lower}

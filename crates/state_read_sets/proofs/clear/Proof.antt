@@ -4,8 +4,8 @@ use mathlib.Core.Path.{_≡_, refl, _∙_}
 use Prim.Native.Nat.{_-_}
 use lib.ListN.{length}
 use Rattle.lent_sets.specs.Rows.{upto}
-use Rattle.state_merge.specs.Lists.{clearWord}
-use Rattle.state_merge.specs.Laws.Code.{loop-start, loop-turn, loop-end, cleared}
+use Rattle.state_adds.specs.Lists.{clearWord}
+use Rattle.state_adds.specs.Laws.Code.{loop-start, loop-turn, loop-end, cleared}
 use Rattle.state_read_sets.proofs.clear.Statement.{statement}
 use Rattle.state_read_sets.proofs.clear.Tie as tie
 
