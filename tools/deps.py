@@ -38,13 +38,16 @@ GROUPS = [
 ]
 KIT = ["check", "bytes", "os", "io", "libc"]
 
-# Crates that wait for another one only so that a long check has company, as the steps up to the call have none of their own:
-# effect_apply, call_apply and image_infer would each leave a processor idle.
+# Crates that wait for another one only so that a long check has company: on the way from effect_apply over call_apply and image_infer
+# to infer each crate waits for the one before, and would leave a processor idle.
 AFTER = {
-    "test_state": ["effect_plain"],
     "image_class4": ["effect_apply"],
-    "image_listing": ["call_class"],
-    "bench_state": ["call_class"],
+    "image_listing": ["effect_plain"],
+    "bench_state": ["call_attempt"],
+    "test_cases": ["call_attempt"],
+    "test_state": ["image_run"],
+    "test_jobs": ["image_run"],
+    "bench_call": ["image_infer"],
 }
 
 

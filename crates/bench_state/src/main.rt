@@ -120,7 +120,7 @@ fn once(op: u32, values: &mut [u64], sets: &mut [u64], values2: &[u64], sets2: &
     }
     if op == 2 {
         thaw(values);
-        return flag(state_ops::freeze(values, sets, 0, 1));
+        return flag(state_freeze::freeze(values, sets, 0, 1));
     }
     if op == 3 {
         empty(values, sets);
@@ -129,7 +129,7 @@ fn once(op: u32, values: &mut [u64], sets: &mut [u64], values2: &[u64], sets2: &
         return 0;
     }
     if op == 4 {
-        state_ops::infer_phi(sets, 0, &[0u32, 1]);
+        state_assign::infer_phi(sets, 0, &[0u32, 1]);
         return 0;
     }
     if op == 5 {
@@ -155,7 +155,7 @@ fn once(op: u32, values: &mut [u64], sets: &mut [u64], values2: &[u64], sets2: &
         return a.refusal;
     }
     if op == 8 {
-        return state_write_sets::infer_phi(values, sets, session(), 0, &[0u32, 1]);
+        return state_phi::infer_phi(values, sets, session(), 0, &[0u32, 1]);
     }
     empty(values, sets);
     0

@@ -25,7 +25,7 @@ use lent_effects::AliasingEffect;
 use lent_key_of::two_key;
 use lent_work::Ran;
 use lent_work::Run;
-use state_ops::assign;
+use state_assign::assign;
 
 // The kind and reasons with which an effect begins, or its refusal, and what the instruction has by value.
 pub struct Begun {

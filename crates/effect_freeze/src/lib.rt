@@ -23,7 +23,7 @@ use lent_sets::is_defined;
 use lent_sets::next_member;
 use lent_work::Ran;
 use lent_work::Run;
-use state_ops::freeze;
+use state_freeze::freeze;
 
 // What the instruction has by value, with other counts of entries.
 // The walk counts, and changes nothing else of it.

@@ -3,9 +3,9 @@
 ghost use Prim.Native.Nat.{_%_, _+_};
 ghost use mathlib.Core.Bool.{_&&_, _||_, not};
 ghost use mathlib.Core.Path.{_≡_};
-ghost use Rattle.def_image.specs.Refusals.{anyRecord, areFlags, badFunction, badHeader, badIdentifier, badPair, badPlace, badValue, isIn, isNumber, needsKnown, passesEnd};
-ghost use Rattle.def_image.specs.Layout.{cell, countOf, word};
-ghost use lib.Dec.{eqb, leb, ltb};
+ghost use Rattle.def_image.specs.Refusals.{anyRecord, badFunction, badHeader, badIdentifier, badPair, badPlace, badValue, isNumber, needsKnown};
+ghost use Rattle.def_image.specs.Layout.{cell};
+ghost use lib.Dec.{eqb};
 ghost use Rattle.lent_slices.specs.Lent.{old};
 use def_kinds::are_reasons;
 use image_class2::at_most;
@@ -16,7 +16,11 @@ use image_class2::flag_one;
 use image_class2::flag_two;
 use image_class2::header_word;
 use image_class2::same;
-use lent_slices::wide32;
+use image_class3_fields::are_flags;
+use image_class3_fields::is_in;
+use image_class3_fields::is_number;
+use image_class3_fields::next_in_range;
+use image_class3_fields::passes_end;
 
 // The section of identifiers.
 // "count and word offset of six sections": its number in that order.
@@ -37,71 +41,6 @@ const PLACES: u32 = 3;
 // The section of functions.
 // "count and word offset of six sections": its number in that order.
 const FUNCTIONS: u32 = 4;
-
-// Whether a word is two flags.
-// "options (bit 0 .., bit 1 ..)", "flags (1 ref, 2 hoisted)"
-pub fn are_flags(w: u32) -> bool
-    ensures { λ r. ⌜ r ≡ areFlags w ⌝ }
-{
-    below(w, 4)
-}
-
-// Whether section s has a record i.
-// Its index is below the section's count.
-pub fn is_in(im: &[u32], s: u32, i: u32) -> bool
-    ensures { λ r. ⌜ r ≡ isIn (old im) s i ⌝ }
-{
-    below(i, count_of(im, s))
-}
-
-// Whether a number is below those of the identifiers that are not in the list.
-// Wide: 512 + a count passes 32 bits.
-fn number_below(im: &[u32], v: u32) -> bool
-    ensures { λ r. ⌜ r ≡ ltb v (512 + countOf (old im) 0) ⌝ }
-{
-    wide32(v) < 512 + wide32(count_of(im, IDENTIFIERS))
-}
-
-// Whether v is a value number.
-// "Value numbers are 1..1023"; "here and in pairs 512 + i needs identifier i in the list, else 3"
-pub fn is_number(im: &[u32], v: u32) -> bool
-    ensures { λ r. ⌜ r ≡ isNumber (old im) v ⌝ }
-{
-    if !at_most(1, v) {
-        return false;
-    }
-    number_below(im, v)
-}
-
-// Whether first + count is past the places.
-// Wide: the sum passes 32 bits.
-fn run_past(im: &[u32], first: u32, count: u32) -> bool
-    ensures { λ r. ⌜ r ≡ ltb (countOf (old im) 3) (first + count) ⌝ }
-{
-    wide32(count_of(im, PLACES)) < wide32(first) + wide32(count)
-}
-
-// Whether a run of places passes their end.
-// An empty run has no first and no end.
-pub fn passes_end(im: &[u32], first: u32, count: u32) -> bool
-    ensures { λ r. ⌜ r ≡ passesEnd (old im) first count ⌝ }
-{
-    if same(count, 0) {
-        return false;
-    }
-    run_past(im, first, count)
-}
-
-// Whether the next number is one.
-// "next number 1..512"
-fn next_in_range(im: &[u32]) -> bool
-    ensures { λ r. ⌜ r ≡ (leb 1 (word (old im) 2) && leb (word (old im) 2) 512) ⌝ }
-{
-    if !at_most(1, header_word(im, 2)) {
-        return false;
-    }
-    at_most(header_word(im, 2), 512)
-}
 
 // Whether a word of the header is out of its range.
 // "options (bit 0 .., bit 1 ..); next number 1..512; lvalue's place index; own function + 1 or 0"

@@ -22,7 +22,7 @@ use image_class3::bad_identifiers;
 use image_class3::bad_pairs;
 use image_class3::bad_places;
 use image_class3::bad_values;
-use image_class3::passes_end;
+use image_class3_fields::passes_end;
 
 // The section of places.
 // "count and word offset of six sections": its number in that order.

@@ -5,20 +5,20 @@ ghost use mathlib.Core.Path.{_≡_};
 ghost use Rattle.base_tests.specs.Tests.{anyBelow};
 ghost use Rattle.def_image.specs.Refusals.{anyNeighbours, anyRecord, earnsFour, emptyNotAlone, notYetFresh, pairsUnordered, strayAccess, strayFirst, strayInCandidate, strayInFunction, strayWord, uses, valuesUnordered};
 ghost use Rattle.def_image.specs.Layout.{cell};
-ghost use lib.Dec.{eqb, leb, ltb};
-ghost use Prim.Native.Nat.{suc};
+ghost use lib.Dec.{eqb};
 ghost use Rattle.lent_slices.specs.Lent.{old};
-use image_class2::at_most;
-use image_class2::below;
 use image_class2::cell;
 use image_class2::count_of;
 use image_class2::flag_two;
-use image_class2::header_word;
 use image_class2::is_apply;
 use image_class2::neighbours_of;
 use image_class2::next_cell;
 use image_class2::same;
 use image_class3_candidates::uses;
+use image_class4_entries::pair_too_new;
+use image_class4_entries::pairs_unordered;
+use image_class4_entries::value_too_new;
+use image_class4_entries::values_unordered;
 
 // The section of identifiers.
 // "count and word offset of six sections": its number in that order.
@@ -71,77 +71,6 @@ fn stray_access(im: &[u32], k: u32) -> bool
         return false;
     }
     !access_empty(im, k)
-}
-
-// Whether v is a fresh number.
-// "1..511 are fresh"
-fn is_fresh(v: u32) -> bool
-    ensures { λ r. ⌜ r ≡ (leb 1 v && ltb v 512) ⌝ }
-{
-    if !at_most(1, v) {
-        return false;
-    }
-    below(v, 512)
-}
-
-// Whether v is a fresh number that is not below next.
-// "or a fresh number not below next"
-fn not_yet_fresh(im: &[u32], v: u32) -> bool
-    ensures { λ r. ⌜ r ≡ notYetFresh (old im) v ⌝ }
-{
-    if !is_fresh(v) {
-        return false;
-    }
-    at_most(header_word(im, 2), v)
-}
-
-// Whether the number of value k is fresh and not below next.
-// "or a fresh number not below next"
-fn value_too_new(im: &[u32], k: u32) -> bool
-    ensures { λ r. ⌜ r ≡ notYetFresh (old im) (cell (old im) 1 k 0) ⌝ }
-{
-    not_yet_fresh(im, cell(im, VALUES, k, 0))
-}
-
-// Whether the value of pair k is fresh and not below next.
-// "or a fresh number not below next"
-fn pair_too_new(im: &[u32], k: u32) -> bool
-    ensures { λ r. ⌜ r ≡ notYetFresh (old im) (cell (old im) 2 k 1) ⌝ }
-{
-    not_yet_fresh(im, cell(im, PAIRS, k, 1))
-}
-
-// Whether the value after value k has no higher number.
-// "values: number .., ascending", so no two of one number
-fn values_unordered(im: &[u32], k: u32) -> bool
-    ensures { λ r. ⌜ r ≡ valuesUnordered (old im) k ⌝ }
-{
-    at_most(next_cell(im, VALUES, k, 0), cell(im, VALUES, k, 0))
-}
-
-// Whether the pair after pair k has its identifier and no higher value.
-// "pairs: identifier, value, ascending", so no two alike
-fn pair_falls(im: &[u32], k: u32) -> bool
-    ensures { λ r. ⌜
-        r
-        ≡ (eqb (cell (old im) 2 (suc k) 0) (cell (old im) 2 k 0)
-        && leb (cell (old im) 2 (suc k) 1) (cell (old im) 2 k 1)) ⌝ }
-{
-    if !same(next_cell(im, PAIRS, k, 0), cell(im, PAIRS, k, 0)) {
-        return false;
-    }
-    at_most(next_cell(im, PAIRS, k, 1), cell(im, PAIRS, k, 1))
-}
-
-// Whether the pair after pair k does not ascend.
-// "pairs: identifier, value, ascending"
-fn pairs_unordered(im: &[u32], k: u32) -> bool
-    ensures { λ r. ⌜ r ≡ pairsUnordered (old im) k ⌝ }
-{
-    if below(next_cell(im, PAIRS, k, 0), cell(im, PAIRS, k, 0)) {
-        return true;
-    }
-    pair_falls(im, k)
 }
 
 // Whether pair k is an empty set and another of its identifier follows.

@@ -64,6 +64,6 @@ pub fn freeze(values: &mut [u64], sets: &[u64], session: Session, i: u32, reason
             answer: false,
         };
     }
-    let answer = state_ops::freeze(values, sets, i, reason);
+    let answer = state_freeze::freeze(values, sets, i, reason);
     TestAnswer { refusal, answer }
 }

@@ -145,7 +145,7 @@ fn phi_of_none() {
     let mut sets = [0u64; 8192];
     put(&mut values, &sets, 1, ValueKind::Context, 2048);
     state_write_sets::define(&values, &mut sets, session(), 0, 1);
-    state_write_sets::infer_phi(&values, &mut sets, session(), 0, &[3u32, 4]);
+    state_phi::infer_phi(&values, &mut sets, session(), 0, &[3u32, 4]);
     say_kind(9, state_read_kinds::kind(&values, &sets, session(), 0));
 }
 

@@ -552,7 +552,7 @@ fn run_phi(
     args: &[u32],
     operands: &[u32],
 ) {
-    let refusal = state_write_sets::infer_phi(values, sets, session, get32(args, 0), operands);
+    let refusal = state_phi::infer_phi(values, sets, session, get32(args, 0), operands);
     expect_none(bytes, at, refusal);
     check_rest(bytes, at, session, flag, values, sets);
 }
