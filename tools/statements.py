@@ -180,7 +180,7 @@ def settled(term):
 # ---- statements
 
 # crate, function -> statement: its types, then its clauses
-def statements(files, short, crates, functions, definitions, divided):
+def statements(files, short, crates, functions, definitions, divided, numbers):
     found = {}
     for path, text in files.items():
         m = re.match(r"crates/(\w+)/src/", path)
@@ -221,10 +221,30 @@ def statements(files, short, crates, functions, definitions, divided):
             name = (crate, owner + m.group(1))
             key = functions.get((crate, m.group(1)), (crates.get(crate, crate), owner + m.group(1)))
             key = (divided.get(key, key[0]), key[1])
-            said = [names_of(s, definitions) for s in said]
+            said = [numbered(names_of(s, definitions), numbers) for s in said]
             types = re.sub(r"fn \w+", "fn", types)
             found[key] = types + "\n    " + "\n    ".join(said)
     return found
+
+
+# The numbers of the layout by name, and the fields of its tables: a text is the same whether it says the one or the other.
+def sizes(files):
+    found = {}
+    for path, text in files.items():
+        if path == "crates/lent_layout/specs/Layout.antt":
+            for name, number in re.findall(r"(?m)^(\w+) = (\d+)$", text):
+                found["Layout." + name] = found[name] = number
+            for name, fields in re.findall(r"(?m)^(\w+) = record \{ (.*) \}$", text):
+                for field, number in re.findall(r"(\w+) = (\d+)", fields):
+                    found["Layout.%s .%s" % (name, field)] = found["%s .%s" % (name, field)] = number
+    return found
+
+
+def numbered(text, numbers):
+    for name in sorted(numbers, key=len, reverse=True):
+        if name.startswith("Layout.") or name in ("outputWords", "oneRun .width"):
+            text = re.sub(r"(?<![\w.])%s(?![\w′-])" % re.escape(name), numbers[name], text)
+    return re.sub(r"\((\d+)\)", r"\1", text)
 
 
 # A text with new names for old ones, and without the crate of a module.
@@ -238,7 +258,7 @@ def names_of(text, definitions):
 # ---- definitions
 
 # name, text -> how often: every unfoldable, abbrev, record and data, without comments
-def texts(files, crates, definitions, skip):
+def texts(files, crates, definitions, skip, numbers):
     found = {}
     for path, text in files.items():
         m = re.match(r"crates/(\w+)/specs/", path)
@@ -257,6 +277,7 @@ def texts(files, crates, definitions, skip):
             for old, new in definitions.items():
                 term = re.sub(r"(?<![\w′·-])%s(?![\w′-])" % re.escape(old), new, term)
             term = re.sub(r"Rattle·\w+(·specs)?\.specs\.", "", term)
+            term = numbered(term, numbers)
             found[term] = found.get(term, 0) + 1
     return found
 
@@ -268,14 +289,15 @@ def main():
     crates, functions, definitions, twice, divided = renamed()
     now = tree(None)
     short = abbreviations(now)
-    here = statements(now, short, {}, {}, {}, {})
+    numbers = sizes(now)
+    here = statements(now, short, {}, {}, {}, {}, numbers)
     if not options.against:
         for (crate, name), said in sorted(here.items()):
             print("%s::%s\n    %s" % (crate, name, said))
         print("%d public functions" % len(here))
         return 0
     past = tree(options.against)
-    there = statements(past, abbreviations(past), crates, functions, definitions, divided)
+    there = statements(past, abbreviations(past), crates, functions, definitions, divided, numbers)
     wrong = 0
     for key in sorted(set(here) | set(there)):
         if key not in there:
@@ -291,7 +313,7 @@ def main():
             wrong += 1
             print("differs: %s::%s\n  before: %s\n  now:    %s" % (key + (there[key], here[key])))
     print("statements: %d before, %d now, %d differ" % (len(there), len(here), wrong))
-    before, after = texts(past, crates, definitions, "join_table"), texts(now, {}, {}, "none")
+    before, after = texts(past, crates, definitions, "join_table", numbers), texts(now, {}, {}, "none", numbers)
     lost = {t: n for t, n in before.items() if t not in after and not (set(t.split()[:4]) & twice)}
     for term in sorted(lost):
         print("definition of before that is not here: " + term[:300])

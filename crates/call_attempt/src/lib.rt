@@ -14,6 +14,7 @@ use call_undo::save;
 use call_undo::undo;
 use def_effects::Place;
 use def_effects::Session;
+use lent_layout::EFFECT_WORDS;
 use lent_work::Marks;
 use lent_work::Ran;
 use lent_work::Run;
@@ -32,7 +33,7 @@ fn set_words(sets: &[u64]) -> u32
 fn candidate_count(candidates: &[u32]) -> u32
     ensures { λ r. ⌜ r ≡ atMost 64 (candidateCount (old candidates)) ⌝ }
 {
-    let n = candidates.len() / 98;
+    let n = candidates.len() / EFFECT_WORDS;
     if n > 64 {
         return 64;
     }

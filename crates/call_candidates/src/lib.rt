@@ -2,24 +2,18 @@
 ghost use Rattle.def_transfer.specs.Monad.{each};
 ghost use Rattle.def_transfer.specs.Step as Step;
 ghost use Rattle.lent_context.specs.Lent as Lent;
-ghost use Rattle.lent_effects.specs.Records.{effectIn, candidateTable};
+ghost use Rattle.lent_effects.specs.Records.{effectIn};
 ghost use Rattle.lent_slices.specs.Lent.{old};
 ghost use Rattle.lent_world.specs.Promise.{Does};
 use effect_apply::apply_effect;
 use lent_effect_read::effect_in;
 use lent_effects::copy_captures;
+use lent_layout::CANDIDATES;
+use lent_layout::RUN_WORDS;
 use lent_slices::wide32;
-use lent_tables::Table;
 use lent_work::Ran;
 use lent_work::Run;
-
-// The candidates of an instruction: records of 98 words.
-// At most 64.
-const CANDIDATES: Table = Table {
-    base: 0,
-    count: 64,
-    width: 98,
-};
+ghost use Rattle.lent_layout.specs.Layout.{candidateTable};
 
 // Candidate k goes through the step; its captures are copied to a slice first.
 // The depth of derivation is 4.
@@ -37,7 +31,7 @@ pub fn candidate(
         values sets context output run r ⌝ }
 {
     let e = effect_in(CANDIDATES, candidates, wide32(k));
-    let mut captures = [0u32; 81];
+    let mut captures = [0u32; RUN_WORDS];
     copy_captures(CANDIDATES, candidates, wide32(k), &mut captures);
     apply_effect(values, sets, context, output, run, 4, e, &captures)
 }

@@ -6,8 +6,14 @@ ghost use Rattle.refuse_instruction.specs.EffectClasses.{instructionClass};
 ghost use Rattle.call_outcome.specs.Calls.{lengthsWrong, callClass};
 ghost use Rattle.lent_slices.specs.Lent.{old};
 ghost use Rattle.call_means.specs.Promise.{lentCall};
+ghost use Rattle.lent_layout.specs.Layout as Layout;
 use def_effects::Place;
 use def_effects::Session;
+use lent_layout::CONTEXT_WORDS;
+use lent_layout::EFFECT_WORDS;
+use lent_layout::FUNCTION_COUNT;
+use lent_layout::OUTPUT_WORDS;
+use lent_layout::SAVED_WORDS;
 use lent_slices::get32;
 use refuse_class::lower;
 use refuse_context::context_class;
@@ -15,7 +21,7 @@ use refuse_instruction::instruction_class;
 use refuse_state::state_refusal;
 
 // Whether a lent list has the wrong length, those of the state apart.
-// A context of 235,973 words, records of 98 words, 1,120 records of output, scratch for the state and for the words of a context that change.
+// A context, records of candidates, 1,120 records of output, scratch for the state and for the words of a context that change.
 fn lengths_wrong(
     sets: &[u64],
     context: &[u32],
@@ -29,16 +35,16 @@ fn lengths_wrong(
         ≡ lengthsWrong (length (old sets)) (length (old context)) (length (old candidates))
         (length (old output)) (length (old scratch64)) (length (old scratch32)) ⌝ }
 {
-    if context.len() != 235973 {
+    if context.len() != CONTEXT_WORDS {
         return true;
     }
-    if candidates.len() % 98 != 0 {
+    if candidates.len() % EFFECT_WORDS != 0 {
         return true;
     }
-    if output.len() != 109760 {
+    if output.len() != OUTPUT_WORDS {
         return true;
     }
-    if scratch32.len() != 22786 {
+    if scratch32.len() != SAVED_WORDS {
         return true;
     }
     if scratch64.len() < 1024 {
@@ -60,9 +66,9 @@ fn lent_class(
     ensures { λ r. ⌜
         r
         ≡ instructionClass identifiers functions (old context) (old candidates)
-        (length (old candidates) / 98) lvalue own ⌝ }
+        (length (old candidates) / Layout.effectWords) lvalue own ⌝ }
 {
-    let n = candidates.len() / 98;
+    let n = candidates.len() / EFFECT_WORDS;
     if n > 64 {
         return 2;
     }
@@ -106,7 +112,7 @@ pub fn call_class(
         return 1;
     }
     let identifiers = (sets.len() / 16) as u32;
-    let functions = get32(context, 2);
+    let functions = get32(context, FUNCTION_COUNT);
     let tables = context_class(context, identifiers, functions, session.next);
     let instruction = lent_class(context, candidates, lvalue, own, identifiers, functions);
     lower(state, lower(tables, instruction))

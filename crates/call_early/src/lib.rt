@@ -13,21 +13,14 @@ use effect_parts::emit;
 use effect_reports::modified_diagnostic;
 use lent_context::name_of;
 use lent_effects::AliasingEffect;
+use lent_layout::INSIDE;
+use lent_layout::INSIDE_WORDS;
 use lent_sets::is_defined;
-use lent_tables::Table;
 use lent_tables::field;
 use lent_tables::place_in;
 use lent_work::Ran;
 use lent_work::Run;
 use state_ops::kind_of;
-
-// The places that a function mutates inside, in a slice: a count and 32 places.
-// One record of 161 words.
-const INSIDE: Table = Table {
-    base: 0,
-    count: 1,
-    width: 161,
-};
 
 // A place that the own function mutates inside is reported if it is defined and Frozen: a MutateFrozen, always message case 0.
 // It is not interned, and no access is recorded.
@@ -139,7 +132,7 @@ pub fn early_errors(
         return Ran { refusal: 0, run };
     }
     let f = own - 1;
-    let mut places = [0u32; 161];
+    let mut places = [0u32; INSIDE_WORDS];
     copy_inside(context, f, &mut places);
     early_all(values, sets, context, output, run, f, &places)
 }

@@ -11,9 +11,10 @@ use Rattle.def_transfer.specs.Pure.{pure}
 use Rattle.lent_values.specs.Cells.{valueAt}
 use Rattle.lent_sets.specs.Rows.{setAt}
 use Rattle.lent_context.specs.Lent.{effectsIn}
-use Rattle.lent_world.specs.World.{output}
 use Rattle.lent_context.specs.Abstract.{abstract}
 use Rattle.call_outcome.specs.Calls.{Call, Outcome, callClass, lentInstruction, refusedWith}
+use Rattle.lent_layout.specs.Layout.{output}
+use Rattle.lent_layout.specs.Layout as Layout
 
 -- the world that a call begins in: an entry for each value number, a set for each identifier, the context's tables; nothing is listed yet
 abbrev pub plainWorld : Call → World pure
@@ -28,7 +29,7 @@ pub record Leaves (o : Outcome) (w : World pure) : Type 0 where
   pub refusal : o .applied .refusal ≡ 0
   pub count : o .applied .count ≡ length (w .rest .work .listed)
   pub effects : effectsIn output (o .output) 0 (o .applied .count) ≡ w .rest .work .listed
-  pub behind : (k : ℕ) → o .applied .count * 98 ≤ k → getD (o .output) k 0 ≡ 0
+  pub behind : (k : ℕ) → o .applied .count * Layout.effectWords ≤ k → getD (o .output) k 0 ≡ 0
   pub entries : o .applied .entries ≡ w .rest .work .entries
   pub session : o .applied .session ≡ w .rest .session
   pub flag : o .applied .flag ≡ w .state .isFunctionExpression

@@ -7,6 +7,7 @@ use lib.ListN.{length, getD}
 use Rattle.base_tests.specs.Tests.{ite}
 use Rattle.lent_copies.specs.Copies.{zeros}
 use Rattle.lent_context.specs.Lent.{internedCount}
+use Rattle.lent_layout.specs.Layout as Layout
 
 -- a length, but no more than a limit
 -- so that it is a word of 32 bits for any list
@@ -20,9 +21,9 @@ pub record Ready (vs ss cs os xs s64 s32 : List ℕ) : Type 0 where
   pub values : length vs ≡ 1024
   pub sets : length ss ≡ 16 * count
   pub most : count ≤ 512
-  pub context : length cs ≡ 235973
-  pub after : (k : ℕ) → 35269 + internedCount cs * 98 ≤ k → getD cs k 0 ≡ 0
-  pub output : os ≡ zeros 109760
-  pub candidates : length xs / 98 ≤ 64
+  pub context : length cs ≡ Layout.long
+  pub after : (k : ℕ) → Layout.interned .base + internedCount cs * Layout.effectWords ≤ k → getD cs k 0 ≡ 0
+  pub output : os ≡ zeros Layout.outputWords
+  pub candidates : length xs / Layout.effectWords ≤ 64
   pub scratch64 : length s64 ≡ 1024 + length ss
-  pub scratch32 : length s32 ≡ 22786
+  pub scratch32 : length s32 ≡ Layout.savedWords

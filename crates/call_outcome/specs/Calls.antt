@@ -14,7 +14,7 @@ use Rattle.def_transfer.specs.Tables.{World}
 use Rattle.def_transfer.specs.Instruction.{Instruction, applySignature}
 use Rattle.lent_work.specs.declared.Run.{Run}
 use Rattle.lent_work.specs.Marks.{noMarks}
-use Rattle.lent_context.specs.Layout as Layout
+use Rattle.lent_layout.specs.Layout as Layout
 use Rattle.lent_world.specs.World.{lent, world}
 use Rattle.refuse_entries.specs.Words.{identifiers, stateRefusal}
 use Rattle.refuse_class.specs.Class.{lower}
@@ -78,12 +78,12 @@ given a vs ss cs os s64 s32 = record { applied = a; values = vs; sets = ss; cont
 unfoldable pub lengthsWrong : ℕ → ℕ → ℕ → ℕ → ℕ → ℕ → Bool
 lengthsWrong sets context candidates output scratch64 scratch32 =
     not (eqb context Layout.long)
-    || (not (eqb (candidates % 98) 0) || (not (eqb output 109760) || (not (eqb scratch32 22786) || not (eqb scratch64 (1024 + sets)))))
+    || (not (eqb (candidates % Layout.effectWords) 0) || (not (eqb output Layout.outputWords) || (not (eqb scratch32 Layout.savedWords) || not (eqb scratch64 (1024 + sets)))))
 
 -- how many candidates there are
 -- records of 98 words
 abbrev pub candidateCount : List ℕ → ℕ
-candidateCount xs = length xs / 98
+candidateCount xs = length xs / Layout.effectWords
 
 -- the lowest class that anything lent earns, or 0
 -- "Order 1 to 5 over the whole input"

@@ -6,21 +6,17 @@ use Rattle.def_effects.specs.declared.Place.{Place}
 use Rattle.def_transfer.specs.Instruction.{Instruction, ownOf}
 use Rattle.lent_tables.specs.declared.Table.{Table}
 use Rattle.lent_tables.specs.Words.{field}
-use Rattle.lent_effects.specs.Records.{countedPlaces, candidateTable}
-use Rattle.lent_context.specs.Layout as Layout
+use Rattle.lent_effects.specs.Records.{countedPlaces}
+use Rattle.lent_layout.specs.Layout as Layout
 use Rattle.lent_context.specs.Lent.{effectsIn}
 use Rattle.lent_work.specs.declared.Run.{Run}
 use Rattle.effect_parts.specs.Parts.{withSession}
+use Rattle.lent_layout.specs.Layout.{candidateTable, insideRun}
 
 -- "An instruction is its candidates with their places and captures, its lvalue, and its own function if it has one."
 -- as it is lent: records of candidates, how many, a place, a number
 unfoldable pub instructionOf : List ℕ → ℕ → Place → ℕ → Instruction
 instructionOf xs count lvalue own = record { candidates = effectsIn candidateTable xs 0 count; lvalue = lvalue; own = ownOf own }
-
--- the places that a function mutates inside, in a slice: a count and 32 places
--- one record of 161 words
-abbrev pub insideRun : Table
-insideRun = record { base = 0; count = 1; width = 161 }
 
 -- the places of such a slice
 abbrev pub insidePlaces : List ℕ → List Place

@@ -18,21 +18,14 @@ use effect_parts::with_session;
 use lent_context::context_count;
 use lent_context::context_identifier;
 use lent_context::inside_count;
+use lent_layout::FUNCTIONS;
 use lent_set_writes::define;
 use lent_sets::is_defined;
 use lent_slices::set32;
 use lent_slices::wide32;
-use lent_tables::Table;
 use lent_tables::field;
 use lent_values::put_value;
 use lent_work::Run;
-
-// Functions: flags, count of context places, count of places mutated inside, 32 such places.
-const FUNCTIONS: Table = Table {
-    base: 2051,
-    count: 64,
-    width: 163,
-};
 
 // Whether an identifier is among the context places of a function.
 // A place that is mutated inside counts only if it comes from outside.

@@ -7,10 +7,17 @@ ghost use Rattle.lent_copies.specs.Copies.{copied};
 ghost use Rattle.call_undo.specs.Saves.{savedState, savedContext, forgotten, restoredContext};
 ghost use Rattle.lent_slices.specs.Lent.{old, new};
 ghost use Rattle.lent_copies.specs.Cleared.{Cleared};
+ghost use Rattle.lent_layout.specs.Layout as Layout;
 use lent_context::interned_count;
 use lent_copies::clear32;
 use lent_copies::copy32;
 use lent_copies::copy64;
+use lent_layout::EFFECT_WORDS;
+use lent_layout::EFFECTS_FROM;
+use lent_layout::INTERNED_COUNT;
+use lent_layout::SAVED;
+use lent_layout::SAVED_FROM;
+use lent_layout::SAVED_WORDS;
 use lent_slices::get32;
 use lent_slices::set32;
 use lent_slices::wide32;
@@ -38,12 +45,12 @@ pub fn restore_state(values: &mut [u64], sets: &mut [u64], n: u32, scratch: &[u6
 // The words that are saved of a context, where both lists have them all: no test at each word.
 // An accepted call always comes here, so that the copy runs as fast as memory does.
 fn copy_saved(context: &[u32], scratch: &mut [u32])
-    requires { ⌜ (35269 ≤ length (now context)) × (22786 ≤ length (now scratch)) ⌝ }
+    requires { ⌜ (Layout.interned .base ≤ length (now context)) × (Layout.savedWords ≤ length (now scratch)) ⌝ }
     ensures { λ _. ⌜ new scratch ≡ savedContext (old context) (old scratch) ⌝ }
 {
     let mut k: usize = 0;
-    while k < 22786 {
-        scratch[k] = context[12483 + k];
+    while k < SAVED_WORDS {
+        scratch[k] = context[INTERNED_COUNT + k];
         k += 1;
     }
 }
@@ -53,12 +60,12 @@ fn copy_saved(context: &[u32], scratch: &mut [u32])
 pub fn save_context(context: &[u32], scratch: &mut [u32])
     ensures { λ _. ⌜ new scratch ≡ savedContext (old context) (old scratch) ⌝ }
 {
-    if context.len() < 35269 {
-        copy32(context, 12483, scratch, 0, 22786);
+    if context.len() < EFFECTS_FROM {
+        copy32(context, SAVED_FROM, scratch, 0, SAVED);
         return;
     }
-    if scratch.len() < 22786 {
-        copy32(context, 12483, scratch, 0, 22786);
+    if scratch.len() < SAVED_WORDS {
+        copy32(context, SAVED_FROM, scratch, 0, SAVED);
         return;
     }
     copy_saved(context, scratch);
@@ -72,8 +79,8 @@ pub fn forget_effects(context: &mut [u32], from: u32, to: u32)
     if to <= from {
         return;
     }
-    let at = 35269 + wide32(from) * 98;
-    let n = wide32(to - from) * 98;
+    let at = EFFECTS_FROM + wide32(from) * EFFECT_WORDS;
+    let n = wide32(to - from) * EFFECT_WORDS;
     let mut k: usize = 0;
     while k < n {
         set32(context, at + k, 0);
@@ -89,7 +96,7 @@ pub fn restore_context(context: &mut [u32], scratch: &[u32])
     let before = get32(scratch, 0);
     let after = interned_count(context);
     forget_effects(context, before, after);
-    copy32(scratch, 0, context, 12483, 22786);
+    copy32(scratch, 0, context, SAVED_FROM, SAVED);
 }
 
 // ---- both

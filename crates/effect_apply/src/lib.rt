@@ -27,19 +27,12 @@ use effect_parts::emit;
 use effect_plain::plain;
 use lent_effects::AliasingEffect;
 use lent_keys::Found;
-use lent_tables::Table;
+use lent_layout::ONE_RUN;
+use lent_layout::RUN_WORDS;
 use lent_tables::field;
 use lent_tables::place_in;
 use lent_work::Ran;
 use lent_work::Run;
-
-// The captures beside an effect: one record of 81 words.
-// A count, then sixteen places of five words.
-const ONE_RUN: Table = Table {
-    base: 0,
-    count: 1,
-    width: 81,
-};
 
 // What comes next: nothing, the effect itself is listed, or a derived effect goes through the same step.
 // The last part of each function below.
@@ -343,7 +336,7 @@ pub fn creating_chosen(
         (chosen (old context) found (capturesOf (old captures))) function into)
         values sets context output run r ⌝ }
 {
-    let mut taken = [0u32; 81];
+    let mut taken = [0u32; RUN_WORDS];
     choose_captures(context, found, captures, &mut taken);
     creating_function(
         values,

@@ -5,29 +5,16 @@ ghost use Rattle.lent_effects.specs.Records.{capturesOf};
 ghost use Rattle.effect_intern.specs.Interning.{chosen};
 ghost use Rattle.effect_captures.specs.NewFunctions.{functionKind};
 ghost use Rattle.lent_slices.specs.Lent.{old, new};
+ghost use Rattle.lent_layout.specs.Layout.{oneRun};
 use def_kinds::ValueKind;
 use lent_effects::copy_captures;
 use lent_keys::Found;
+use lent_layout::INTERNED;
+use lent_layout::ONE_RUN;
+use lent_layout::RUN_WORDS;
 use lent_slices::set32;
 use lent_slices::wide32;
-use lent_tables::Table;
 use lent_tables::field;
-
-// Interned effects.
-// 2,048 records of 98 words at most.
-const INTERNED: Table = Table {
-    base: 35269,
-    count: 2048,
-    width: 98,
-};
-
-// The captures beside an effect: one record of 81 words.
-// A count, then sixteen places of five words.
-const ONE_RUN: Table = Table {
-    base: 0,
-    count: 1,
-    width: 81,
-};
 
 // The kind of a new function: Mutable if it captures what can be written, has a tracked side effect or a ref in its context, else Frozen.
 pub fn function_kind(written: bool, tracked: bool, refs: bool) -> ValueKind
@@ -48,10 +35,10 @@ pub fn function_kind(written: bool, tracked: bool, refs: bool) -> ValueKind
 // The captures beside an effect are copied to another slice of 81 words.
 // A count, then sixteen places of five words.
 fn copy_run(captures: &[u32], out: &mut [u32])
-    ensures { λ _. ⌜ (length (old out) ≡ 81 → capturesOf (new out) ≡ capturesOf (old captures)) ⌝ }
+    ensures { λ _. ⌜ (length (old out) ≡ oneRun .width → capturesOf (new out) ≡ capturesOf (old captures)) ⌝ }
 {
     let mut k: usize = 0;
-    while k < 81 {
+    while k < RUN_WORDS {
         set32(out, k, field(ONE_RUN, captures, 0, k));
         k += 1;
     }
@@ -61,7 +48,7 @@ fn copy_run(captures: &[u32], out: &mut [u32])
 // The table changes while they are gone through.
 pub fn choose_captures(context: &[u32], found: Found, captures: &[u32], out: &mut [u32])
     ensures { λ _. ⌜
-        (length (old out) ≡ 81
+        (length (old out) ≡ oneRun .width
         → capturesOf (new out) ≡ chosen (old context) found (capturesOf (old captures))) ⌝ }
 {
     match found {

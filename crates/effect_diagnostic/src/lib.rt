@@ -16,6 +16,7 @@ use lent_diagnostics::identity_count;
 use lent_diagnostics::instance_count;
 use lent_diagnostics::put_diagnostic;
 use lent_keys::Found;
+use lent_layout::DIAGNOSTIC_COUNT;
 use lent_slices::set32;
 
 // A number, or the refusal 10.
@@ -88,7 +89,7 @@ pub fn instance_for(context: &mut [u32], identity: u32, d: Diagnostic) -> Given
         };
     }
     put_diagnostic(context, n, identity, d);
-    set32(context, 12484, n + 1);
+    set32(context, DIAGNOSTIC_COUNT, n + 1);
     Given {
         refusal: 0,
         number: n,

@@ -3,7 +3,7 @@ use Prim.Native.Nat.{ℕ, zero, suc, _+_}
 use mathlib.Core.List.{List}
 use lib.ListN.{set}
 use Rattle.lent_tables.specs.Words.{field}
-use Rattle.lent_context.specs.Layout as Layout
+use Rattle.lent_layout.specs.Layout as Layout
 
 -- n words of the context places of a function from word k on, copied behind the count
 -- the places change while they are gone through

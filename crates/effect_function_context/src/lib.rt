@@ -15,28 +15,15 @@ use lent_context::context_count;
 use lent_context::context_identifier;
 use lent_context::is_ref;
 use lent_context::make_read;
+use lent_layout::CONTEXTS;
+use lent_layout::ONE_RUN;
+use lent_layout::RUN_WORDS;
 use lent_sets::is_defined;
 use lent_slices::set32;
 use lent_slices::wide32;
-use lent_tables::Table;
 use lent_tables::field;
 use lent_tables::place_in;
 use state_ops::kind_of;
-
-// The context places of each function, sixteen of five words.
-const CONTEXTS: Table = Table {
-    base: 12485,
-    count: 64,
-    width: 80,
-};
-
-// A run of places in a slice: one record of 81 words.
-// A count, then sixteen places of five words.
-const ONE_RUN: Table = Table {
-    base: 0,
-    count: 1,
-    width: 81,
-};
 
 // Whether any context place of a function is a ref.
 pub fn any_ref(context: &[u32], f: u32) -> bool
@@ -121,7 +108,7 @@ pub fn update_context(values: &[u64], sets: &[u64], context: &mut [u32], f: u32)
         (world (old values) (old sets) (old context) os run)
         ≡ ok tt (world (old values) (old sets) (new context) os run)) ⌝ }
 {
-    let mut places = [0u32; 81];
+    let mut places = [0u32; RUN_WORDS];
     copy_context(context, f, &mut places);
     update_places(values, sets, context, f, &places);
 }

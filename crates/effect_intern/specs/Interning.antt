@@ -5,7 +5,7 @@ use Rattle.def_effects.specs.declared.Place.{Place}
 use Rattle.lent_effects.specs.Records.{countedPlaces, captures}
 use Rattle.lent_keys.specs.declared.Found.{Found}
 use Rattle.lent_keys.specs.declared.Found.the-variants.{Nowhere, At}
-use Rattle.lent_context.specs.Layout as Layout
+use Rattle.lent_layout.specs.Layout as Layout
 
 -- the captures of the effect that stands for another: those of the table's record where it was found, else those that were given
 -- "The first effect under a key .. is used ever after, spans included"

@@ -18,18 +18,11 @@ use lent_effect_read::effect_in;
 use lent_effect_write::put_effect;
 use lent_effects::AliasingEffect;
 use lent_keys::Found;
+use lent_layout::INTERNED;
+use lent_layout::INTERNED_COUNT;
 use lent_search::find_effect;
 use lent_slices::set32;
 use lent_slices::wide32;
-use lent_tables::Table;
-
-// Interned effects: the first effect under a key.
-// 2,048 records of 98 words at most.
-const INTERNED: Table = Table {
-    base: 35269,
-    count: 2048,
-    width: 98,
-};
 
 // The effect that stands for another from now on: 0 or 8, its place in the table if it was there before, and the effect.
 // Its captures are those of the table's record where it was found, else those that were given.
@@ -161,7 +154,7 @@ pub fn intern_effect(context: &mut [u32], e: AliasingEffect, captures: &[u32]) -
         };
     }
     put_effect(INTERNED, context, wide32(n), e, captures);
-    set32(context, 12483, n + 1);
+    set32(context, INTERNED_COUNT, n + 1);
     Interned {
         refusal: 0,
         found: Found::Nowhere,

@@ -19,10 +19,11 @@ use def_effects::Span;
 use def_kinds::AbstractValue;
 use lent_effect_write::put_effect;
 use lent_effects::AliasingEffect;
+use lent_layout::ONE_RUN;
+use lent_layout::OUTPUT;
 use lent_set_writes::define;
 use lent_sets::is_defined;
 use lent_slices::wide32;
-use lent_tables::Table;
 use lent_tables::field;
 use lent_tables::place_in;
 use lent_values::put_value;
@@ -32,22 +33,6 @@ use lent_work::is_marked;
 use lent_work::mark;
 use state_ops::after_use;
 use state_ops::kind_of;
-
-// The output list: 1,120 records of 98 words.
-// 32 + 64 × 17 effects are the most that an instruction lists.
-const OUTPUT: Table = Table {
-    base: 0,
-    count: 1120,
-    width: 98,
-};
-
-// The captures beside an effect: one record of 81 words.
-// A count, then sixteen places of five words.
-const ONE_RUN: Table = Table {
-    base: 0,
-    count: 1,
-    width: 81,
-};
 
 // The kind and reasons of a place, and what the instruction has by value after the look.
 // An undefined place is recorded in the session.

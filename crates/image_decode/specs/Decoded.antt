@@ -11,10 +11,11 @@ use Rattle.lent_sets.specs.Rows.{setAt, putSet}
 use Rattle.lent_tables.specs.Words.{putField, putPlaces}
 use Rattle.lent_effects.specs.declared.AliasingEffect.{AliasingEffect as Head}
 use Rattle.lent_effects.specs.declared.AliasingEffect.the-variants as Head
-use Rattle.lent_effects.specs.Records.{putEffect, candidateTable}
-use Rattle.lent_context.specs.Layout as Lent
+use Rattle.lent_effects.specs.Records.{putEffect}
+use Rattle.lent_layout.specs.Layout as Lent
 use Rattle.def_image.specs.Layout.{Image, options, identifiers, functions, countOf, identifierFlags, identifierName, accessStart, accessEnd, valueNumber, valueKind, valueReasons, pairIdentifier, pairValue, functionFlags, contextFirst, contextCount, insideFirst, insideCount, code, firstPlace, secondPlace, detail, reason, function}
 use Rattle.def_image.specs.Decode.{memberOf, placeAt, placesFrom, effectAt}
+use Rattle.lent_layout.specs.Layout.{candidateTable}
 
 -- the list after g was done to it at 0, 1 and so on, n times
 -- each record of a section after the other

@@ -17,6 +17,12 @@ use def_kinds::ValueKind;
 use image_class2::cell;
 use image_class2::count_of;
 use image_class2::offset_of;
+use lent_layout::CONTEXTS;
+use lent_layout::FUNCTION_COUNT;
+use lent_layout::FUNCTIONS;
+use lent_layout::IDENTIFIER_COUNT;
+use lent_layout::IDENTIFIERS;
+use lent_layout::OPTIONS;
 use lent_set_writes::add_set;
 use lent_set_writes::put_set;
 use lent_sets::add_value;
@@ -27,28 +33,6 @@ use lent_tables::Table;
 use lent_tables::put_field;
 use lent_tables::put_place;
 use lent_values::put_value;
-
-// The identifiers of a context.
-const IDENTIFIERS: Table = Table {
-    base: 3,
-    count: 512,
-    width: 4,
-};
-
-// The functions of a context.
-// Flags, two counts and 32 places mutated inside.
-const FUNCTIONS: Table = Table {
-    base: 2051,
-    count: 64,
-    width: 163,
-};
-
-// The context places of the functions.
-const CONTEXTS: Table = Table {
-    base: 12485,
-    count: 64,
-    width: 80,
-};
 
 // ---- the words of an image
 
@@ -237,9 +221,9 @@ fn decode_functions(im: &[u32], context: &mut [u32])
 fn decode_header(im: &[u32], context: &mut [u32])
     ensures { λ _. ⌜ new context ≡ decodedHeader (old im) (old context) ⌝ }
 {
-    set32(context, 0, get32(im, 1));
-    set32(context, 1, count_of(im, 0));
-    set32(context, 2, count_of(im, 4));
+    set32(context, OPTIONS, get32(im, 1));
+    set32(context, IDENTIFIER_COUNT, count_of(im, 0));
+    set32(context, FUNCTION_COUNT, count_of(im, 4));
 }
 
 // All that the image says of a context is put into it.

@@ -2,7 +2,7 @@
 ghost use mathlib.Core.Path.{_≡_};
 ghost use Prim.Native.Nat.{_+_};
 ghost use Rattle.def_effects.specs.Effects.{CreateFunction};
-ghost use Rattle.lent_effects.specs.Records.{putEffect, candidateTable};
+ghost use Rattle.lent_effects.specs.Records.{putEffect};
 ghost use Rattle.def_image.specs.Layout as Image;
 ghost use Rattle.def_image.specs.Layout.{countOf};
 ghost use Rattle.def_image.specs.Decode.{placeAt, placesFrom};
@@ -18,18 +18,11 @@ use image_decode::place_at;
 use image_decode::put_run;
 use lent_effect_write::put_effect;
 use lent_effects::AliasingEffect;
+use lent_layout::CANDIDATES;
 use lent_slices::wide32;
-use lent_tables::Table;
 use lent_tables::put_field;
 use lent_tables::put_place;
-
-// The candidates of an instruction.
-// "candidates (64)": records of 98 words.
-const CANDIDATES: Table = Table {
-    base: 0,
-    count: 64,
-    width: 98,
-};
+ghost use Rattle.lent_layout.specs.Layout.{candidateTable};
 
 // The diagnostic of candidate k.
 fn diagnostic_at(im: &[u32], k: u32) -> AliasingDiagnostic

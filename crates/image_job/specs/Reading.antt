@@ -9,7 +9,7 @@ use Rattle.base_tests.specs.Tests.{ite}
 use Rattle.lent_copies.specs.Copies.{zeros}
 use Rattle.def_effects.specs.declared.Session.{Session}
 use Rattle.def_effects.specs.Places.{noSpan}
-use Rattle.lent_context.specs.Layout as Layout
+use Rattle.lent_layout.specs.Layout as Layout
 use Rattle.def_image.specs.Layout.{Image, wordsOf, next, lvalue, own, identifiers, values, pairs, candidates, countOf}
 use Rattle.def_image.specs.Refusals.{refusalOfWords, refusalOf}
 use Rattle.def_image.specs.Decode.{span, placeAt}
@@ -99,7 +99,7 @@ readWords im t = ite (eqb (refusalOfWords im) 0) (record { job = jobOf im; table
 unfoldable pub lentWrong : ℕ → ℕ → ℕ → ℕ → ℕ → Bool
 lentWrong words values sets context candidates =
     not (eqb words 16384)
-    || (not (eqb values 1024) || (not (eqb sets 8192) || (not (eqb context Layout.long) || not (eqb candidates 6272))))
+    || (not (eqb values 1024) || (not (eqb sets 8192) || (not (eqb context Layout.long) || not (eqb candidates Layout.candidateWords))))
 
 -- the class that refuses the bytes of an image with all that is lent beside them, or 0
 -- a wrong length decides alone; then the image's own class

@@ -28,20 +28,12 @@ use lent_effect_read::effect_in;
 use lent_effects::AliasingEffect;
 use lent_effects::kind_word;
 use lent_keys::Found;
+use lent_layout::OUTPUT;
 use lent_sets::is_defined;
 use lent_sets::next_member;
 use lent_slices::wide32;
-use lent_tables::Table;
 use lent_values::Entry;
 use lent_values::value_at;
-
-// The output list: 1,120 records of 98 words.
-// "The output list has 1,120 records (32 + 64 × 17, so it suffices)."
-const OUTPUT: Table = Table {
-    base: 0,
-    count: 1120,
-    width: 98,
-};
 
 // The first line of a listing.
 // "OK: effects, walk entries."

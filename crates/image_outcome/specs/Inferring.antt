@@ -8,7 +8,7 @@ use lib.Dec.{eqb}
 use lib.ListN.{length, take}
 use Rattle.base_tests.specs.Tests.{ite}
 use Rattle.lent_copies.specs.Copies.{zeros}
-use Rattle.lent_context.specs.Layout as Layout
+use Rattle.lent_layout.specs.Layout as Layout
 use Rattle.def_image.specs.Layout.{Image, wordsOf}
 use Rattle.def_image.specs.Refusals.{refusalOf}
 use Rattle.def_image.specs.Listing.{refusalLine}
@@ -20,7 +20,7 @@ use Rattle.image_text.specs.Texts.{Cursor, putAll, lentListing}
 -- tables at their full size, and nothing in them
 -- 1,024 values, 512 rows of 16 words, a context, 64 records of 98 words
 abbrev pub empty : Tables
-empty = tables (zeros 1024) (zeros 8192) (zeros Layout.long) (zeros 6272)
+empty = tables (zeros 1024) (zeros 8192) (zeros Layout.long) (zeros Layout.candidateWords)
 
 -- how many words the rows of an image's identifiers have
 -- 16 words each; the call is lent no more of them
@@ -30,14 +30,14 @@ setWords j = 16 * j .identifiers
 -- the same of the records of its candidates
 -- 98 words each
 abbrev pub candidateWords : Job → ℕ
-candidateWords j = 98 * j .candidates
+candidateWords j = Layout.effectWords * j .candidates
 
 -- the call that a job makes with the tables that were read: the rows of its identifiers, the records of its candidates,
 -- "the function-expression flag as no", an output list and scratch that are zero
 unfoldable pub jobCall : Job → Tables → Call
 jobCall j t =
     call (t .values) (take (setWords j) (t .sets)) false (t .context) (j .session) (take (candidateWords j) (t .candidates)) (j .lvalue) (j .own)
-    (zeros 109760) (zeros (1024 + setWords j)) (zeros 22786)
+    (zeros Layout.outputWords) (zeros (1024 + setWords j)) (zeros Layout.savedWords)
 
 -- the call that the words of an accepted image make
 -- "Interned effects, cached numbers, links and diagnostics start empty"
@@ -61,7 +61,7 @@ inferred bytes = ite (eqb (refusalOf bytes) 0) (shown (outcome (imageCall (words
 -- and for the words of a context that change, and a buffer that suffices for every listing (`image_listing` `Laws/Suffices.antt`)
 unfoldable pub memoryWrong : ℕ → ℕ → ℕ → ℕ → Bool
 memoryWrong output scratch64 scratch32 buffer =
-    not (eqb output 109760) || (not (eqb scratch64 9216) || (not (eqb scratch32 22786) || not (eqb buffer 2900000)))
+    not (eqb output Layout.outputWords) || (not (eqb scratch64 9216) || (not (eqb scratch32 Layout.savedWords) || not (eqb buffer 2900000)))
 
 -- what is written into the buffer, by the lengths of all that is lent beside the bytes: words, tables, output list, scratch, buffer
 -- "1 a lent slice or image has the wrong length"

@@ -22,6 +22,8 @@ use image_words::length_wrong;
 use image_words::load_words;
 use lent_copies::clear32;
 use lent_copies::clear64;
+use lent_layout::CANDIDATE_WORDS;
+use lent_layout::CONTEXT_WORDS;
 
 // The state of an image, in tables that may hold anything.
 // They are cleared first: a number that the image does not name has no entry, an identifier no set.
@@ -107,10 +109,10 @@ fn lent_wrong(
     if sets.len() != 8192 {
         return true;
     }
-    if context.len() != 235973 {
+    if context.len() != CONTEXT_WORDS {
         return true;
     }
-    candidates.len() != 6272
+    candidates.len() != CANDIDATE_WORDS
 }
 
 // Reads a job image. Any bytes and any lists with any numbers in them may be lent.

@@ -11,12 +11,16 @@ ghost use Rattle.lent_slices.specs.Lent.{old};
 ghost use Rattle.lent_copies.specs.Cleared.{Cleared};
 ghost use Rattle.call_means.specs.Promise.{lentCall};
 ghost use Rattle.image_outcome.specs.Promise.{WritesInto};
+ghost use Rattle.lent_layout.specs.Layout as Layout;
 use call_apply::apply_signature;
 use image_job::Job;
 use image_listing::put_listing;
 use image_listing::put_refusal;
 use lent_copies::clear32;
 use lent_copies::clear64;
+use lent_layout::EFFECT_WORDS;
+use lent_layout::OUTPUT_WORDS;
+use lent_layout::SAVED_WORDS;
 
 // The call for an instruction, and its listing in the buffer; the answer is how long the listing is.
 // "A refusal prints only `REFUSED n`."
@@ -93,8 +97,8 @@ pub fn run_tables(
 ) -> usize
     ensures { λ r. ⌜
         (Fits (old sets) (old candidates) (old scratch64) job
-        → length (old output) ≡ 109760
-        → length (old scratch32) ≡ 22786
+        → length (old output) ≡ Layout.outputWords
+        → length (old scratch32) ≡ Layout.savedWords
         → WritesInto buffer r
         (shown
         (outcome
@@ -103,7 +107,7 @@ pub fn run_tables(
         (old candidates)))))) ⌝ }
 {
     let m = 16 * wide(job.identifiers);
-    let n = 98 * wide(job.candidates);
+    let n = EFFECT_WORDS * wide(job.candidates);
     let e = 1024 + m;
     if m > sets.len() {
         return 0;
@@ -135,13 +139,13 @@ pub fn memory_wrong(output: &[u32], scratch64: &[u64], scratch32: &[u32], buffer
         ≡ memoryWrong (length (old output)) (length (old scratch64)) (length (old scratch32))
         (length (old buffer)) ⌝ }
 {
-    if output.len() != 109760 {
+    if output.len() != OUTPUT_WORDS {
         return true;
     }
     if scratch64.len() != 9216 {
         return true;
     }
-    if scratch32.len() != 22786 {
+    if scratch32.len() != SAVED_WORDS {
         return true;
     }
     buffer.len() != 2900000

@@ -8,10 +8,10 @@ use Rattle.base_tests.specs.Tests.{ite}
 use Rattle.lent_values.specs.Cells.{valueAt}
 use Rattle.lent_sets.specs.Rows.{setAt}
 use Rattle.lent_context.specs.Lent.{effectsIn}
-use Rattle.lent_world.specs.World.{output}
 use Rattle.lent_effects.specs.declared.AliasingEffect.{AliasingEffect as Head}
 use Rattle.lent_effects.specs.Records.{effectWith}
 use Rattle.def_image.specs.Listing.{ascii, blank, shown, line, linesFrom, effectLines, effectRow, valueLine, setLine, shownLines, refusalLine}
+use Rattle.lent_layout.specs.Layout.{output}
 
 -- where the next byte goes, and the buffer
 -- code has the one by value and the other lent

@@ -16,11 +16,11 @@ fn main() {
     let mut words = [0u32; 16384];
     let mut values = [0u64; 1024];
     let mut sets = [0u64; 8192];
-    let mut context = [0u32; 235973];
-    let mut candidates = [0u32; 6272];
-    let mut output = [0u32; 109760];
+    let mut context = [0u32; lent_layout::CONTEXT_WORDS];
+    let mut candidates = [0u32; lent_layout::CANDIDATE_WORDS];
+    let mut output = [0u32; lent_layout::OUTPUT_WORDS];
     let mut scratch64 = [0u64; 9216];
-    let mut scratch32 = [0u32; 22786];
+    let mut scratch32 = [0u32; lent_layout::SAVED_WORDS];
     let mut buffer = [0u8; 2900000];
     let length = image_infer::infer(
         &input[..n],

@@ -8,7 +8,7 @@ use lib.ListN.{getD}
 use Rattle.def_transfer.specs.Pure.{Context, Function, Identifier}
 use Rattle.lent_tables.specs.Words.{field, placesIn}
 use Rattle.lent_keys.specs.KeyRecords.{optionIn, keyIn}
-use Rattle.lent_context.specs.Layout as Layout
+use Rattle.lent_layout.specs.Layout as Layout
 use Rattle.lent_context.specs.Lent.{effectsIn, diagnosticsIn}
 
 -- flags 1 effects known, 2 tracked side effect; counts of context places and of places mutated inside; the latter

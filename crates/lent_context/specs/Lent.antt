@@ -19,7 +19,7 @@ use Rattle.lent_tables.specs.Words.{field, putField, placesIn}
 use Rattle.lent_effects.specs.Records.{effectIn, putEffect}
 use Rattle.lent_keys.specs.KeyRecords.{optionIn, putOption, keyIn}
 use Rattle.lent_keys.specs.KeyRecords as Keys
-use Rattle.lent_context.specs.Layout as Layout
+use Rattle.lent_layout.specs.Layout as Layout
 
 -- bit 0 and bit 1 of flags
 -- any number is read; a flag out of range is refused before it is used

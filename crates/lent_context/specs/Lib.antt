@@ -1,4 +1,3 @@
-pub mod Layout
 pub mod Lent
 pub mod Abstract
 pub mod Laws

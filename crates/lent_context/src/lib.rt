@@ -7,7 +7,7 @@ ghost use Rattle.lent_tables.specs.Words as Words;
 ghost use Rattle.lent_tables.specs.Words.{placeIn};
 ghost use Rattle.lent_effects.specs.Records.{capturesOf};
 ghost use Rattle.lent_keys.specs.KeyRecords.{optionOf, keyWith};
-ghost use Rattle.lent_context.specs.Layout as Layout;
+ghost use Rattle.lent_layout.specs.Layout as Layout;
 ghost use Rattle.lent_context.specs.Lent as Lent;
 ghost use Rattle.lent_context.specs.Lent.{readPlace};
 ghost use Rattle.lent_slices.specs.Lent.{old, new};
@@ -18,49 +18,18 @@ use lent_keys::Found;
 use lent_keys::Key;
 use lent_keys::option_in;
 use lent_keys::put_option;
+use lent_layout::CACHED;
+use lent_layout::CONTEXTS;
+use lent_layout::FUNCTIONS;
+use lent_layout::IDENTIFIERS;
+use lent_layout::INTERNED_COUNT;
+use lent_layout::LINKS;
+use lent_layout::OPTIONS;
 use lent_slices::get32;
 use lent_slices::wide32;
-use lent_tables::Table;
 use lent_tables::field;
 use lent_tables::place_in;
 use lent_tables::put_field;
-
-// Identifiers: flags, name, access span.
-const IDENTIFIERS: Table = Table {
-    base: 3,
-    count: 512,
-    width: 4,
-};
-
-// Functions: flags, count of context places, count of places mutated inside, 32 such places.
-const FUNCTIONS: Table = Table {
-    base: 2051,
-    count: 64,
-    width: 163,
-};
-
-// The context places of each function, sixteen of five words.
-const CONTEXTS: Table = Table {
-    base: 12485,
-    count: 64,
-    width: 80,
-};
-
-// The function of each fresh number: 0, or 1 and the function.
-// Document 01's function links.
-const LINKS: Table = Table {
-    base: 17605,
-    count: 512,
-    width: 2,
-};
-
-// The key under which each fresh number was handed out, or none.
-// Document 01's cached numbers.
-const CACHED: Table = Table {
-    base: 18629,
-    count: 512,
-    width: 28,
-};
 
 // ---- interned effects
 
@@ -69,7 +38,7 @@ const CACHED: Table = Table {
 pub fn interned_count(context: &[u32]) -> u32
     ensures { λ r. ⌜ r ≡ Lent.internedCount (old context) ⌝ }
 {
-    get32(context, 12483)
+    get32(context, INTERNED_COUNT)
 }
 
 // ---- cached numbers
@@ -219,5 +188,5 @@ pub fn name_of(context: &[u32], i: u32) -> u32
 pub fn is_transitive(context: &[u32]) -> bool
     ensures { λ r. ⌜ r ≡ Lent.isTransitive (old context) ⌝ }
 {
-    get32(context, 0) != 0
+    get32(context, OPTIONS) != 0
 }

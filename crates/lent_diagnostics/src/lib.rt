@@ -12,18 +12,12 @@ ghost use Rattle.lent_slices.specs.Lent.{old, new};
 use def_effects::Diagnostic;
 use def_effects::Span;
 use lent_keys::Found;
+use lent_layout::DIAGNOSTIC_COUNT;
+use lent_layout::DIAGNOSTICS;
 use lent_slices::get32;
 use lent_slices::wide32;
-use lent_tables::Table;
 use lent_tables::field;
 use lent_tables::put_field;
-
-// Diagnostics: identity, identifier, message case, sentence, name, access span, own span.
-const DIAGNOSTICS: Table = Table {
-    base: 32965,
-    count: 256,
-    width: 9,
-};
 
 // A record of the table: a diagnostic with its identity.
 pub struct Numbered {
@@ -92,7 +86,7 @@ pub fn same_labels(a: Diagnostic, b: Diagnostic) -> bool
 pub fn instance_count(context: &[u32]) -> u32
     ensures { λ r. ⌜ r ≡ Lent.instanceCount (old context) ⌝ }
 {
-    get32(context, 12484)
+    get32(context, DIAGNOSTIC_COUNT)
 }
 
 // Record k of the diagnostics.

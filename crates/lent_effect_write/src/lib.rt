@@ -12,18 +12,11 @@ use lent_effects::kind_word;
 use lent_effects::put_captures;
 use lent_effects::put_one;
 use lent_effects::put_two;
+use lent_layout::ONE_RUN;
 use lent_tables::Table;
 use lent_tables::field;
 use lent_tables::put_field;
 use lent_tables::put_place;
-
-// The table of the captures that stand beside an effect: one record of 81 words.
-// A count, then sixteen places of five words.
-const ONE_RUN: Table = Table {
-    base: 0,
-    count: 1,
-    width: 81,
-};
 
 // A code, a place and a diagnostic are written as record i.
 // Both numbers of the diagnostic stand in the record.

@@ -12,6 +12,8 @@ use Rattle.lent_tables.specs.declared.Table.{Table}
 use Rattle.lent_tables.specs.Words.{field, putField, placeIn, putPlace, placesIn, putPlaces}
 use Rattle.lent_effects.specs.declared.AliasingEffect.{AliasingEffect as Head}
 use Rattle.lent_effects.specs.declared.AliasingEffect.the-variants as Head
+use Rattle.lent_layout.specs.Layout.{oneRun}
+use Rattle.lent_layout.specs.Layout as Layout
 
 -- the words of one record, in their order
 -- a destination is the second place, any other the first
@@ -49,11 +51,6 @@ captures = 17
 unfoldable pub countedPlaces : Table → List ℕ → ℕ → ℕ → List Place
 countedPlaces t c i w = placesIn t c i (w + 1) 0 (field t c i w)
 
--- the captures of an effect beside its head: one record of 81 words, a count and sixteen places
--- the code hands them down as a slice, since an enum holds no list
-abbrev pub oneRun : Table
-oneRun = record { base = 0; count = 1; width = 81 }
-
 -- the slice with the count and the captures of record i copied into it, from word k on
 -- the record may change while they are gone through
 unfoldable pub copiedFrom : Table → List ℕ → ℕ → ℕ → ℕ → List ℕ → List ℕ
@@ -63,7 +60,7 @@ copiedFrom t c i k (suc n) ws = copiedFrom t c i (suc k) n (set ws k (field t c 
 -- the slice with all 81 words copied
 -- what `copy_captures` leaves in it
 abbrev pub copiedCaptures : Table → List ℕ → ℕ → List ℕ → List ℕ
-copiedCaptures t c i ws = copiedFrom t c i 0 81 ws
+copiedCaptures t c i ws = copiedFrom t c i 0 (oneRun .width) ws
 
 -- the places of such a slice
 abbrev pub capturesOf : List ℕ → List Place
@@ -168,8 +165,3 @@ module _ (t : Table) (c : List ℕ) (i : ℕ) where
   putEffect (MutateGlobal p d) = reported 15 p d
   putEffect (Impure p d) = reported 16 p d
   putEffect (Render p) = onePlace 17 p
-
--- candidates are lent as records of 98 words
--- "candidates (64)"
-abbrev pub candidateTable : Table
-candidateTable = record { base = 0; count = 64; width = 98 }

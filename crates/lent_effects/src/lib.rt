@@ -10,6 +10,8 @@ ghost use Rattle.lent_slices.specs.Lent.{old, new};
 use def_effects::AliasingDiagnostic;
 use def_effects::Place;
 use def_kinds::ValueKind;
+use lent_layout::ONE_RUN;
+use lent_layout::RUN_WORDS;
 use lent_slices::set32;
 use lent_tables::Table;
 use lent_tables::field;
@@ -87,14 +89,6 @@ pub enum AliasingEffect {
     },
 }
 
-// The table of the captures that stand beside an effect: one record of 81 words.
-// A count, then sixteen places of five words.
-const ONE_RUN: Table = Table {
-    base: 0,
-    count: 1,
-    width: 81,
-};
-
 // The number of a kind, as a word.
 // This is kind as u32 of the Rust.
 pub fn kind_word(k: ValueKind) -> u32
@@ -154,7 +148,7 @@ pub fn copy_captures(t: Table, xs: &[u32], i: usize, out: &mut [u32])
     ensures { λ _. ⌜ new out ≡ copiedCaptures t (old xs) i (old out) ⌝ }
 {
     let mut k: usize = 0;
-    while k < 81 {
+    while k < RUN_WORDS {
         set32(out, k, field(t, xs, i, 17 + k));
         k += 1;
     }

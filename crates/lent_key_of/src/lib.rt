@@ -19,16 +19,9 @@ use lent_keys::is_other;
 use lent_keys::same_head;
 use lent_keys::same_numbers;
 use lent_keys::taken;
+use lent_layout::ONE_RUN;
 use lent_tables::Table;
 use lent_tables::field;
-
-// The table of the captures that stand beside a key: one record of 81 words.
-// A count, then sixteen places of five words.
-const ONE_RUN: Table = Table {
-    base: 0,
-    count: 1,
-    width: 81,
-};
 
 // The key of an effect with one place that is no destination.
 // Reason and identity are 0 where the key has none.

@@ -7,13 +7,15 @@ ghost use Rattle.def_effects.specs.Places.{identifiers};
 ghost use Rattle.base_tests.specs.Tests.{ite};
 ghost use Rattle.lent_tables.specs.Words as Words;
 ghost use Rattle.def_transfer.specs.Pure.{isKey};
-ghost use Rattle.lent_effects.specs.Records.{capturesOf, oneRun};
+ghost use Rattle.lent_effects.specs.Records.{capturesOf};
 ghost use Rattle.lent_keys.specs.KeyRecords.{isOther, optionOf, keyWith, sameHead, numbersIn, putNumbers, optionIn, putOption, keyHeadIn, keyIn, putHead, putKey};
 ghost use Rattle.lent_slices.specs.Lent.{old, new};
+use lent_layout::ONE_RUN;
 use lent_slices::wide32;
 use lent_tables::Table;
 use lent_tables::field;
 use lent_tables::put_field;
+ghost use Rattle.lent_layout.specs.Layout.{oneRun};
 
 // A number that may be absent.
 // The language has no option; find functions answer with it too.
@@ -34,14 +36,6 @@ pub struct Key {
     pub identity: u32,
     pub captured: bool,
 }
-
-// The table of the captures that stand beside a key: one record of 81 words.
-// A count, then sixteen places of five words.
-const ONE_RUN: Table = Table {
-    base: 0,
-    count: 1,
-    width: 81,
-};
 
 // Whether two numbers that may be absent are equal.
 fn same_option(a: Found, b: Found) -> bool

@@ -5,7 +5,7 @@ ghost use Rattle.def_effects.specs.Keys.{effectKey, eqKey};
 ghost use Rattle.def_effects.specs.Places.{identifiers};
 ghost use Rattle.lent_effects.specs.Records.{effectIn, effectWith, capturesOf};
 ghost use Rattle.lent_keys.specs.KeyRecords.{optionOf, keyWith};
-ghost use Rattle.lent_context.specs.Layout as Layout;
+ghost use Rattle.lent_layout.specs.Layout as Layout;
 ghost use Rattle.lent_context.specs.Lent as Lent;
 ghost use Rattle.lent_context.specs.Lent.{effectAt};
 ghost use Rattle.lent_slices.specs.Lent.{old};
@@ -17,23 +17,9 @@ use lent_key_of::key_of;
 use lent_keys::Found;
 use lent_keys::Key;
 use lent_keys::record_has_key;
+use lent_layout::CACHED;
+use lent_layout::INTERNED;
 use lent_slices::wide32;
-use lent_tables::Table;
-
-// The key under which each fresh number was handed out, or none.
-// Document 01's cached numbers.
-const CACHED: Table = Table {
-    base: 18629,
-    count: 512,
-    width: 28,
-};
-
-// Interned effects: the first effect under a key.
-const INTERNED: Table = Table {
-    base: 35269,
-    count: 2048,
-    width: 98,
-};
 
 // Whether interned effect k has a key; the key's captures stand beside it.
 // An effect of another code is passed over by its first word.

@@ -16,11 +16,7 @@ use Rattle.lent_work.specs.Access.{accessOf}
 use Rattle.lent_work.specs.declared.Run.{Run}
 use Rattle.lent_work.specs.Marks.{noMarks, isMarked, marked}
 use Rattle.lent_context.specs.Lent as Lent
-
--- "The output list has 1,120 records (32 + 64 × 17, so it suffices)"
--- 98 words each
-abbrev pub output : Table
-output = record { base = 0; count = 1120; width = 98 }
+use Rattle.lent_layout.specs.Layout.{output, outputWords}
 
 -- the effects listed so far: the words of the output list, and how many effects they hold
 -- an effect is listed as the record after the last
@@ -76,7 +72,7 @@ lent = record {
   isInitialized = isMarked;
   putInitialized = marked;
   Listed = Listed;
-  noneListed = record { words = zeros 109760; count = 0 };
+  noneListed = record { words = zeros outputWords; count = 0 };
   putListed = putListed;
   oneMore = oneMore;
   accessOf = accessOf;

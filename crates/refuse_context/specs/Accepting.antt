@@ -8,7 +8,7 @@ use lib.Dec.{eqb, ltb}
 use lib.ListN.{getD}
 use Rattle.base_tests.specs.Tests.{ite}
 use Rattle.lent_tables.specs.Words.{field}
-use Rattle.lent_context.specs.Layout as Layout
+use Rattle.lent_layout.specs.Layout as Layout
 use Rattle.lent_context.specs.Lent.{internedCount, instanceCount}
 use Rattle.refuse_class.specs.Class.{lower}
 use Rattle.refuse_words.specs.Classes.{lowestBelow, earns, wordClass, strayAfter}

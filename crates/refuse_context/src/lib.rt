@@ -7,9 +7,18 @@ ghost use Rattle.refuse_context.specs.Accepting.{tooManyCaptures, cached
 ghost use Rattle.lent_slices.specs.Lent.{old};
 use lent_context::interned_count;
 use lent_diagnostics::instance_count;
+use lent_layout::CACHED;
+use lent_layout::CONTEXTS;
+use lent_layout::DIAGNOSTICS;
+use lent_layout::FUNCTION_COUNT;
+use lent_layout::FUNCTIONS;
+use lent_layout::IDENTIFIER_COUNT;
+use lent_layout::IDENTIFIERS;
+use lent_layout::INTERNED;
+use lent_layout::LINKS;
+use lent_layout::OPTIONS;
 use lent_slices::get32;
 use lent_slices::wide32;
-use lent_tables::Table;
 use lent_tables::field;
 use refuse_class::lower;
 use refuse_instruction::effect_class;
@@ -25,57 +34,6 @@ use refuse_tables::message_class;
 use refuse_words::earns;
 use refuse_words::stray_after;
 use refuse_words::word_class;
-
-// Identifiers: flags, name, access span.
-const IDENTIFIERS: Table = Table {
-    base: 3,
-    count: 512,
-    width: 4,
-};
-
-// Functions: flags, count of context places, count of places mutated inside, 32 such places.
-const FUNCTIONS: Table = Table {
-    base: 2051,
-    count: 64,
-    width: 163,
-};
-
-// The context places of each function, sixteen of five words.
-const CONTEXTS: Table = Table {
-    base: 12485,
-    count: 64,
-    width: 80,
-};
-
-// The function of each fresh number: 0, or 1 and the function.
-// Document 01's function links.
-const LINKS: Table = Table {
-    base: 17605,
-    count: 512,
-    width: 2,
-};
-
-// The key under which each fresh number was handed out, or none.
-// Document 01's cached numbers.
-const CACHED: Table = Table {
-    base: 18629,
-    count: 512,
-    width: 28,
-};
-
-// Diagnostics: identity, identifier, message case, sentence, name, access span, own span.
-const DIAGNOSTICS: Table = Table {
-    base: 32965,
-    count: 256,
-    width: 9,
-};
-
-// Interned effects: the first effect under a key.
-const INTERNED: Table = Table {
-    base: 35269,
-    count: 2048,
-    width: 98,
-};
 
 // ---- records that may repeat one before them
 
@@ -295,10 +253,10 @@ fn effects_class(context: &[u32], identifiers: u32, functions: u32) -> u32
 fn counts_wrong(context: &[u32], identifiers: u32, functions: u32) -> bool
     ensures { λ r. ⌜ r ≡ countsWrong identifiers functions (old context) ⌝ }
 {
-    if get32(context, 1) != identifiers {
+    if get32(context, IDENTIFIER_COUNT) != identifiers {
         return true;
     }
-    if get32(context, 2) != functions {
+    if get32(context, FUNCTION_COUNT) != functions {
         return true;
     }
     if functions > 64 {
@@ -315,7 +273,7 @@ fn counts_wrong(context: &[u32], identifiers: u32, functions: u32) -> bool
 fn tables_class(context: &[u32], identifiers: u32, functions: u32, next: u32) -> u32
     ensures { λ r. ⌜ r ≡ tablesClass identifiers functions (old context) next ⌝ }
 {
-    let options = word_class(5, get32(context, 0));
+    let options = word_class(5, get32(context, OPTIONS));
     let names = identifiers_class(context, identifiers);
     let bodies = functions_class(context, identifiers, functions);
     let links = links_class(context, functions, next);

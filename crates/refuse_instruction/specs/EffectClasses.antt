@@ -11,11 +11,11 @@ use Rattle.def_kinds.specs.Reasons.{reasonCount}
 use Rattle.def_effects.specs.declared.Place.{Place}
 use Rattle.lent_tables.specs.declared.Table.{Table}
 use Rattle.lent_tables.specs.Words.{field}
-use Rattle.lent_context.specs.Layout as Layout
+use Rattle.lent_layout.specs.Layout as Layout
 use Rattle.lent_context.specs.Lent.{instanceCount}
 use Rattle.refuse_class.specs.Class.{lower}
 use Rattle.refuse_words.specs.Classes.{lowestBelow, earns, usedIf, any, placeLimit, runLimit, recordClass}
-use Rattle.lent_effects.specs.Records.{candidateTable}
+use Rattle.lent_layout.specs.Layout.{candidateTable}
 
 -- ---- what an effect uses
 

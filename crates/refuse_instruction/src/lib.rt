@@ -7,10 +7,11 @@ ghost use Rattle.base_tests.specs.Tests.{ite};
 ghost use Rattle.refuse_words.specs.Classes.{limitOf, lowestBelow, recordClass};
 ghost use Rattle.refuse_words.specs.Classes as Classes;
 ghost use Rattle.refuse_instruction.specs.EffectClasses.{uses, middleLimit, effectLimit, countClass, numbersClass, effectClass, placeClass, instructionClass};
-ghost use Rattle.lent_effects.specs.Records.{candidateTable};
 ghost use Rattle.lent_slices.specs.Lent.{old};
 use def_effects::Place;
 use lent_diagnostics::instance_count;
+use lent_layout::CANDIDATES;
+use lent_layout::DIAGNOSTICS;
 use lent_slices::wide32;
 use lent_tables::Table;
 use lent_tables::field;
@@ -19,21 +20,7 @@ use refuse_words::place_limit;
 use refuse_words::run_limit;
 use refuse_words::used_if;
 use refuse_words::word_class;
-
-// Diagnostics: identity and eight more words.
-// The identity of an effect's diagnostic is looked up in the table.
-const DIAGNOSTICS: Table = Table {
-    base: 32965,
-    count: 256,
-    width: 9,
-};
-
-// Candidates are lent as 64 records of 98 words.
-const CANDIDATES: Table = Table {
-    base: 0,
-    count: 64,
-    width: 98,
-};
+ghost use Rattle.lent_layout.specs.Layout.{candidateTable};
 
 // 1 where an effect of a code uses a place that is no destination.
 // Create and CreateFunction have none, and of an Apply nothing is used.

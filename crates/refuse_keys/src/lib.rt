@@ -1,25 +1,17 @@
 // Refusals 3 and 4 of the key that a cached number stands under.
 ghost use mathlib.Core.Path.{_≡_};
 ghost use Rattle.refuse_words.specs.Classes.{limitOf, recordClass};
-ghost use Rattle.lent_context.specs.Layout as Layout;
+ghost use Rattle.lent_layout.specs.Layout as Layout;
 ghost use Rattle.refuse_tables.specs.TableClasses.{keyUses, keyHeadLimit, keyLimit, partLacks, keyLacks, keyClass, noKeyClass};
 ghost use Rattle.lent_slices.specs.Lent.{old};
+use lent_layout::CACHED;
 use lent_slices::wide32;
-use lent_tables::Table;
 use lent_tables::field;
 use refuse_class::lower;
 use refuse_instruction::is_code;
 use refuse_words::earns;
 use refuse_words::used_if;
 use refuse_words::word_class;
-
-// The key under which each fresh number was handed out, or none.
-// Document 01's cached numbers.
-const CACHED: Table = Table {
-    base: 18629,
-    count: 512,
-    width: 28,
-};
 
 // 1 where a cached key of a code uses a source.
 // CreateFrom and the two keys of Assign.

@@ -11,7 +11,7 @@ use Rattle.def_transfer.specs.Pure.{firstCached, identities, findEffect, findId
 use Rattle.lent_tables.specs.Words.{field}
 use Rattle.lent_effects.specs.Records.{effectIn}
 use Rattle.lent_keys.specs.KeyRecords.{keyHeadIn, numbersIn}
-use Rattle.lent_context.specs.Layout as Layout
+use Rattle.lent_layout.specs.Layout as Layout
 use Rattle.lent_context.specs.Lent.{effectsIn, keyAt, diagnosticIn, diagnosticsIn}
 
 -- ---- interned effects

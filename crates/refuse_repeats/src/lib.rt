@@ -7,7 +7,7 @@ ghost use Rattle.base_tests.specs.Tests.{isSome};
 ghost use Rattle.def_transfer.specs.Pure.{isKey, identities, findEffect, findIdentity, findInstance};
 ghost use Rattle.lent_effects.specs.Records.{effectIn, capturesOf};
 ghost use Rattle.lent_keys.specs.KeyRecords.{optionOf, keyWith, keyIn};
-ghost use Rattle.lent_context.specs.Layout as Layout;
+ghost use Rattle.lent_layout.specs.Layout as Layout;
 ghost use Rattle.lent_context.specs.Lent.{effectsIn, diagnosticsIn};
 ghost use Rattle.refuse_repeats.specs.Repeats.{internedTwice, keyHere, keyTwice, rightIdentity, diagnosticTwice};
 ghost use Rattle.lent_slices.specs.Lent.{old};
@@ -27,31 +27,12 @@ use lent_keys::head_in;
 use lent_keys::is_other;
 use lent_keys::same_head;
 use lent_keys::same_numbers;
+use lent_layout::CACHED;
+use lent_layout::DIAGNOSTICS;
+use lent_layout::INTERNED;
+use lent_layout::RUN_WORDS;
 use lent_slices::wide32;
-use lent_tables::Table;
 use lent_tables::field;
-
-// The key under which each fresh number was handed out, or none.
-// Document 01's cached numbers.
-const CACHED: Table = Table {
-    base: 18629,
-    count: 512,
-    width: 28,
-};
-
-// Diagnostics: identity and eight more words.
-const DIAGNOSTICS: Table = Table {
-    base: 32965,
-    count: 256,
-    width: 9,
-};
-
-// Interned effects: the first effect under a key.
-const INTERNED: Table = Table {
-    base: 35269,
-    count: 2048,
-    width: 98,
-};
 
 // ---- interned effects
 
@@ -101,7 +82,7 @@ fn effect_before(context: &[u32], n: usize, key: Key, captures: &[u32]) -> bool
 pub fn interned_twice(context: &[u32], k: usize) -> bool
     ensures { λ r. ⌜ r ≡ internedTwice (old context) k ⌝ }
 {
-    let mut captures = [0u32; 81];
+    let mut captures = [0u32; RUN_WORDS];
     copy_captures(INTERNED, context, k, &mut captures);
     let key = key_of(effect_in(INTERNED, context, k));
     effect_before(context, k, key, &captures)

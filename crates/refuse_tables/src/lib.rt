@@ -2,52 +2,20 @@
 // One loop goes over the words of a record, each against a limit; every function is total, and its contract is one equation.
 ghost use mathlib.Core.Path.{_≡_};
 ghost use Rattle.refuse_words.specs.Classes.{limitOf, runLimit, recordClass};
-ghost use Rattle.lent_context.specs.Layout as Layout;
+ghost use Rattle.lent_layout.specs.Layout as Layout;
 ghost use Rattle.refuse_tables.specs.TableClasses.{identifierLimit, identifierClass, functionLimit, needsKnown, placesClass, functionClass, linkLimit, linkClass, diagnosticLimit, labelClass, messageClass};
 ghost use Rattle.lent_slices.specs.Lent.{old};
-use lent_tables::Table;
+use lent_layout::CONTEXTS;
+use lent_layout::DIAGNOSTICS;
+use lent_layout::FUNCTIONS;
+use lent_layout::IDENTIFIERS;
+use lent_layout::LINKS;
 use lent_tables::field;
 use refuse_class::lower;
 use refuse_words::earns;
 use refuse_words::run_limit;
 use refuse_words::used_if;
 use refuse_words::word_class;
-
-// Identifiers: flags, name, access span.
-const IDENTIFIERS: Table = Table {
-    base: 3,
-    count: 512,
-    width: 4,
-};
-
-// Functions: flags, count of context places, count of places mutated inside, 32 such places.
-const FUNCTIONS: Table = Table {
-    base: 2051,
-    count: 64,
-    width: 163,
-};
-
-// The context places of each function, sixteen of five words.
-const CONTEXTS: Table = Table {
-    base: 12485,
-    count: 64,
-    width: 80,
-};
-
-// The function of each fresh number: 0, or 1 and the function.
-// Document 01's function links.
-const LINKS: Table = Table {
-    base: 17605,
-    count: 512,
-    width: 2,
-};
-
-// Diagnostics: identity, identifier, message case, sentence, name, access span, own span.
-const DIAGNOSTICS: Table = Table {
-    base: 32965,
-    count: 256,
-    width: 9,
-};
 
 // ---- identifiers
 

@@ -8,10 +8,10 @@ use Rattle.def_transfer.specs.Monad.{each}
 use Rattle.def_transfer.specs.Step as Text
 use Rattle.lent_context.specs.Lent.{effectsIn}
 use Rattle.lent_world.specs.World.{world}
-use Rattle.lent_effects.specs.Records.{candidateTable}
 use Rattle.call_parts.specs.Laws.Instruction.{candidates-start, candidates-next, candidates-stop, candidates-end}
 use Rattle.call_candidates.proofs.candidates_in_order.Statement.{statement}
 use Rattle.call_candidates.proofs.candidates_in_order.Tie as tie
+use Rattle.lent_layout.specs.Layout.{candidateTable}
 
 abbrev Inv-loop : tie.InvT-loop
 Inv-loop values₀ sets₀ context₀ output₀ candidates count now₀ k₀ values sets context output now k =

@@ -7,10 +7,10 @@ use Rattle.def_transfer.specs.Monad.{each}
 use Rattle.def_transfer.specs.Instruction.{earlyError}
 use Rattle.lent_tables.specs.Words.{placesIn}
 use Rattle.lent_world.specs.World.{world}
-use Rattle.call_parts.specs.Instructions.{insideRun}
 use Rattle.call_parts.specs.Laws.Instruction.{places-start, places-next, places-stop, places-end}
 use Rattle.call_early.proofs.early_all.Statement.{statement}
 use Rattle.call_early.proofs.early_all.Tie as tie
+use Rattle.lent_layout.specs.Layout.{insideRun}
 
 abbrev Inv-loop : tie.InvT-loop
 Inv-loop values sets context₀ output₀ f places n now₀ k₀ context output now k =

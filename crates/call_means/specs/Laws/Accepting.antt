@@ -20,7 +20,7 @@ use Rattle.lent_tables.specs.declared.Table.{Table}
 use Rattle.lent_tables.specs.Words.{field, placeIn, placesIn}
 use Rattle.lent_effects.specs.declared.AliasingEffect.{AliasingEffect as Head}
 use Rattle.lent_effects.specs.declared.AliasingEffect.the-variants as Head
-use Rattle.lent_effects.specs.Records.{countedPlaces, effectWith, heads, headIn, effectIn, candidateTable}
+use Rattle.lent_effects.specs.Records.{countedPlaces, effectWith, heads, headIn, effectIn}
 use Rattle.lent_context.specs.Lent.{effectsIn, instanceCount}
 use Rattle.base_tests.specs.Laws.Bool.{or-no-first}
 use Rattle.refuse_class.specs.Laws.Class.{lower-0}
@@ -28,6 +28,7 @@ use Rattle.refuse_words.specs.Classes.{lowestBelow, earns, wordClass, usedIf, p
 use Rattle.refuse_words.specs.Laws.Class.{run-used}
 use Rattle.refuse_instruction.specs.EffectClasses.{uses, usedParts, countClass, effectLimit, effectClass, placeClass, instructionClass}
 use Rattle.def_faithful.specs.Laws.Steps.{Fine}
+use Rattle.lent_layout.specs.Layout.{candidateTable}
 
 earns-none : (n : ℕ) (b : Bool) → earns (suc n) b ≡ 0 → b ≡ false
 earns-none n true e = absurd (omega arith)

@@ -16,10 +16,10 @@ use Rattle.def_transfer.specs.State.{change}
 use Rattle.def_transfer.specs.Instruction.{Instruction, run, applySignature}
 use Rattle.def_transfer.specs.Pure.{pure}
 use Rattle.def_transfer.specs.Laws.Pure.{found-key}
-use Rattle.lent_context.specs.Layout as Layout
+use Rattle.lent_layout.specs.Layout as Layout
 use Rattle.lent_context.specs.Lent as Lent
 use Rattle.lent_context.specs.Lent.{effectsIn}
-use Rattle.lent_world.specs.World.{lent, output}
+use Rattle.lent_world.specs.World.{lent}
 use Rattle.refuse_entries.specs.Words.{identifiers}
 use Rattle.refuse_entries.specs.Laws.Accepted.{accepted-lent}
 use Rattle.call_parts.specs.Instructions.{instructionOf}
@@ -35,6 +35,7 @@ use Rattle.def_faithful.specs.Laws.Steps.{Fine, call-means}
 use Rattle.lent_context.specs.Abstract.{abstract}
 use Rattle.lent_world.specs.Laws.LentFaithful.{Holds, lent-faithful}
 use Rattle.call_means.specs.Laws.Accepting.{candidates-fine, lvalue-named}
+use Rattle.lent_layout.specs.Layout.{output}
 
 -- ---- bounds, over plain tables
 

@@ -16,7 +16,7 @@ use Rattle.base_tests.specs.Laws.Order.{lt-or-ge, same-or-not}
 use Rattle.def_effects.specs.declared.Place.{Place}
 use Rattle.def_effects.specs.declared.Session.{Session}
 use Rattle.lent_tables.specs.Words.{index}
-use Rattle.lent_context.specs.Layout as Layout
+use Rattle.lent_layout.specs.Layout as Layout
 use Rattle.lent_context.specs.Lent.{internedCount}
 use Rattle.refuse_entries.specs.Words.{identifiers, wrongLengths, stateRefusal}
 use Rattle.refuse_entries.specs.Laws.State.{lengths-fit, refused-1}

@@ -14,7 +14,7 @@ use Rattle.def_transfer.specs.Tables.{World}
 use Rattle.def_transfer.specs.Instruction.{Instruction, applySignature}
 use Rattle.def_transfer.specs.Reach.{Ends}
 use Rattle.def_transfer.specs.Reach as Reach
-use Rattle.lent_context.specs.Layout as Layout
+use Rattle.lent_layout.specs.Layout as Layout
 use Rattle.lent_world.specs.World.{lent}
 use Rattle.lent_world.specs.Laws.LentLawful.{Sized, lent-isolation}
 use Rattle.refuse_entries.specs.Words.{identifiers}

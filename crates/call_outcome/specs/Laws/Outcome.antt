@@ -23,7 +23,7 @@ use Rattle.def_transfer.specs.Instruction.{startInstruction, run, applySignatur
 use Rattle.laws_monad.specs.Answers.{answer}
 use Rattle.laws_monad.specs.Laws.Answers.{answer-ok, answer-refused}
 use Rattle.lent_work.specs.declared.Run.{Run}
-use Rattle.lent_context.specs.Layout as Layout
+use Rattle.lent_layout.specs.Layout as Layout
 use Rattle.lent_world.specs.World.{lent, world}
 use Rattle.lent_world.specs.Laws.LentLawful.{after}
 use Rattle.refuse_entries.specs.Words.{identifiers}

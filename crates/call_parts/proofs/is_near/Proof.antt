@@ -5,7 +5,7 @@ use Prim.Native.Nat.{_-_}
 use Rattle.def_effects.specs.Places.{identifiers}
 use Rattle.def_transfer.specs.Instruction.{has}
 use Rattle.lent_tables.specs.Words.{placesIn}
-use Rattle.lent_context.specs.Layout as Layout
+use Rattle.lent_layout.specs.Layout as Layout
 use Rattle.call_parts.specs.Laws.Instruction.{near-more, near-yes, near-no}
 use Rattle.call_parts.proofs.is_near.Statement.{statement}
 use Rattle.call_parts.proofs.is_near.Tie as tie

@@ -34,18 +34,19 @@ use Rattle.lent_tables.specs.Words.{index, field, placeIn, placesIn}
 use Rattle.lent_tables.specs.Laws.Word.{within-yes, within-no-word, field-in, field-out, place-of, places-more, places-none}
 use Rattle.lent_effects.specs.declared.AliasingEffect.{AliasingEffect as Head}
 use Rattle.lent_effects.specs.declared.AliasingEffect.the-variants as Head
-use Rattle.lent_effects.specs.Records.{effectIn, effectWith, headIn, capturesOf, copiedCaptures, countedPlaces, candidateTable}
+use Rattle.lent_effects.specs.Records.{effectIn, effectWith, headIn, capturesOf, copiedCaptures, countedPlaces}
 use Rattle.lent_effects.specs.Laws.Capture.{captures-copied}
 use Rattle.lent_work.specs.declared.Run.{Run}
-use Rattle.lent_context.specs.Layout as Layout
+use Rattle.lent_layout.specs.Layout as Layout
 use Rattle.lent_context.specs.Lent as Lent
 use Rattle.lent_context.specs.Lent.{effectsIn}
 use Rattle.lent_context.specs.Laws.Search.{effects-more, effects-none}
 use Rattle.laws_monad.specs.Answers.{answer}
 use Rattle.laws_monad.specs.Laws.Answers.{bind-ok, bind-goes, bind-refused, then-goes, then-refused, if-true, if-false, each-goes, each-refused, each-ends, done-ok}
 use Rattle.lent_world.specs.World.{lent, world}
-use Rattle.call_parts.specs.Instructions.{instructionOf, insideRun, insidePlaces, copiedInsideFrom, copiedInside, keptEntries}
+use Rattle.call_parts.specs.Instructions.{instructionOf, insidePlaces, copiedInsideFrom, copiedInside, keptEntries}
 use Rattle.def_transfer.specs.Instruction.{ownOf}
+use Rattle.lent_layout.specs.Layout.{candidateTable, insideRun}
 
 -- ---- an identifier among the context places of a function
 

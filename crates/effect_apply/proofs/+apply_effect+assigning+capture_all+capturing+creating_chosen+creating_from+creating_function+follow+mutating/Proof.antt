@@ -8,7 +8,6 @@ use Rattle.def_transfer.specs.Monad.{each}
 use Rattle.def_transfer.specs.Step as Text
 use Rattle.def_effects.specs.Effects as Effects
 use Rattle.lent_tables.specs.Words.{placesIn}
-use Rattle.lent_effects.specs.Records.{oneRun}
 use Rattle.lent_world.specs.World.{world}
 use Rattle.effect_apply.specs.Laws.Step.{step-none, step-refused, step-acts, arm-plain, arm-mutating, arm-flowing, arm-assigning, arm-from, arm-function, follow-nothing, follow-itself, follow-derived, part-stops, part-goes, created-follows, assign-plain, assign-stops, assign-goes, captures-start, captures-next, captures-stop, captures-end, chosen-copied}
 use borrow.Fn.Kinds.{In}
@@ -57,6 +56,7 @@ use Rattle.lent_tables.proofs.field.Reads as field-reads
 use Rattle.lent_tables.proofs.place_in.Reads as place-in-reads
 use Rattle.effect_apply.proofs.+apply_effect+assigning+capture_all+capturing+creating_chosen+creating_from+creating_function+follow+mutating.{statement}
 use Rattle.effect_apply.proofs.+apply_effect+assigning+capture_all+capturing+creating_chosen+creating_from+creating_function+follow+mutating.Tie.{close}
+use Rattle.lent_layout.specs.Layout.{oneRun}
 
 abbrev μ-assigning : Measures 5 assigning-kinds.ps ℕ
 μ-assigning κs a = 4 * a .1 .1 .1 .1 .1 .0 + 2

@@ -18,7 +18,7 @@ use Rattle.lent_tables.specs.Words.{field, placeIn, placesIn}
 use Rattle.lent_tables.specs.Laws.Word.{places-more, places-none}
 use Rattle.lent_effects.specs.declared.AliasingEffect.{AliasingEffect as Head}
 use Rattle.lent_effects.specs.declared.AliasingEffect.the-variants as Head
-use Rattle.lent_effects.specs.Records.{effectWith, capturesOf, countedPlaces, oneRun}
+use Rattle.lent_effects.specs.Records.{effectWith, capturesOf, countedPlaces}
 use Rattle.laws_monad.specs.Answers.{answer}
 use Rattle.laws_monad.specs.Laws.Answers.{bind-refused, bind-goes, then-goes, then-refused, if-true, if-false, each-goes, each-refused, each-ends, done-ok}
 use Rattle.lent_world.specs.World.{lent}
@@ -32,6 +32,7 @@ use Rattle.effect_flow.specs.Flows.{flows}
 use Rattle.effect_create.specs.Creations as Creations
 use Rattle.effect_create.specs.Creations.{numbered, assigned}
 use Rattle.effect_apply.specs.Steps.{does, creates}
+use Rattle.lent_layout.specs.Layout.{oneRun}
 
 -- ---- the step: interned, then acted on
 

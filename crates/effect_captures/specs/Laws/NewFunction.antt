@@ -25,13 +25,13 @@ use Rattle.def_transfer.specs.Step.{create, anyWritten, anyRef, updateContext}
 use Rattle.lent_tables.specs.Words.{index, field, placesIn}
 use Rattle.lent_tables.specs.Laws.Word.{within-yes, within-no-word, field-in, field-out, places-cong}
 use Rattle.lent_effects.specs.declared.AliasingEffect.the-variants as Head
-use Rattle.lent_effects.specs.Records.{effectWith, capturesOf, countedPlaces, oneRun, copiedCaptures}
+use Rattle.lent_effects.specs.Records.{effectWith, capturesOf, countedPlaces, copiedCaptures}
 use Rattle.lent_effects.specs.Laws.Capture.{captures-copied}
 use Rattle.lent_keys.specs.declared.Key.{Key}
 use Rattle.lent_keys.specs.declared.Found.{Found}
 use Rattle.lent_keys.specs.declared.Found.the-variants.{Nowhere, At}
 use Rattle.lent_keys.specs.KeyRecords.{keyWith}
-use Rattle.lent_context.specs.Layout as Layout
+use Rattle.lent_layout.specs.Layout as Layout
 use Rattle.lent_context.specs.Lent as Lent
 use Rattle.lent_work.specs.declared.Run.{Run}
 use Rattle.laws_monad.specs.Answers.{answer}
@@ -41,6 +41,7 @@ use Rattle.effect_intern.specs.Interning.{chosen}
 use Rattle.effect_acts.specs.Acts.{sequel}
 use Rattle.effect_acts.specs.Laws.Sequel.{sequel-refused}
 use Rattle.effect_captures.specs.NewFunctions.{functionKind, linked}
+use Rattle.lent_layout.specs.Layout.{oneRun}
 
 -- ---- a new function
 

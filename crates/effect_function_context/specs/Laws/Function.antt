@@ -24,13 +24,14 @@ use Rattle.lent_values.specs.Cells.{valueAt}
 use Rattle.lent_sets.specs.Rows.{setAt}
 use Rattle.lent_tables.specs.Words.{index, field, placeIn, placesIn}
 use Rattle.lent_tables.specs.Laws.Word.{within-yes, within-no-word, field-in, field-out, place-of, places-more, places-none}
-use Rattle.lent_effects.specs.Records.{capturesOf, countedPlaces, oneRun}
+use Rattle.lent_effects.specs.Records.{capturesOf, countedPlaces}
 use Rattle.lent_work.specs.declared.Run.{Run}
-use Rattle.lent_context.specs.Layout as Layout
+use Rattle.lent_layout.specs.Layout as Layout
 use Rattle.lent_context.specs.Lent as Lent
 use Rattle.laws_monad.specs.Laws.Answers.{if-true, if-false, each-ok}
 use Rattle.lent_world.specs.World.{world}
 use Rattle.effect_function_context.specs.Functions.{copiedPlaces, copiedContext}
+use Rattle.lent_layout.specs.Layout.{oneRun}
 
 -- ---- context places that are refs
 

@@ -19,7 +19,7 @@ use Rattle.lent_effects.specs.Records.{effectWith, headIn, effectIn, countedPla
 use Rattle.lent_keys.specs.declared.Found.{Found}
 use Rattle.lent_keys.specs.declared.Found.the-variants.{Nowhere, At}
 use Rattle.lent_keys.specs.KeyRecords.{optionOf}
-use Rattle.lent_context.specs.Layout as Layout
+use Rattle.lent_layout.specs.Layout as Layout
 use Rattle.lent_context.specs.Lent as Lent
 use Rattle.lent_context.specs.Lent.{effectAt}
 use Rattle.lent_work.specs.declared.Run.{Run}

@@ -25,16 +25,17 @@ use Rattle.lent_values.specs.Cells.{valueAt, putValue}
 use Rattle.lent_sets.specs.Rows.{setAt, putSet}
 use Rattle.lent_tables.specs.Words.{field, placeIn, placesIn}
 use Rattle.lent_tables.specs.Laws.Word.{places-more, places-none}
-use Rattle.lent_effects.specs.Records.{putEffect, capturesOf, countedPlaces, oneRun}
+use Rattle.lent_effects.specs.Records.{putEffect, capturesOf, countedPlaces}
 use Rattle.lent_work.specs.declared.Run.{Run}
 use Rattle.lent_work.specs.declared.Marks.{Marks}
 use Rattle.lent_work.specs.Marks.{isMarked, marked}
 use Rattle.laws_monad.specs.Answers.{answer}
 use Rattle.laws_monad.specs.Laws.Answers.{bind-ok, if-true, if-false}
-use Rattle.lent_world.specs.World.{lent, world, output, putListed}
+use Rattle.lent_world.specs.World.{lent, world, putListed}
 use Rattle.lent_work.specs.Access.{accessOf}
 use Rattle.effect_parts.specs.Parts.{withSession, writes}
 use Rattle.state_ops.specs.Use.{afterUse}
+use Rattle.lent_layout.specs.Layout.{oneRun, output}
 
 -- ---- an effect is listed
 

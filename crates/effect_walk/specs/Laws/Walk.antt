@@ -27,7 +27,7 @@ use Rattle.state_ops.specs.Lists.{freezes}
 use Rattle.state_ops.specs.Laws.List.{At, values-start}
 use Rattle.lent_tables.specs.Words.{field, placeIn, placesIn}
 use Rattle.lent_tables.specs.Laws.Word.{places-more, places-none}
-use Rattle.lent_context.specs.Layout as Layout
+use Rattle.lent_layout.specs.Layout as Layout
 use Rattle.lent_context.specs.Lent.{linkOf, contextOf}
 use Rattle.laws_monad.specs.Answers.{answer}
 use Rattle.laws_monad.specs.Laws.Answers.{bind-ok, then-ok, then-refused, if-le, if-gt, each-goes, each-refused, each-ends}

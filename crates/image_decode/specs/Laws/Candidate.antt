@@ -14,11 +14,12 @@ use Rattle.lent_tables.specs.declared.Table.{Table}
 use Rattle.lent_tables.specs.Words.{putField, putPlace, putPlaces}
 use Rattle.lent_effects.specs.declared.AliasingEffect.{AliasingEffect as Head}
 use Rattle.lent_effects.specs.declared.AliasingEffect.the-variants as Head
-use Rattle.lent_effects.specs.Records.{effectWith, putEffect, candidateTable}
+use Rattle.lent_effects.specs.Records.{effectWith, putEffect}
 use Rattle.lent_effects.specs.Laws.Head.{lower-or-not}
 use Rattle.def_image.specs.Layout.{cell, firstPlace, secondPlace, detail, reason, function, capturesFirst, capturesCount}
 use Rattle.def_image.specs.Decode.{listFrom, placeAt, placesFrom, makers, effectAt}
 use Rattle.image_decode.specs.Decoded.{decodedCandidate, diagnosticAt, headsAt, headAt}
+use Rattle.lent_layout.specs.Layout.{candidateTable}
 
 -- ---- numbers
 

@@ -8,7 +8,7 @@ use native.Mathlib.Omega.{arith}
 use lib.ListN.{length, getD}
 use Rattle.def_effects.specs.Effects.{AliasingEffect, Render}
 use Rattle.lent_tables.specs.declared.Table.{Table}
-use Rattle.lent_effects.specs.Records.{effectIn, putEffect, candidateTable}
+use Rattle.lent_effects.specs.Records.{effectIn, putEffect}
 use Rattle.lent_effects.specs.Laws.EffectFrames.{effect-cong, effect-length, effect-record}
 use Rattle.lent_context.specs.Lent.{effectsIn}
 use Rattle.def_image.specs.Layout.{Image, code, firstPlace, capturesFirst, capturesCount}
@@ -17,6 +17,7 @@ use Rattle.image_decode.specs.Decoded.{after, decodedCandidate, decodedC
 use Rattle.image_decode.specs.Laws.Candidate.{run-length}
 use Rattle.image_decode.specs.Laws.StateBack.{after-length}
 use Rattle.lent_effects.specs.Laws.Back.{captureCount, effect-back}
+use Rattle.lent_layout.specs.Layout.{candidateTable}
 
 -- a candidate of an image in range has at most sixteen captures
 -- "first and count of captures (16)"

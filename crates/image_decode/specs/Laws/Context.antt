@@ -7,7 +7,7 @@ use lib.ListN.{getD, set}
 use Rattle.def_effects.specs.declared.Place.{Place}
 use Rattle.lent_tables.specs.declared.Table.{Table}
 use Rattle.lent_tables.specs.Words.{putField, putPlace, putPlaces}
-use Rattle.lent_context.specs.Layout as Lent
+use Rattle.lent_layout.specs.Layout as Lent
 use Rattle.def_image.specs.Layout.{word, countOf, cell}
 use Rattle.def_image.specs.Decode.{listFrom, placeAt, placesFrom}
 use Rattle.image_decode.specs.Decoded.{decodedIdentifier, decodedIdentifiers, decodedCounts, decodedFunction, decodedFunctions, decodedHeader, decodedContext}

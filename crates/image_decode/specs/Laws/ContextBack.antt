@@ -9,7 +9,7 @@ use lib.ListN.{length, set, length-set}
 use Rattle.def_effects.specs.declared.Place.{Place}
 use Rattle.lent_tables.specs.Words.{apart, end, field, putField, placesIn, putPlaces}
 use Rattle.lent_tables.specs.Laws.Word.{put-length, put-record, put-apart, places-length, places-record, places-apart, places-cong}
-use Rattle.lent_context.specs.Layout as Lent
+use Rattle.lent_layout.specs.Layout as Lent
 use Rattle.lent_context.specs.Lent.{contextOf, mutatedInside}
 use Rattle.def_image.specs.Layout.{Image, identifiers, functions, countOf, functionFlags, contextFirst, contextCount, insideFirst, insideCount, options}
 use Rattle.def_image.specs.Decode.{listFrom, placeAt, placesFrom}

@@ -10,7 +10,7 @@ use lib.Seq.{getD-set-same, getD-set-other}
 use Rattle.lent_tables.specs.declared.Table.{Table}
 use Rattle.lent_tables.specs.Words.{apart, end, field, putField}
 use Rattle.lent_tables.specs.Laws.Word.{put-length, put-record, put-apart, put-outside, places-apart, places-outside}
-use Rattle.lent_context.specs.Layout as Lent
+use Rattle.lent_layout.specs.Layout as Lent
 use Rattle.def_image.specs.Layout.{Image, cell, identifiers, functions, countOf, identifierFlags, identifierName, accessStart, accessEnd, functionFlags, contextFirst, contextCount, insideFirst, insideCount, options}
 use Rattle.def_image.specs.Decode.{placesFrom}
 use Rattle.image_decode.specs.Decoded.{after, decodedIdentifier, decodedIdentifiers, decodedCounts, decodedFunction, decodedFunctions, decodedHeader, decodedContext}

@@ -6,13 +6,13 @@ use Rattle.image_text.specs.Laws.Loops.{effects-step, effects-end}
 use Rattle.image_text.specs.Texts.{cursor, putAll}
 use Rattle.def_image.specs.Listing.{effectLines}
 use Rattle.lent_context.specs.Lent.{effectsIn}
-use Rattle.lent_world.specs.World as World
+use Rattle.lent_layout.specs.Layout as Layout
 use Rattle.lent_effects.specs.Records.{headIn}
 use Rattle.image_listing.proofs.effect_lines.Statement.{statement}
 use Rattle.image_listing.proofs.effect_lines.Tie as tie
 
 abbrev Inv-loop : tie.InvT-loop
-Inv-loop buffer₀ at output count next₀ k₀ buffer next k = (length buffer ≡ length buffer₀) × (putAll (effectLines (effectsIn World.output output k (count - k))) (cursor next buffer) ≡ putAll (effectLines (effectsIn World.output output k₀ (count - k₀))) (cursor next₀ buffer₀))
+Inv-loop buffer₀ at output count next₀ k₀ buffer next k = (length buffer ≡ length buffer₀) × (putAll (effectLines (effectsIn Layout.output output k (count - k))) (cursor next buffer) ≡ putAll (effectLines (effectsIn Layout.output output k₀ (count - k₀))) (cursor next₀ buffer₀))
 
 abbrev μ-loop : tie.MeasureT-loop
 μ-loop buffer₀ at output count next₀ k₀ buffer next k = count - k

@@ -27,9 +27,9 @@ use Rattle.base_tests.specs.Laws.Order.{lt-or-ge}
 use Rattle.refuse_entries.specs.Laws.Word.{reasons-lt}
 use Rattle.lent_tables.specs.Words.{index, field, placesIn}
 use Rattle.lent_tables.specs.Laws.Word.{field-cong, within-word}
-use Rattle.lent_effects.specs.Records.{effectIn, putEffect, candidateTable}
+use Rattle.lent_effects.specs.Records.{effectIn, putEffect}
 use Rattle.lent_effects.specs.Laws.EffectFrames.{effect-cong, effect-record, effect-length}
-use Rattle.lent_context.specs.Layout as Layout
+use Rattle.lent_layout.specs.Layout as Layout
 use Rattle.lent_context.specs.Lent.{effectsIn, internedCount}
 use Rattle.def_image.specs.Layout.{Image, wordsOf, word, identifiers, values, pairs, functions, candidates, countOf, flagTwo, capturesCount, code, functionFlags, identifierFlags, pairIdentifier, pairValue}
 use Rattle.def_image.specs.Refusals.{refusalOfWords, refusalOf}
@@ -70,6 +70,7 @@ use Rattle.call_means.specs.Meaning.{plainWorld, MeansEnd}
 use Rattle.call_means.specs.Laws.CallMeans.{Told, call-told, call-fine}
 use Rattle.call_means.specs.Laws.CallMeans as Meanings
 use Rattle.laws_image_accepted.specs.Laws.State.{set-kept}
+use Rattle.lent_layout.specs.Layout.{candidateTable}
 
 -- ---- the state
 

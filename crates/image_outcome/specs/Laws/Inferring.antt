@@ -11,7 +11,7 @@ use borrow.Author.Tests.{eqb-true, ltb-false, not-false}
 use mathlib.Core.Logic.{⊎-elim}
 use Rattle.base_tests.specs.Laws.Order.{same-or-not}
 use Rattle.base_tests.specs.Laws.Bool.{or-no-first, or-no-second}
-use Rattle.lent_context.specs.Layout as Layout
+use Rattle.lent_layout.specs.Layout as Layout
 use Rattle.lent_copies.specs.Laws.Copy.{zeros-length}
 use Rattle.base_tests.specs.Tests.{ite}
 use Rattle.base_tests.specs.Laws.Choice.{ite-eq, ite-ne}

@@ -15,11 +15,11 @@ use Rattle.lent_effects.specs.declared.AliasingEffect.{AliasingEffect as Head}
 use Rattle.lent_effects.specs.declared.AliasingEffect.the-variants as Head
 use Rattle.lent_effects.specs.Records.{headIn, effectIn, effectWith}
 use Rattle.lent_context.specs.Lent.{effectsIn}
-use Rattle.lent_world.specs.World.{output}
 use Rattle.def_image.specs.Listing.{ascii, newline, shown, shownAll, line, linesFrom, effectRow, effectLines, mutationReason, row, place, setLine, orAbsent, shownLines, undefinedIdentifier}
 use Rattle.image_text.specs.Texts.{Cursor, putAll, column, columns, headLine, listedLines, valueLines, setLines, lentListing}
 use Rattle.image_text.specs.Laws.Text.{then-put, put-append}
 use Rattle.image_text.specs.Laws.Lines.{line-word, line-column}
+use Rattle.lent_layout.specs.Layout.{output}
 
 -- ---- counted lines
 

@@ -24,13 +24,13 @@ use Rattle.lent_effects.specs.declared.AliasingEffect.{AliasingEffect as Head}
 use Rattle.lent_effects.specs.declared.AliasingEffect.the-variants as Head
 use Rattle.lent_effects.specs.Records.{heads, headIn, effectIn, effectWith, countedPlaces, captures}
 use Rattle.lent_context.specs.Lent.{effectsIn}
-use Rattle.lent_world.specs.World.{output}
 use Rattle.def_kinds.specs.Values.{mk}
 use Rattle.def_image.specs.Listing.{ascii, decimal, shown, line, mutationReason, effectRow, effectLines, valueLine, setLine, shownAll, undefinedIdentifier, orAbsent, shownLines, refusalLine}
 use Rattle.image_text.specs.Texts.{cursor, putAll, lentListing, lentRefusal, valueLines, setLines}
 use Rattle.image_text.specs.Laws.Text.{put-fits}
 use Rattle.image_text.specs.Laws.Lengths.{Small, shown-small, columns-small, absent-small, line-length, lines-length}
 use Rattle.image_text.specs.Laws.Loops.{not-shown, effects-length}
+use Rattle.lent_layout.specs.Layout.{output}
 
 -- ---- effects
 

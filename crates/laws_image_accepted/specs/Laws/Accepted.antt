@@ -5,7 +5,7 @@ use mathlib.Core.Path.{_≡_, ap, _∙_}
 use lib.ListN.{getD}
 use Rattle.lent_copies.specs.Copies.{zeros}
 use Rattle.lent_copies.specs.Laws.Copy.{zeros-length}
-use Rattle.lent_context.specs.Layout as Layout
+use Rattle.lent_layout.specs.Layout as Layout
 use Rattle.refuse_entries.specs.Words as Words
 use Rattle.refuse_instruction.specs.EffectClasses.{instructionClass}
 use Rattle.refuse_context.specs.Accepting.{contextClass}

@@ -17,7 +17,7 @@ use Rattle.lent_copies.specs.Laws.Copy.{zeros-length}
 use Rattle.lent_tables.specs.declared.Table.{Table}
 use Rattle.lent_tables.specs.Words.{within, apart, end, index, field, placesIn, putPlaces}
 use Rattle.lent_tables.specs.Laws.Word.{put-record, put-apart, set-outside, places-record, places-apart, field-in, field-out, index-begins}
-use Rattle.lent_context.specs.Layout as Layout
+use Rattle.lent_layout.specs.Layout as Layout
 use Rattle.lent_context.specs.Lent.{contextOf, mutatedInside, internedCount, instanceCount}
 use Rattle.lent_context.specs.Lent as Lent
 use Rattle.base_tests.specs.Laws.Bool.{or-neither}

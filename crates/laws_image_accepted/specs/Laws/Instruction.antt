@@ -20,7 +20,7 @@ use Rattle.def_effects.specs.Effects.{Create, CreateFunction, Render}
 use Rattle.lent_tables.specs.declared.Table.{Table}
 use Rattle.lent_tables.specs.Words.{index, field, putField, putPlace, putPlaces}
 use Rattle.lent_tables.specs.Laws.Word.{put-length, place-length, field-cong, within-word}
-use Rattle.lent_effects.specs.Records.{putEffect, candidateTable}
+use Rattle.lent_effects.specs.Records.{putEffect}
 use Rattle.lent_effects.specs.Laws.EffectFrames.{effect-length, effect-record}
 use Rattle.def_transfer.specs.Instruction.{has}
 use Rattle.lent_context.specs.Lent.{instanceCount}
@@ -41,6 +41,7 @@ use Rattle.laws_image_accepted.specs.Laws.Records.{lower-both, lowest-bo
 use Rattle.laws_image_accepted.specs.Laws.Limits.{Pos, pos-some, pos-used, pos-ite, pos-at, pos-place, pos-run}
 use Rattle.laws_image_accepted.specs.Laws.Places.{place-fine, run-fine}
 use Rattle.laws_image_accepted.specs.Laws.Lengths.{lentCandidates}
+use Rattle.lent_layout.specs.Layout.{candidateTable}
 
 -- ---- limits of an effect
 

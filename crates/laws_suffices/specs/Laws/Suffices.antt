@@ -21,10 +21,10 @@ use Rattle.lent_tables.specs.declared.Table.{Table}
 use Rattle.lent_tables.specs.Words.{field, placesIn}
 use Rattle.lent_effects.specs.declared.AliasingEffect.{AliasingEffect as Head}
 use Rattle.lent_effects.specs.declared.AliasingEffect.the-variants as Head
-use Rattle.lent_effects.specs.Records.{countedPlaces, effectWith, headIn, effectIn, candidateTable}
+use Rattle.lent_effects.specs.Records.{countedPlaces, effectWith, headIn, effectIn}
 use Rattle.lent_effects.specs.Laws.Head.{code-past, code-apply, code-known}
 use Rattle.lent_keys.specs.Laws.Number.{numbers-count, places-numbers}
-use Rattle.lent_context.specs.Layout as Layout
+use Rattle.lent_layout.specs.Layout as Layout
 use Rattle.lent_context.specs.Lent.{effectsIn, mutatedInside}
 use Rattle.def_transfer.specs.Monad.{Res, ok, refused, Done}
 use Rattle.def_transfer.specs.Tables.{World}
@@ -43,6 +43,7 @@ use Rattle.laws_counts.specs.Laws.Counts.{Fits}
 use Rattle.laws_counts.specs.Laws.Lossless.{Lossless, lossless}
 use Rattle.call_outcome.specs.Calls.{Call, Outcome, candidateCount, callClass, lentInstruction, lentWorld, refusedWith, concluded, outcome}
 use Rattle.call_outcome.specs.Laws.Class.{class-0}
+use Rattle.lent_layout.specs.Layout.{candidateTable}
 
 -- ---- classes
 

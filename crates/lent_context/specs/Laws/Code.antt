@@ -17,7 +17,7 @@ use Rattle.def_effects.specs.Places as Places
 use Rattle.lent_tables.specs.declared.Table.{Table}
 use Rattle.lent_tables.specs.Words.{field, putField, placeIn}
 use Rattle.lent_keys.specs.KeyRecords.{optionIn, putOption}
-use Rattle.lent_context.specs.Layout as Layout
+use Rattle.lent_layout.specs.Layout as Layout
 use Rattle.lent_context.specs.Lent.{linkOf, putLink, hasTrackedSideEffect, readPlace, readPlaces, makeRead, isRef, isHoisted, accessSpan, nameOf, isTransitive}
 
 -- ---- plain reads: the code widens a number, and reads a word

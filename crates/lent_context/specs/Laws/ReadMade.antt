@@ -12,7 +12,7 @@ use Rattle.def_effects.specs.Places.{Capture, Read}
 use Rattle.def_transfer.specs.Pure.{readOnly}
 use Rattle.lent_tables.specs.Words.{within, field, putField, placeIn, placesIn, end}
 use Rattle.lent_tables.specs.Laws.Word.{within-record, within-word, field-out, put-length, put-record}
-use Rattle.lent_context.specs.Layout as Layout
+use Rattle.lent_layout.specs.Layout as Layout
 use Rattle.lent_context.specs.Lent.{readPlace, readPlaces, makeRead}
 use Rattle.lent_tables.specs.Laws.Back.{word-back, word-beside, place-same}
 

@@ -20,7 +20,7 @@ use Rattle.lent_effects.specs.Records.{effectIn, effectWith, capturesOf}
 use Rattle.lent_keys.specs.declared.Key.{Key}
 use Rattle.lent_keys.specs.KeyRecords.{keyWith, keyIn}
 use Rattle.lent_keys.specs.KeyRecords as Keys
-use Rattle.lent_context.specs.Layout as Layout
+use Rattle.lent_layout.specs.Layout as Layout
 use Rattle.lent_context.specs.Lent.{effectsIn, internedCount, findEffect, keyAt, findNumber, putKey}
 
 -- ---- one interned effect

@@ -16,7 +16,7 @@ use Rattle.def_effects.specs.Places.{noSpan, eqSpan}
 use Rattle.def_transfer.specs.Diagnostics.{sameIdentity, sameLabels}
 use Rattle.def_transfer.specs.Pure.{Interned, identities, findIdentity as firstIdentity, findInstance as firstInstance}
 use Rattle.lent_tables.specs.Words.{field, putField}
-use Rattle.lent_context.specs.Layout as Layout
+use Rattle.lent_layout.specs.Layout as Layout
 use Rattle.lent_context.specs.Lent.{diagnosticIn, diagnosticsIn, instanceCount, identityCount, findIdentity, findInstance, putDiagnostic}
 use Rattle.lent_diagnostics.specs.declared.Numbered.{Numbered}
 use Rattle.lent_diagnostics.specs.Numbered.{internedOf}

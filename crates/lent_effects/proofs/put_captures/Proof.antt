@@ -6,10 +6,11 @@ use mathlib.Core.Path.{_≡_, refl, ap, _∙_}
 use lib.ListN.{length}
 use Rattle.lent_tables.specs.Words.{putPlaces, placesIn}
 use Rattle.lent_tables.specs.Laws.Word.{place-length}
-use Rattle.lent_effects.specs.Records.{oneRun, capturesOf}
+use Rattle.lent_effects.specs.Records.{capturesOf}
 use Rattle.lent_effects.specs.Laws.Capture.{put-start, put-more, put-none}
 use Rattle.lent_effects.proofs.put_captures.Statement.{statement}
 use Rattle.lent_effects.proofs.put_captures.Tie as tie
+use Rattle.lent_layout.specs.Layout.{oneRun}
 
 abbrev Inv-loop : tie.InvT-loop
 Inv-loop t xs₀ i captures n k₀ xs k = (k ≤ n) × (putPlaces t xs i 18 k (placesIn oneRun captures 0 1 k (n - k)) ≡ putPlaces t xs₀ i 18 0 (capturesOf captures)) × (length xs ≡ length xs₀)

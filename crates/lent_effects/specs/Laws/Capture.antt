@@ -11,8 +11,9 @@ use Rattle.def_effects.specs.declared.Place.{Place}
 use Rattle.lent_tables.specs.declared.Table.{Table}
 use Rattle.lent_tables.specs.Words.{index, field, placeIn, putPlace, placesIn, putPlaces}
 use Rattle.lent_tables.specs.Laws.Word.{within-yes, within-no-word, field-in, field-out, place-of, places-more, places-none}
-use Rattle.lent_effects.specs.Records.{countedPlaces, oneRun, copiedFrom, copiedCaptures, capturesOf}
+use Rattle.lent_effects.specs.Records.{countedPlaces, copiedFrom, copiedCaptures, capturesOf}
 use Rattle.lent_effects.specs.Laws.Head.{lower-or-not}
+use Rattle.lent_layout.specs.Layout.{oneRun}
 
 -- ---- the loops over captures
 

@@ -12,7 +12,8 @@ use Rattle.lent_tables.specs.declared.Table.{Table}
 use Rattle.lent_tables.specs.Words.{field, putField, putPlace, placesIn, putPlaces}
 use Rattle.lent_effects.specs.declared.AliasingEffect.{AliasingEffect as Head}
 use Rattle.lent_effects.specs.declared.AliasingEffect.the-variants as Head
-use Rattle.lent_effects.specs.Records.{countedPlaces, oneRun, capturesOf, effectWith, onePlace, twoPlaces, reported, putEffect}
+use Rattle.lent_effects.specs.Records.{countedPlaces, capturesOf, effectWith, onePlace, twoPlaces, reported, putEffect}
+use Rattle.lent_layout.specs.Layout.{oneRun}
 
 -- ---- an effect written: one law for each variant
 

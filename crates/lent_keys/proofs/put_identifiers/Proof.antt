@@ -5,11 +5,11 @@ use Prim.Native.Nat.{_-_, _≤_}
 use mathlib.Core.Path.{_≡_, refl, ap, _∙_}
 use lib.ListN.{length}
 use Rattle.lent_tables.specs.Laws.Word.{put-length}
-use Rattle.lent_effects.specs.Records.{oneRun}
 use Rattle.lent_keys.specs.KeyRecords.{numbersIn, putNumbers}
 use Rattle.lent_keys.specs.Laws.KeyRecord.{write-start, write-more, write-none}
 use Rattle.lent_keys.proofs.put_identifiers.Statement.{statement}
 use Rattle.lent_keys.proofs.put_identifiers.Tie as tie
+use Rattle.lent_layout.specs.Layout.{oneRun}
 
 abbrev Inv-loop : tie.InvT-loop
 Inv-loop t xs₀ i captures n k₀ xs k = (k ≤ n) × (putNumbers t xs i 12 1 k (numbersIn oneRun captures 0 1 5 k (n - k)) ≡ putNumbers t xs₀ i 12 1 0 (numbersIn oneRun captures 0 1 5 0 n)) × (length xs ≡ length xs₀)

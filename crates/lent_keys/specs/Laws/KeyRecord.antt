@@ -16,12 +16,13 @@ use Rattle.lent_tables.specs.declared.Table.{Table}
 use Rattle.lent_tables.specs.Words.{field, putField}
 use Rattle.def_transfer.specs.Pure.{isKey}
 use Rattle.lent_effects.specs.declared.AliasingEffect.{AliasingEffect as Head}
-use Rattle.lent_effects.specs.Records.{countedPlaces, oneRun, capturesOf, effectWith, headIn, effectIn}
+use Rattle.lent_effects.specs.Records.{countedPlaces, capturesOf, effectWith, headIn, effectIn}
 use Rattle.lent_keys.specs.declared.Found.{Found}
 use Rattle.lent_keys.specs.declared.Key.{Key}
 use Rattle.lent_keys.specs.KeyRecords.{optionOf, keyWith, sameHead, numbersIn, putNumbers, optionIn, putOption, keyHeadIn, keyIn, putHead, putKey}
 use Rattle.lent_keys.specs.Laws.SameKey.{keys-differ, keys-captures}
 use Rattle.lent_keys.specs.Laws.Number.{numbers-more, numbers-none, numbers-all, numbers-count, numbers-taken, places-numbers}
+use Rattle.lent_layout.specs.Layout.{oneRun}
 
 -- ---- a key compared with that of a record
 

@@ -21,7 +21,7 @@ use Rattle.lent_effects.specs.Laws.EffectFrames.{effect-cong, effect-record}
 use Rattle.lent_keys.specs.KeyRecords.{numbersIn, putNumbers, optionIn, putOption, keyHeadIn, keyIn, putHead}
 use Rattle.lent_keys.specs.KeyRecords as Keys
 use Rattle.lent_keys.specs.Laws.KeyFrames.{numbers-keep}
-use Rattle.lent_context.specs.Layout as Layout
+use Rattle.lent_layout.specs.Layout as Layout
 use Rattle.lent_context.specs.Lent.{effectsIn, diagnosticIn, diagnosticsIn, putDiagnostic}
 use Rattle.lent_tables.specs.Laws.Back.{Held, held-as, word-back, word-beside}
 use Rattle.lent_effects.specs.Laws.Back.{captureCount, effect-back}

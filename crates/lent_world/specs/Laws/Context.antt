@@ -24,7 +24,7 @@ use Rattle.lent_effects.specs.Records.{putEffect}
 use Rattle.lent_effects.specs.Laws.EffectFrames.{effect-apart}
 use Rattle.lent_keys.specs.KeyRecords.{optionIn, putOption}
 use Rattle.lent_keys.specs.KeyRecords as Keys
-use Rattle.lent_context.specs.Layout as Layout
+use Rattle.lent_layout.specs.Layout as Layout
 use Rattle.lent_context.specs.Lent.{effectsIn, internedCount, findEffect, addEffect, keyAt, findNumber, putKey, linkOf, putLink, contextOf, makeRead, instanceCount, putDiagnostic, addDiagnostic}
 use Rattle.lent_world.specs.World.{lent}
 use Rattle.lent_keys.specs.Laws.KeyFrames.{option-cong, key-cong, key-apart, key-record, option-apart, option-record}

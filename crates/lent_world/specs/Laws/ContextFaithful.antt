@@ -20,7 +20,7 @@ use Rattle.lent_effects.specs.Laws.EffectFrames.{effect-length}
 use Rattle.lent_keys.specs.KeyRecords.{optionIn, putOption, keyIn}
 use Rattle.lent_keys.specs.KeyRecords as Keys
 use Rattle.lent_keys.specs.Laws.KeyFrames.{key-cong, key-record, key-outside, key-length, option-cong, option-record, option-outside, option-length}
-use Rattle.lent_context.specs.Layout as Layout
+use Rattle.lent_layout.specs.Layout as Layout
 use Rattle.lent_context.specs.Lent.{internedCount, addEffect, putKey, putLink, makeRead, instanceCount, putDiagnostic, addDiagnostic, diagnosticIn}
 use Rattle.lent_world.specs.Laws.Context.{Same, key-leaves, link-leaves, read-leaves, diagnostic-keeps}
 use Rattle.lent_context.specs.Laws.ReadMade.{read-keeps, read-other, read-made}

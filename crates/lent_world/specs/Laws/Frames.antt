@@ -18,7 +18,7 @@ use Rattle.lent_effects.specs.Records.{putEffect}
 use Rattle.lent_effects.specs.Laws.EffectFrames.{effect-cong, effect-apart, effect-outside}
 use Rattle.lent_keys.specs.KeyRecords.{optionIn, keyIn}
 use Rattle.lent_keys.specs.Laws.KeyFrames.{option-cong, key-cong}
-use Rattle.lent_context.specs.Layout as Layout
+use Rattle.lent_layout.specs.Layout as Layout
 use Rattle.lent_context.specs.Lent.{effectsIn, internedCount, addEffect, diagnosticIn, diagnosticsIn, instanceCount, putDiagnostic, addDiagnostic}
 use Rattle.lent_world.specs.Laws.Context.{Same, diagnostic-keeps}
 use Rattle.lent_context.specs.Abstract.{functionIn, identifierIn}

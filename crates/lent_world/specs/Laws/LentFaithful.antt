@@ -28,10 +28,10 @@ use Rattle.lent_effects.specs.Records.{putEffect}
 use Rattle.lent_effects.specs.Laws.EffectFrames.{effect-length, effect-after}
 use Rattle.lent_work.specs.declared.Marks.{Marks}
 use Rattle.lent_work.specs.Marks.{noMarks, isMarked, marked}
-use Rattle.lent_context.specs.Layout as Layout
+use Rattle.lent_layout.specs.Layout as Layout
 use Rattle.lent_context.specs.Lent as Lent
 use Rattle.lent_context.specs.Lent.{effectsIn}
-use Rattle.lent_world.specs.World.{lent, output, Listed, putListed, oneMore}
+use Rattle.lent_world.specs.World.{lent, Listed, putListed, oneMore}
 use Rattle.lent_work.specs.Access.{accessOf}
 use Rattle.def_faithful.specs.Ranges.{Short}
 use Rattle.def_faithful.specs.Faithful.{Faithful}
@@ -40,6 +40,7 @@ use Rattle.lent_context.specs.Abstract.{abstract}
 use Rattle.lent_world.specs.Laws.Back.{effect-appended, effects-length, diagnostics-length}
 use Rattle.lent_world.specs.Laws.ContextFaithful.{FitContext, effect-fit, effect-add, key-fit, key-put, link-fit, link-put, read-fit, read-means, diagnostic-fit, diagnostic-add}
 use Rattle.lent_context.specs.Laws.Abstract.{effect-is, key-is, number-is, link-is, places-is, inside-is, tracked-is, ref-is, hoisted-is, access-is, name-is, transitive-is, identities-is, identity-is, instance-is}
+use Rattle.lent_layout.specs.Layout.{output}
 
 -- ---- marks
 

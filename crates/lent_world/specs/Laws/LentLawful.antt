@@ -23,7 +23,7 @@ use Rattle.lent_tables.specs.Words.{index, end}
 use Rattle.lent_tables.specs.Laws.Word.{put-length, put-outside}
 use Rattle.lent_effects.specs.Records.{putEffect}
 use Rattle.lent_effects.specs.Laws.EffectFrames.{effect-length, effect-outside, effect-before, effect-after}
-use Rattle.lent_context.specs.Layout as Layout
+use Rattle.lent_layout.specs.Layout as Layout
 use Rattle.lent_context.specs.Lent.{internedCount, addEffect, putKey, putLink, makeRead, instanceCount, putDiagnostic, addDiagnostic}
 use Rattle.lent_keys.specs.Laws.KeyFrames.{key-length, key-outside, option-length, option-outside}
 use Rattle.lent_world.specs.World.{lent}

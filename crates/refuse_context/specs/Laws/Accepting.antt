@@ -10,7 +10,7 @@ use lib.ListN.{getD}
 use borrow.Author.Tests.{lt-ltb, le-ltb, eq-eqb, ne-eqb}
 use Rattle.def_effects.specs.Places.{noSpan, eqSpan}
 use Rattle.lent_tables.specs.Words.{field}
-use Rattle.lent_context.specs.Layout as Layout
+use Rattle.lent_layout.specs.Layout as Layout
 use Rattle.lent_context.specs.Lent.{internedCount, instanceCount}
 use Rattle.base_tests.specs.Laws.Choice.{ite-lt, ite-ge, ite-yes, ite-no}
 use Rattle.base_tests.specs.Laws.Bool.{or-first, or-second, or-neither}

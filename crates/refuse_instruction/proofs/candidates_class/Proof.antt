@@ -5,9 +5,9 @@ use native.Mathlib.Omega.{arith}
 use Rattle.refuse_words.specs.Classes.{lowestBelow}
 use Rattle.refuse_words.specs.Laws.Class.{lowest-none, lowest-more, lowest-end}
 use Rattle.refuse_instruction.specs.EffectClasses.{effectClass}
-use Rattle.lent_effects.specs.Records.{candidateTable}
 use Rattle.refuse_instruction.proofs.candidates_class.Statement.{statement}
 use Rattle.refuse_instruction.proofs.candidates_class.Tie as tie
+use Rattle.lent_layout.specs.Layout.{candidateTable}
 
 abbrev Inv-loop : tie.InvT-loop
 Inv-loop context candidates n identifiers functions worst₀ k₀ worst k = (k ≤ n) × (worst ≡ lowestBelow k (effectClass identifiers functions context 5 candidateTable candidates))

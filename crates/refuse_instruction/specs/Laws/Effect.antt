@@ -16,7 +16,7 @@ use Rattle.base_tests.specs.Tests.{ite}
 use Rattle.base_tests.specs.Laws.Choice.{ite-lt, ite-ge, ite-eq, ite-ne}
 use Rattle.def_kinds.specs.Reasons.{reasonCount}
 use Rattle.lent_tables.specs.Words.{field}
-use Rattle.lent_context.specs.Layout as Layout
+use Rattle.lent_layout.specs.Layout as Layout
 use Rattle.refuse_words.specs.Classes.{earns, limitOf, usedIf, any, placeLimit, runLimit}
 use Rattle.refuse_instruction.specs.EffectClasses.{uses, middleLimit, effectLimit, countClass, numbersClass}
 use Rattle.refuse_instruction.specs.Laws.Use.{only, only-kind, only-mutation, only-function, only-captures}

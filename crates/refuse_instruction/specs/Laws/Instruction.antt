@@ -11,7 +11,7 @@ use Rattle.base_tests.specs.Laws.Choice.{ite-eq, ite-ne}
 use Rattle.def_effects.specs.declared.Place.{Place}
 use Rattle.lent_tables.specs.declared.Table.{Table}
 use Rattle.lent_tables.specs.Words.{field}
-use Rattle.lent_context.specs.Layout as Layout
+use Rattle.lent_layout.specs.Layout as Layout
 use Rattle.lent_context.specs.Lent.{instanceCount}
 use Rattle.refuse_class.specs.Class.{lower}
 use Rattle.refuse_class.specs.Laws.Class.{lower-none}
@@ -19,7 +19,7 @@ use Rattle.base_tests.specs.Laws.Bool.{or-first, or-second, or-neither}
 use Rattle.refuse_words.specs.Classes.{lowestBelow, earns, recordClass}
 use Rattle.refuse_words.specs.Laws.Order.{Class, Later, class-later, earns-class, record-class, lower-keeps, lowest-keeps, two-first}
 use Rattle.refuse_instruction.specs.EffectClasses.{uses, effectLimit, countClass, numbersClass, effectClass, placeClass, instructionClass}
-use Rattle.lent_effects.specs.Records.{candidateTable}
+use Rattle.lent_layout.specs.Layout.{candidateTable}
 
 -- ---- an effect
 

@@ -5,7 +5,7 @@ use Rattle.def_effects.specs.Places.{identifiers}
 use Rattle.def_transfer.specs.Pure.{findEffect}
 use Rattle.lent_effects.specs.Records.{capturesOf}
 use Rattle.lent_keys.specs.KeyRecords.{keyWith}
-use Rattle.lent_context.specs.Layout as Layout
+use Rattle.lent_layout.specs.Layout as Layout
 use Rattle.lent_context.specs.Lent.{effectsIn}
 use Rattle.lent_context.specs.Laws.Search.{effect-passed}
 use Rattle.refuse_repeats.specs.Laws.Key.{before-found, before-nowhere}

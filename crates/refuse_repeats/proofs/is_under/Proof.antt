@@ -1,6 +1,6 @@
 -- `refuse_repeats::is_under` meets its contract: one law for each of its four ways. Assumes nothing.
 use mathlib.Core.Path.{refl}
-use Rattle.lent_context.specs.Layout as Layout
+use Rattle.lent_layout.specs.Layout as Layout
 use Rattle.lent_context.specs.Laws.Search.{under-other, under-compared}
 use Rattle.lent_keys.specs.Laws.OtherPlaces.{other-from, other-into}
 use borrow.Author.Needs.{needs}

@@ -16,7 +16,7 @@ use Rattle.lent_tables.specs.Words.{field}
 use Rattle.lent_keys.specs.declared.Found.{Found}
 use Rattle.lent_keys.specs.declared.Found.the-variants.{Nowhere, At}
 use Rattle.lent_keys.specs.KeyRecords.{optionOf}
-use Rattle.lent_context.specs.Layout as Layout
+use Rattle.lent_layout.specs.Layout as Layout
 use Rattle.lent_context.specs.Lent.{diagnosticIn, diagnosticsIn}
 use Rattle.lent_diagnostics.specs.declared.Numbered.{Numbered}
 use Rattle.lent_diagnostics.specs.Numbered.{internedOf}

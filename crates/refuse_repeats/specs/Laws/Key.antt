@@ -22,7 +22,7 @@ use Rattle.lent_effects.specs.Laws.Capture.{captures-copied}
 use Rattle.lent_keys.specs.declared.Key.{Key}
 use Rattle.lent_keys.specs.KeyRecords.{keyWith, sameHead, numbersIn, keyHeadIn, keyIn}
 use Rattle.lent_keys.specs.Laws.SameKey.{keys-differ, keys-captures}
-use Rattle.lent_context.specs.Layout as Layout
+use Rattle.lent_layout.specs.Layout as Layout
 use Rattle.lent_context.specs.Lent.{effectsIn, keyAt}
 use Rattle.lent_context.specs.Laws.Search.{effects-more}
 use Rattle.refuse_repeats.specs.Repeats.{internedTwice, keyHere, keyTwice}

@@ -2,7 +2,7 @@ use borrow.Author.Needs.{needs}
 use mathlib.Core.Path.{_≡_}
 use Prim.Native.Nat.{_-_, _≤_}
 use native.Mathlib.Omega.{arith}
-use Rattle.lent_context.specs.Layout as Layout
+use Rattle.lent_layout.specs.Layout as Layout
 use Rattle.refuse_words.specs.Classes.{wordsBelow}
 use Rattle.refuse_words.specs.Laws.Class.{words-none, words-more, words-end}
 use Rattle.refuse_tables.specs.TableClasses.{identifierLimit}

@@ -15,7 +15,7 @@ use Rattle.base_tests.specs.Tests.{ite}
 use Rattle.base_tests.specs.Laws.Choice.{ite-lt, ite-ge}
 use Rattle.def_kinds.specs.Reasons.{reasonCount}
 use Rattle.lent_tables.specs.Words.{field}
-use Rattle.lent_context.specs.Layout as Layout
+use Rattle.lent_layout.specs.Layout as Layout
 use Rattle.base_tests.specs.Laws.Bool.{or-first, or-second}
 use Rattle.refuse_class.specs.Class.{lower}
 use Rattle.refuse_words.specs.Classes.{earns, limitOf, usedIf, any, recordClass}

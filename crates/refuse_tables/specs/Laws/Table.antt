@@ -16,7 +16,7 @@ use Rattle.base_tests.specs.Tests.{ite}
 use Rattle.base_tests.specs.Laws.Choice.{ite-ge, ite-eq, ite-ne}
 use Rattle.def_effects.specs.Places.{noSpan, eqSpan}
 use Rattle.lent_tables.specs.Words.{field}
-use Rattle.lent_context.specs.Layout as Layout
+use Rattle.lent_layout.specs.Layout as Layout
 use Rattle.lent_context.specs.Lent.{flagOne, flagTwo}
 use Rattle.refuse_class.specs.Class.{lower}
 use Rattle.refuse_words.specs.Classes.{earns, limitOf, usedIf, any, runLimit, recordClass}

@@ -1,5 +1,6 @@
--- Where each table of a context stands in its one lent list of words. Assumes nothing: these are definitions.
--- What an instruction only reads comes first (options, identifiers, functions), then what it may change, and last the interned effects,
+-- Where each table stands in the lent lists of words, and how wide its records are. Assumes nothing: these are definitions.
+-- Nothing else says a size or an offset of the layout.
+-- In a context, one list, what an instruction only reads comes first (options, identifiers, functions), then what it may change, and last the interned effects,
 -- so that a refusal restores one run of words and clears the effects that were appended.
 use Prim.Native.Nat.{ℕ}
 use Rattle.lent_tables.specs.declared.Table.{Table}
@@ -65,3 +66,42 @@ interned = record { base = 35269; count = 2048; width = 98 }
 -- "1 a lent slice .. has the wrong length"
 abbrev pub long : ℕ
 long = 235973
+
+-- how many of its words are saved: those from the count of interned effects to before the effects themselves
+-- every word that an instruction may change, but for the effects that it appends
+abbrev pub savedWords : ℕ
+savedWords = 22786
+
+-- ---- effects in lists of their own, and what stands beside them
+
+-- how many words the record of an effect has
+-- candidates, interned effects and the output list have the same
+abbrev pub effectWords : ℕ
+effectWords = 98
+
+-- candidates, one record each
+-- "candidates (64)"
+abbrev pub candidateTable : Table
+candidateTable = record { base = 0; count = 64; width = 98 }
+
+-- as many words as the most candidates have
+abbrev pub candidateWords : ℕ
+candidateWords = 6272
+
+-- "The output list has 1,120 records (32 + 64 × 17, so it suffices)"
+abbrev pub output : Table
+output = record { base = 0; count = 1120; width = 98 }
+
+-- how many words an output list has
+abbrev pub outputWords : ℕ
+outputWords = 109760
+
+-- the captures of an effect beside its head: one record of 81 words, a count and sixteen places
+-- the code hands them down as a slice, since an enum holds no list
+abbrev pub oneRun : Table
+oneRun = record { base = 0; count = 1; width = 81 }
+
+-- the places that a function mutates inside, in a slice: a count and 32 places
+-- one record of 161 words
+abbrev pub insideRun : Table
+insideRun = record { base = 0; count = 1; width = 161 }
