@@ -220,7 +220,8 @@ def statements(files, short, crates, functions, definitions, divided, numbers):
                 said.append("%s %s. %s" % (kind, answer or "", fact))
             name = (crate, owner + m.group(1))
             key = functions.get((crate, m.group(1)), (crates.get(crate, crate), owner + m.group(1)))
-            key = (divided.get(key, key[0]), key[1])
+            while key in divided:
+                key = (divided[key], key[1])
             said = [numbered(names_of(s, definitions), numbers) for s in said]
             types = re.sub(r"fn \w+", "fn", types)
             found[key] = types + "\n    " + "\n    ".join(said)

@@ -124,8 +124,8 @@ fn once(op: u32, values: &mut [u64], sets: &mut [u64], values2: &[u64], sets2: &
     }
     if op == 3 {
         empty(values, sets);
-        state_merge::merge_values(values, values2);
-        state_merge::merge_sets(sets, sets2);
+        state_merge_lists::merge_values(values, values2);
+        state_merge_lists::merge_sets(sets, sets2);
         return 0;
     }
     if op == 4 {

@@ -10,7 +10,7 @@ ghost use Rattle.call_outcome.specs.Attempts.{atMost, Ready};
 ghost use Rattle.lent_slices.specs.Lent.{old};
 ghost use Rattle.lent_world.specs.Promise.{before, after};
 use call_run::run_instruction;
-use call_undo::save;
+use call_save::save;
 use call_undo::undo;
 use def_effects::Place;
 use def_effects::Session;

@@ -20,7 +20,7 @@ use Rattle.refuse_entries.specs.Words.{identifiers, stateRefusal}
 use Rattle.refuse_class.specs.Class.{lower}
 use Rattle.refuse_words.specs.Classes.{earns}
 use Rattle.refuse_instruction.specs.EffectClasses.{instructionClass}
-use Rattle.refuse_context.specs.Accepting.{contextClass}
+use Rattle.refuse_records.specs.Accepting.{contextClass}
 use Rattle.call_parts.specs.Instructions.{instructionOf}
 use Rattle.call_outcome.specs.declared.Applied.{Applied}
 

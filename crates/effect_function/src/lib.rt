@@ -26,9 +26,9 @@ use effect_parts::begin;
 use effect_parts::create;
 use effect_parts::emit;
 use lent_context::has_tracked_side_effect;
-use lent_context::put_link;
 use lent_effects::AliasingEffect;
 use lent_key_of::key_of;
+use lent_links::put_link;
 use lent_work::Ran;
 use lent_work::Run;
 

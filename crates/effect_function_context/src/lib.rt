@@ -12,9 +12,9 @@ ghost use Rattle.effect_function_context.specs.Functions.{copiedContext}
 ghost use Rattle.lent_slices.specs.Lent.{old, new};
 use def_effects::Place;
 use lent_context::context_count;
-use lent_context::context_identifier;
 use lent_context::is_ref;
 use lent_context::make_read;
+use lent_functions::context_identifier;
 use lent_layout::CONTEXTS;
 use lent_layout::ONE_RUN;
 use lent_layout::RUN_WORDS;

@@ -11,9 +11,9 @@ ghost use Rattle.lent_world.specs.World.{world};
 ghost use Rattle.lent_slices.specs.Lent.{old, new};
 use def_effects::Session;
 use effect_parts::with_session;
-use lent_context::put_key;
 use lent_keys::Found;
 use lent_keys::Key;
+use lent_links::put_key;
 use lent_search::find_number;
 use lent_work::Run;
 

@@ -9,7 +9,6 @@ ghost use Rattle.lent_layout.specs.Layout as Layout;
 ghost use Rattle.lent_context.specs.Lent as Lent;
 ghost use Rattle.lent_context.specs.Lent.{effectAt};
 ghost use Rattle.lent_slices.specs.Lent.{old};
-use lent_context::interned_count;
 use lent_effects::AliasingEffect;
 use lent_effects::code_in;
 use lent_key_of::effect_has_key;
@@ -19,6 +18,7 @@ use lent_keys::Key;
 use lent_keys::record_has_key;
 use lent_layout::CACHED;
 use lent_layout::INTERNED;
+use lent_links::interned_count;
 use lent_slices::wide32;
 
 // Whether interned effect k has a key; the key's captures stand beside it.

@@ -7,10 +7,10 @@ use lent_slices::get64;
 use lent_slices::wide32;
 use refuse_entries::access_out_of_range;
 use refuse_entries::next_out_of_range;
-use refuse_entries::row_out_of_range;
-use refuse_entries::row_unfit;
 use refuse_entries::value_out_of_range;
 use refuse_entries::value_unfit;
+use refuse_rows::row_out_of_range;
+use refuse_rows::row_unfit;
 
 // How many words the values have: one for each number, with 0, which is no value number.
 // Both loops over the values go up to it.

@@ -2,12 +2,12 @@
 ghost use mathlib.Core.Path.{_≡_};
 ghost use Rattle.state_ops.specs.Lists.{ownInserted, assignedValues, assignedSets, ownSets, phiSets};
 ghost use Rattle.lent_slices.specs.Lent.{old, new};
+use lent_members::is_empty;
 use lent_set_writes::add_set;
 use lent_set_writes::copy_set;
 use lent_set_writes::define;
 use lent_set_writes::put_set;
 use lent_sets::is_defined;
-use lent_sets::is_empty;
 use lent_slices::get32;
 use lent_slices::wide32;
 use lent_values::Entry;

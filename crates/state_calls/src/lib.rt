@@ -4,13 +4,12 @@ ghost use mathlib.Core.Path.{_≡_};
 ghost use mathlib.Core.Bool.{_||_};
 ghost use Rattle.def_transfer.specs.Accepted.{notANumber};
 ghost use Rattle.refuse_entries.specs.Words.{identifiers};
-ghost use Rattle.state_calls.specs.Calls.{worst, refusalOf, outside, refusal1, refusal2};
+ghost use Rattle.state_calls.specs.Calls.{worst, outside};
 ghost use Rattle.lent_slices.specs.Lent.{old};
 use def_effects::MutationResult;
 use def_effects::Session;
 use def_kinds::AbstractValue;
 use lent_slices::wide32;
-use refuse_state::state_refusal;
 
 // The answer of a call that asks for a kind: 0 or a refusal, the kind, and the session after it.
 pub struct KindAnswer {
@@ -40,7 +39,7 @@ pub struct CountAnswer {
 
 // The lower class of a state's and of the arguments'.
 // Order 1 to 5 over the whole input.
-fn worst(r: u32, out: bool, unfit: bool) -> u32
+pub fn worst(r: u32, out: bool, unfit: bool) -> u32
     ensures { λ a. ⌜ a ≡ worst r out unfit ⌝ }
 {
     if r == 1 {
@@ -78,36 +77,6 @@ pub fn outside(sets: &[u64], i: u32) -> bool
     ensures { λ r. ⌜ r ≡ outside (old sets) i ⌝ }
 {
     wide32(i) >= sets.len() / 16
-}
-
-// The refusal of a call, by its state and its arguments' classes.
-// 0 where all is well.
-pub fn refusal_of(values: &[u64], sets: &[u64], session: Session, out: bool, unfit: bool) -> u32
-    ensures { λ r. ⌜ r ≡ refusalOf (old values) (old sets) session out unfit ⌝ }
-{
-    worst(
-        state_refusal(values, sets, session.next, session.access),
-        out,
-        unfit,
-    )
-}
-
-// The refusal of a call with one identifier.
-// 3 where it is not in the list.
-pub fn refusal1(values: &[u64], sets: &[u64], session: Session, i: u32) -> u32
-    ensures { λ r. ⌜ r ≡ refusal1 (old values) (old sets) session i ⌝ }
-{
-    refusal_of(values, sets, session, outside(sets, i), false)
-}
-
-// The refusal of a call with two identifiers.
-// 3 where one is not in the list.
-pub fn refusal2(values: &[u64], sets: &[u64], session: Session, i: u32, j: u32) -> u32
-    ensures { λ r. ⌜ r ≡ refusal2 (old values) (old sets) session i j ⌝ }
-{
-    let a = outside(sets, i);
-    let b = outside(sets, j);
-    refusal_of(values, sets, session, either(a, b), false)
 }
 
 // Whether v is no value number of the list.

@@ -11,7 +11,7 @@ use def_effects::Session;
 use lent_slices::get32;
 use state_calls::either;
 use state_calls::outside;
-use state_calls::refusal_of;
+use state_refusals::refusal_of;
 
 // Whether an operand is not in the list.
 // A phi looks at all of them before it does anything.

@@ -19,9 +19,9 @@ use def_kinds::ValueKind;
 use state_calls::KindAnswer;
 use state_calls::MutationAnswer;
 use state_calls::TestAnswer;
-use state_calls::refusal1;
 use state_ops;
 use state_ops::after_use;
+use state_refusals::refusal1;
 
 // The kind of a place, used at a span.
 // The first use of an undefined place is recorded in the session.

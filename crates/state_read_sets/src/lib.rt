@@ -17,7 +17,7 @@ use lent_slices::set32;
 use refuse_state::state_refusal;
 use state_calls::CountAnswer;
 use state_calls::TestAnswer;
-use state_calls::refusal1;
+use state_refusals::refusal1;
 
 // Whether a place is defined.
 pub fn is_defined(values: &[u64], sets: &[u64], session: Session, i: u32) -> TestAnswer
@@ -56,11 +56,11 @@ fn write_values(sets: &[u64], i: u32, out: &mut [u32])
         return;
     }
     let mut k: usize = 0;
-    let mut m = lent_sets::next_member(sets, i, 1);
+    let mut m = lent_members::next_member(sets, i, 1);
     while m < 1024 {
         set32(out, k, m);
         k += 1;
-        m = lent_sets::next_member(sets, i, m + 1);
+        m = lent_members::next_member(sets, i, m + 1);
     }
 }
 
@@ -107,6 +107,6 @@ pub fn values_for(
         return CountAnswer { refusal, count: 0 };
     }
     write_values(sets, i, out);
-    let count = lent_sets::size(sets, i);
+    let count = lent_members::size(sets, i);
     CountAnswer { refusal, count }
 }

@@ -12,8 +12,8 @@ use refuse_entries::number_too_new;
 use state_calls::either;
 use state_calls::no_number;
 use state_calls::outside;
-use state_calls::refusal_of;
-use state_calls::refusal2;
+use state_refusals::refusal_of;
+use state_refusals::refusal2;
 
 // A place gets one value as its set.
 // The value need not have an entry.

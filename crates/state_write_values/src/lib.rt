@@ -18,8 +18,8 @@ use state_calls::TestAnswer;
 use state_calls::either;
 use state_calls::no_number;
 use state_calls::outside;
-use state_calls::refusal_of;
 use state_ops;
+use state_refusals::refusal_of;
 
 // A value number gets kind and reasons.
 // A value keeps nothing of the entry that it had.

@@ -7,7 +7,7 @@ use def_kinds::ValueKind;
 use libc::STDOUT_FILENO;
 use state_calls::KindAnswer;
 use state_calls::TestAnswer;
-use state_merge_calls::MergeAnswer;
+use state_pairs::MergeAnswer;
 
 // A session with every fresh number handed out and no access.
 fn session() -> Session {

@@ -196,7 +196,7 @@ fn check_values(bytes: &[u8], at: &mut [u32], values: &[u64]) {
 
 // Whether the answer's next word is v, if that is in the set of identifier i.
 fn expect_member(bytes: &[u8], at: &mut [u32], sets: &[u64], i: u32, v: u32) {
-    if lent_sets::next_member(sets, i, v) == v {
+    if lent_members::next_member(sets, i, v) == v {
         expect(bytes, at, v);
     }
 }
@@ -204,7 +204,7 @@ fn expect_member(bytes: &[u8], at: &mut [u32], sets: &[u64], i: u32, v: u32) {
 // Whether the answer's next words are the set of identifier i, ascending.
 fn check_set(bytes: &[u8], at: &mut [u32], sets: &[u64], i: u32) {
     expect(bytes, at, i);
-    expect(bytes, at, lent_sets::size(sets, i));
+    expect(bytes, at, lent_members::size(sets, i));
     let mut v: u32 = 1;
     while v < 1024 {
         expect_member(bytes, at, sets, i, v);

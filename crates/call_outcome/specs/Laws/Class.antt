@@ -24,7 +24,7 @@ use Rattle.refuse_class.specs.Class.{lower}
 use Rattle.refuse_class.specs.Laws.Class.{lower-none, lower-alone, lower-first, lower-0}
 use Rattle.refuse_words.specs.Classes.{lowestBelow, earns, wordClass, strayFrom, strayAfter}
 use Rattle.refuse_instruction.specs.EffectClasses.{instructionClass}
-use Rattle.refuse_context.specs.Accepting.{countsWrong, effectsClass, tablesClass, contextClass}
+use Rattle.refuse_records.specs.Accepting.{countsWrong, effectsClass, tablesClass, contextClass}
 use Rattle.call_outcome.specs.Calls.{call, lengthsWrong, candidateCount, callClass}
 use Rattle.call_outcome.specs.Attempts.{atMost}
 

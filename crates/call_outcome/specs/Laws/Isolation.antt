@@ -22,7 +22,7 @@ use Rattle.refuse_entries.specs.Laws.Accepted.{accepted-lent}
 use Rattle.refuse_class.specs.Class.{lower}
 use Rattle.refuse_words.specs.Classes.{earns}
 use Rattle.refuse_instruction.specs.EffectClasses.{instructionClass}
-use Rattle.refuse_context.specs.Accepting.{contextClass}
+use Rattle.refuse_records.specs.Accepting.{contextClass}
 use Rattle.call_outcome.specs.Calls.{Call, Outcome, lengthsWrong, candidateCount, callClass, lentInstruction, lentWorld, refusedWith, endsIn, concluded, outcome}
 use Rattle.call_outcome.specs.Isolation.{stateOf, reach, Twins, Alike, Isolation}
 use Rattle.call_outcome.specs.Laws.Class.{class-0, lengths-right}

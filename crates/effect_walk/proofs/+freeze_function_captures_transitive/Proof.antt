@@ -13,9 +13,9 @@ use Rattle.effect_walk.proofs.freeze_function_captures_transitive.Reads
 use Rattle.effect_walk.proofs.freeze_function_captures_transitive.Kinds as enter-kinds
 use Rattle.effect_walk.proofs.+freeze_function_captures_transitive.Lts-freeze_function_captures_transitive as enter-lts
 use Rattle.lent_context.proofs.context_count.Reads as context-count-reads
-use Rattle.lent_context.proofs.context_identifier.Reads as context-identifier-reads
-use Rattle.lent_context.proofs.link_of.Reads as link-of-reads
-use Rattle.lent_sets.proofs.next_member.Reads as next-member-reads
+use Rattle.lent_functions.proofs.context_identifier.Reads as context-identifier-reads
+use Rattle.lent_links.proofs.link_of.Reads as link-of-reads
+use Rattle.lent_members.proofs.next_member.Reads as next-member-reads
 use Rattle.effect_walk.proofs.freeze_value.Reads as freeze-value-reads
 use Rattle.effect_walk.proofs.one_more.Reads as one-more-reads
 use Rattle.effect_walk.proofs.opens.Reads as opens-reads

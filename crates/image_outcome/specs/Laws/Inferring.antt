@@ -33,7 +33,7 @@ use Rattle.refuse_entries.specs.Words.{stateRefusal}
 use Rattle.refuse_class.specs.Class.{lower}
 use Rattle.refuse_words.specs.Classes.{earns}
 use Rattle.refuse_instruction.specs.EffectClasses.{instructionClass}
-use Rattle.refuse_context.specs.Accepting.{contextClass}
+use Rattle.refuse_records.specs.Accepting.{contextClass}
 use Rattle.call_outcome.specs.Calls.{Call, Outcome, call, given, lengthsWrong, candidateCount, callClass, lentInstruction, lentWorld, refusedWith, concluded, outcome}
 use Rattle.image_text.specs.Texts.{Cursor, cursor, putAll, lentListing, lentRefusal}
 use Rattle.image_text.specs.Laws.Text.{put-fits}

@@ -8,7 +8,7 @@ use Rattle.lent_copies.specs.Laws.Copy.{zeros-length}
 use Rattle.lent_layout.specs.Layout as Layout
 use Rattle.refuse_entries.specs.Words as Words
 use Rattle.refuse_instruction.specs.EffectClasses.{instructionClass}
-use Rattle.refuse_context.specs.Accepting.{contextClass}
+use Rattle.refuse_records.specs.Accepting.{contextClass}
 use Rattle.image_decode.specs.Laws.WordsBack.{function-count-back}
 use Rattle.def_image.specs.Layout.{Image, word, identifiers, functions, countOf, next, lvalue, own}
 use Rattle.def_image.specs.Refusals.{refusalOfWords}

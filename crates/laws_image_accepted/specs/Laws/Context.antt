@@ -25,7 +25,7 @@ use Rattle.refuse_class.specs.Class.{lower}
 use Rattle.refuse_words.specs.Classes.{earns, wordClass, usedIf, any, runLimit, recordClass}
 use Rattle.refuse_tables.specs.TableClasses.{identifierLimit, identifierClass, functionLimit, placesClass, functionClass, linkLimit, linkClass, noKeyClass}
 use Rattle.refuse_tables.specs.TableClasses as Tables
-use Rattle.refuse_context.specs.Accepting.{cachedClass, diagnosticClass, internedClass, identifiersClass, functionsClass, handedOut, linksClass, keysClass, diagnosticsClass, effectsClass, countsWrong, tablesClass, contextClass}
+use Rattle.refuse_records.specs.Accepting.{cachedClass, diagnosticClass, internedClass, identifiersClass, functionsClass, handedOut, linksClass, keysClass, diagnosticsClass, effectsClass, countsWrong, tablesClass, contextClass}
 use Rattle.def_image.specs.Layout.{Image, word, identifiers, functions, countOf, options, next, identifierFlags, identifierName, accessStart, accessEnd, functionFlags, contextFirst, contextCount, insideFirst, insideCount, flagOne, flagTwo}
 use Rattle.def_image.specs.Refusals.{refusalOfWords}
 use Rattle.def_image.specs.Decode.{placeAt, placesFrom}

@@ -11,9 +11,9 @@ use Rattle.refuse_entries.specs.Words.{entries, stateRefusal}
 use Rattle.def_transfer.specs.Monad.{Done}
 use Rattle.state_calls.specs.Calls.{Outcome}
 use Rattle.refuse_class.specs.Class.{lower}
-use Rattle.state_merge_calls.specs.MergeCalls.{pairRefusal, thirdRefusal, refusing, merge, mergeFrom}
+use Rattle.state_pairs.specs.MergeCalls.{pairRefusal, thirdRefusal, refusing, merge, mergeFrom}
 use Rattle.refuse_class.specs.Laws.Class.{lower-0}
-use Rattle.state_merge_calls.specs.Laws.Theorems.{pair-accepted, third-fits}
+use Rattle.state_pairs.specs.Laws.Theorems.{pair-accepted, third-fits}
 use Rattle.laws_state_stays.specs.Stays.{Stays}
 use Rattle.laws_state_stays.specs.Laws.Merged.{merge-stays, merge-into-stays, clear-stays}
 

@@ -35,7 +35,7 @@ use Rattle.refuse_class.specs.Laws.Class.{lower-0}
 use Rattle.refuse_words.specs.Classes.{lowestBelow, earns}
 use Rattle.refuse_instruction.specs.EffectClasses.{uses, usedParts, countClass, effectClass, instructionClass}
 use Rattle.refuse_tables.specs.TableClasses.{placesClass, functionClass}
-use Rattle.refuse_context.specs.Accepting.{countsWrong, functionsClass, tablesClass, contextClass}
+use Rattle.refuse_records.specs.Accepting.{countsWrong, functionsClass, tablesClass, contextClass}
 use Rattle.call_parts.specs.Instructions.{instructionOf}
 use Rattle.laws_counts.specs.Laws.Grows.{after}
 use Rattle.laws_counts.specs.Laws.Steps.{mutated}

@@ -1,4 +1,4 @@
-use Rattle.refuse_context.specs.Laws.Accepting.{context-counts, context-tables}
+use Rattle.refuse_records.specs.Laws.Accepting.{context-counts, context-tables}
 use borrow.Author.Needs.{needs}
 use Rattle.refuse_context.proofs.context_class.Statement.{statement}
 use Rattle.refuse_context.proofs.context_class.Tie as tie

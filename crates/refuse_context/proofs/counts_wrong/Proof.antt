@@ -1,4 +1,4 @@
-use Rattle.refuse_context.specs.Laws.Accepting.{counts-identifiers, counts-functions, counts-many, counts-effects, counts-diagnostics}
+use Rattle.refuse_records.specs.Laws.Accepting.{counts-identifiers, counts-functions, counts-many, counts-effects, counts-diagnostics}
 use borrow.Author.Needs.{needs}
 use Rattle.refuse_context.proofs.counts_wrong.Statement.{statement}
 use Rattle.refuse_context.proofs.counts_wrong.Tie as tie

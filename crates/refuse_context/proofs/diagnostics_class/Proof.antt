@@ -1,4 +1,4 @@
-use Rattle.refuse_context.specs.Laws.Accepting.{diagnostics-are}
+use Rattle.refuse_records.specs.Laws.Accepting.{diagnostics-are}
 use borrow.Author.Needs.{needs}
 use Rattle.refuse_context.proofs.diagnostics_class.Statement.{statement}
 use Rattle.refuse_context.proofs.diagnostics_class.Tie as tie

@@ -1,4 +1,4 @@
-use Rattle.refuse_context.specs.Laws.Accepting.{functions-are}
+use Rattle.refuse_records.specs.Laws.Accepting.{functions-are}
 use borrow.Author.Needs.{needs}
 use Rattle.refuse_context.proofs.functions_class.Statement.{statement}
 use Rattle.refuse_context.proofs.functions_class.Tie as tie

@@ -1,5 +1,5 @@
 -- `refuse_context::handed_out` meets its contract: one law for each of its two ways. Assumes nothing.
-use Rattle.refuse_context.specs.Laws.Accepting.{handed-all, handed-some}
+use Rattle.refuse_records.specs.Laws.Accepting.{handed-all, handed-some}
 use borrow.Author.Needs.{needs}
 use Rattle.refuse_context.proofs.handed_out.Statement.{statement}
 use Rattle.refuse_context.proofs.handed_out.Tie as tie

@@ -1,4 +1,4 @@
-use Rattle.refuse_context.specs.Laws.Accepting.{identifiers-are}
+use Rattle.refuse_records.specs.Laws.Accepting.{identifiers-are}
 use borrow.Author.Needs.{needs}
 use Rattle.refuse_context.proofs.identifiers_class.Statement.{statement}
 use Rattle.refuse_context.proofs.identifiers_class.Tie as tie

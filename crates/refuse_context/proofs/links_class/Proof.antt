@@ -1,4 +1,4 @@
-use Rattle.refuse_context.specs.Laws.Accepting.{links-are}
+use Rattle.refuse_records.specs.Laws.Accepting.{links-are}
 use borrow.Author.Needs.{needs}
 use Rattle.refuse_context.proofs.links_class.Statement.{statement}
 use Rattle.refuse_context.proofs.links_class.Tie as tie

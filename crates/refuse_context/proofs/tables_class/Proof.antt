@@ -1,4 +1,4 @@
-use Rattle.refuse_context.specs.Laws.Accepting.{tables-are}
+use Rattle.refuse_records.specs.Laws.Accepting.{tables-are}
 use borrow.Author.Needs.{needs}
 use Rattle.refuse_context.proofs.tables_class.Statement.{statement}
 use Rattle.refuse_context.proofs.tables_class.Tie as tie

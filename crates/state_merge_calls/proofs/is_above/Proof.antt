@@ -1,6 +1,6 @@
 -- `state_merge_calls::is_above` meets its contract, refused or not. Assumes nothing.
-use Rattle.state_merge_calls.specs.Laws.Promises.{above-promise}
-use Rattle.state_merge_calls.specs.Laws.MergeCall.{above-refused, above-ends}
+use Rattle.state_pairs.specs.Laws.Promises.{above-promise}
+use Rattle.state_pairs.specs.Laws.MergeCall.{above-refused, above-ends}
 use borrow.Author.Needs.{needs}
 use Rattle.state_merge_calls.proofs.is_above.Statement.{statement}
 use Rattle.state_merge_calls.proofs.is_above.Tie as tie

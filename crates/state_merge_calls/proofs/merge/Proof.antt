@@ -1,6 +1,6 @@
 -- `state_merge_calls::merge` meets its contract, refused or not. Assumes nothing.
-use Rattle.state_merge_calls.specs.Laws.Promises.{merge-promise}
-use Rattle.state_merge_calls.specs.Laws.MergeCall.{merge-refused, merge-ends}
+use Rattle.state_pairs.specs.Laws.Promises.{merge-promise}
+use Rattle.state_pairs.specs.Laws.MergeCall.{merge-refused, merge-ends}
 use borrow.Author.Needs.{needs}
 use Rattle.state_merge_calls.proofs.merge.Statement.{statement}
 use Rattle.state_merge_calls.proofs.merge.Tie as tie

@@ -1,6 +1,6 @@
 -- `state_merge_calls::merge_from` meets its contract, refused or not. Assumes nothing.
-use Rattle.state_merge_calls.specs.Laws.Promises.{from-promise}
-use Rattle.state_merge_calls.specs.Laws.MergeCall.{from-refused, from-ends}
+use Rattle.state_pairs.specs.Laws.Promises.{from-promise}
+use Rattle.state_pairs.specs.Laws.MergeCall.{from-refused, from-ends}
 use borrow.Author.Needs.{needs}
 use Rattle.state_merge_calls.proofs.merge_from.Statement.{statement}
 use Rattle.state_merge_calls.proofs.merge_from.Tie as tie
