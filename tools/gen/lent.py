@@ -1,16 +1,17 @@
-"""A library job as lent words: the tables of `lent_context/specs/Layout.antt`, `lent_values` and `lent_sets`, and effects as records of 98 words.
+"""A library job as lent words: the tables of `lent_layout/specs/Layout.antt`, `lent_values` and `lent_sets`, and effects as records of 98 words.
 
 Tables are dictionaries from an index to the word there; what is missing is zero. A job made of them is written as runs of words.
 """
 
 from names import *
 
-LONG, OUTPUT, SCRATCH = 235973, 1120 * 98, 22786
+LONG, OUTPUT, SCRATCH = 238021, 1120 * 98, 24834
 VALUES, ROW, EFFECT, KEY = 1024, 16, 98, 28
 # Words of their own, and tables as (first word, count of records, words of a record).
 OPTIONS, IDENTIFIER_COUNT, FUNCTION_COUNT, INTERNED_COUNT, DIAGNOSTIC_COUNT = 0, 1, 2, 12483, 12484
 IDENTIFIERS, FUNCTIONS, CONTEXTS = (3, 512, 4), (2051, 64, 163), (12485, 64, 80)
-LINKS, CACHED, DIAGNOSTICS, INTERNED = (17605, 512, 2), (18629, 512, 28), (32965, 256, 9), (35269, 2048, 98)
+LINKS, CACHED, DIAGNOSTICS = (17605, 512, 2), (18629, 512, 28), (32965, 256, 9)
+EFFECT_ORDER, INTERNED = (35269, 2048, 1), (37317, 2048, 98)
 # Words of an effect's record.
 FIRST, SECOND, KIND, REASON, MUTATION, FUNCTION, IDENTITY, INSTANCE, CAPTURES = 1, 6, 11, 12, 13, 14, 15, 16, 17
 # Codes of keys that hold a source.
@@ -48,10 +49,10 @@ class Instruction:
 
 
 class End:
-    """What stands after the last instruction; the context is compared below `limit`, what follows is looked up record by record."""
+    """What stands after the last instruction; the context is compared below `limit`, what follows record by record, along the order of keys."""
 
     # All parts at once.
-    # They are those of a job's beginning, with the context cut.
+    # They are those of a job's beginning, with the context cut; the records ascend by their keys.
     def __init__(self, flag, session, values, sets, limit, context, records):
         self.flag, self.session, self.values, self.sets = flag, session, values, sets
         self.limit, self.context, self.records = limit, context, records
@@ -142,6 +143,18 @@ def candidate_words(c, places, identity):
     return out
 
 
+# The key of an effect's record as numbers: code, source, destination, kind, reason, function, identity, captures.
+# KeyOrder.antt: absent is 0 and n is n + 1; such lists are compared as Python compares them. Not in it: Mutate's reason, Impure's diagnostic.
+def effect_key(words):
+    code, makes = words[0], words[0] in (CREATE, CREATE_FUNCTION)
+    source = 0 if makes else words[FIRST] + 1
+    into = words[SECOND] + 1 if makes or code in FLOWS else 0
+    function = words[FUNCTION] + 1 if code == CREATE_FUNCTION else 0
+    identity = words[IDENTITY] if code in (MUTATE_FROZEN, MUTATE_GLOBAL) else 0
+    captures = [words[CAPTURES + 1 + 5 * k] for k in range(min(words[CAPTURES], MAX_CAPTURES))]
+    return [code, source, into, words[KIND], words[REASON], function, identity, *captures]
+
+
 # A cached key: there, code, source, destination, kind, reason, function, no identity, captures.
 # KeyRecords.antt; a number that may be absent has two words.
 def key_words(code, source, into, kind, reason, function, captures):
@@ -205,6 +218,15 @@ def put_diagnostics(context, records):
         put(context, at(DIAGNOSTICS, k), words)
 
 
+# Puts interned effects in the order of their numbers, their count, and the order of their keys.
+# Place j of the order holds the number of the effect that comes j-th.
+def put_interned(context, effects):
+    put(context, INTERNED_COUNT, [len(effects)])
+    for k, words in enumerate(effects):
+        put(context, at(INTERNED, k), words)
+    put(context, at(EFFECT_ORDER, 0), sorted(range(len(effects)), key=lambda k: effect_key(effects[k])))
+
+
 # The recorded keys of a job, as (number, words).
 # The captures' identifiers come from its places.
 def job_keys(job):
@@ -223,14 +245,12 @@ def first_context(job):
     put_places(context, job)
     put_numbers(context, job["links"], job_keys(job), job["head"][3])
     put_diagnostics(context, [[ids[k], *d] for k, d in enumerate(job["diagnostics"])])
-    put(context, INTERNED_COUNT, [len(job["interned"])])
-    for k, c in enumerate(job["interned"]):
-        put(context, at(INTERNED, k), candidate_words(c, job["places"], ids.__getitem__))
+    put_interned(context, [candidate_words(c, job["places"], ids.__getitem__) for c in job["interned"]])
     return context
 
 
-# The context at a job's end, but for its interned effects, of which the count stands.
-# They are recorded in another order.
+# The context at a job's end, but for its interned effects and their order; their count stands.
+# They are recorded by their keys and not by their numbers.
 def last_context(job, answer):
     context = {}
     put_fixed(context, job)
@@ -283,10 +303,11 @@ def of_job(job, answer):
     out.context = first_context(job)
     out.instructions = instructions_of(job, answer)
     session = [answer["next"], *answer["access"], answer["walked"]]
-    interned = [records([effect_words(e)]) for e in answer["interned"]]
-    if len({tuple(sorted(r.items())) for r in interned}) != len(interned):
-        raise NotLent("an interned effect stands twice")
-    out.end = End(answer["flag"], session, values_of(answer["values"]), sets_of(answer["sets"]), INTERNED[0], last_context(job, answer), interned)
+    interned = sorted((effect_words(e) for e in answer["interned"]), key=effect_key)
+    if any(effect_key(a) == effect_key(b) for a, b in zip(interned, interned[1:])):
+        raise NotLent("two interned effects of one key")
+    values, sets = values_of(answer["values"]), sets_of(answer["sets"])
+    out.end = End(answer["flag"], session, values, sets, EFFECT_ORDER[0], last_context(job, answer), [records([words]) for words in interned])
     return out
 
 

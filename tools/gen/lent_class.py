@@ -124,14 +124,6 @@ def test_effect(c, words, lent, n, functions, apply):
         c.needs(words[IDENTITY] == lent.context.get(at(DIAGNOSTICS, words[INSTANCE]), 0))
 
 
-# The key of an effect's record, as `effect_key` has it.
-# Neither Mutate's reason nor Impure's diagnostic is in it.
-def effect_key(words):
-    captures = [words[CAPTURES + 1 + 5 * k] for k in range(min(words[CAPTURES], MAX_CAPTURES))]
-    identity = words[IDENTITY] if words[0] in (MUTATE_FROZEN, MUTATE_GLOBAL) else 0
-    return (words[0], words[FIRST], words[SECOND], words[KIND], words[REASON], words[FUNCTION], identity, *captures)
-
-
 # Identifiers and functions of a context.
 # An instruction only reads them.
 def test_fixed(c, context, n, functions):
@@ -227,6 +219,16 @@ def test_diagnostics(c, context, n, count):
         seen.add(tuple(words))
 
 
+# The order of the interned effects: numbers of records in use, along which the keys ascend.
+# Two effects of one key cannot ascend, wherever they stand in it; n places that do name every one of n records.
+def test_order(c, context, count):
+    order = [context.get(at(EFFECT_ORDER, j), 0) for j in range(count)]
+    for k in order:
+        c.below(k, count)
+    keys = [effect_key(record_of(context, INTERNED, k)) for k in order]
+    c.orderly(all(a < b for a, b in zip(keys, keys[1:])))
+
+
 # What stands after the records in use of each table.
 # "also after the last record, and at a number that is not handed out yet"
 def test_rest(c, context, used):
@@ -246,15 +248,12 @@ def test_context(c, lent, n):
     test_fixed(c, context, n, functions)
     test_numbers(c, context, n, functions, next_number)
     test_diagnostics(c, context, n, count)
-    keys = set()
     for k in range(interned):
-        words = record_of(context, INTERNED, k)
-        test_effect(c, words, lent, n, functions, 3)
-        c.orderly(effect_key(words) not in keys)
-        keys.add(effect_key(words))
+        test_effect(c, record_of(context, INTERNED, k), lent, n, functions, 3)
+    test_order(c, context, interned)
     handed_out = min(next_number, MAX_NEXT)
     test_rest(c, context, [(IDENTIFIERS, n), (FUNCTIONS, functions), (CONTEXTS, functions), (LINKS, handed_out), (CACHED, handed_out),
-                           (DIAGNOSTICS, count), (INTERNED, interned)])
+                           (DIAGNOSTICS, count), (EFFECT_ORDER, interned), (INTERNED, interned)])
 
 
 # An instruction over a context.

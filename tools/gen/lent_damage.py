@@ -55,11 +55,17 @@ def named(lent):
     return {r[INSTANCE] for r in records if r[0] in DIAGNOSED}
 
 
+# The order of the interned effects of a job, as the list of their numbers.
+# As long as their count says.
+def order_of(lent):
+    return [lent.context.get(at(EFFECT_ORDER, j), 0) for j in range(interned(lent))]
+
+
 # Of each table the first record in use and the one after the last.
 IN_USE = {
     IDENTIFIERS: lambda t: (0, t.identifiers()), FUNCTIONS: lambda t: (0, functions(t)), CONTEXTS: lambda t: (0, functions(t)),
     LINKS: lambda t: (1, next_number(t)), CACHED: lambda t: (1, next_number(t)), DIAGNOSTICS: lambda t: (0, diagnostics(t)),
-    INTERNED: lambda t: (0, interned(t)), CANDIDATES: lambda t: (0, candidates(t)),
+    EFFECT_ORDER: lambda t: (0, interned(t)), INTERNED: lambda t: (0, interned(t)), CANDIDATES: lambda t: (0, candidates(t)),
 }
 
 
@@ -209,7 +215,7 @@ def member(defined, number):
 
 
 # A record of a table is repeated after its last one, and counted.
-# Interned effects and diagnostics.
+# Diagnostics, and interned effects without a place in the order.
 def repeated(table, count):
     def act(lent, rng):
         n = IN_USE[table](lent)[1]
@@ -219,6 +225,123 @@ def repeated(table, count):
         put(lent.context, count, [n + 1])
         return True
     return act
+
+
+# An interned effect is repeated after the last one, counted, and comes next to the first by its key; a change makes the copy, or none.
+# "two entries of one key": its order is right but for the two.
+def doubled(change):
+    def act(lent, rng):
+        n, order = interned(lent), order_of(lent)
+        copies = [(j, change(lent, record_of(lent.context, INTERNED, k))) for j, k in enumerate(order)]
+        fit = [(j, words) for j, words in copies if words is not None]
+        if not fit or n == INTERNED[1]:
+            return False
+        j, words = rng.choice(fit)
+        put(lent.context, at(INTERNED, n), words)
+        put(lent.context, INTERNED_COUNT, [n + 1])
+        put(lent.context, at(EFFECT_ORDER, 0), order[:j + 1] + [n] + order[j + 1:])
+        return True
+    return act
+
+
+# An effect with a word raised by one, where its code is one of those given.
+# For words that are not in its key; spans may hold anything.
+def raised(w, *codes):
+    def change(lent, words):
+        if words[0] not in codes or words[w] == FULL:
+            return None
+        return words[:w] + [words[w] + 1] + words[w + 1:]
+    return change
+
+
+# A Mutate without a reason gets one.
+# "Neither Mutate's reason nor Impure's diagnostic is in the key."
+def with_reason(lent, words):
+    return raised(MUTATION, MUTATE)(lent, words) if words[MUTATION] == 0 else None
+
+
+# An Impure gets a diagnostic of a higher identity.
+# The first one of the table.
+def with_diagnostic(lent, words):
+    found = [(record_of(lent.context, DIAGNOSTICS, d)[0], d) for d in range(diagnostics(lent))]
+    higher = [(identity, d) for identity, d in found if words[0] == IMPURE and identity > words[IDENTITY]]
+    return words[:IDENTITY] + list(higher[0]) + words[INSTANCE + 1:] if higher else None
+
+
+# The order gets other places from the old ones, where there are enough of them.
+# A change gets their list and chance.
+def reordered(change, least=2):
+    def act(lent, rng):
+        order = order_of(lent)
+        if len(order) < least:
+            return False
+        put(lent.context, at(EFFECT_ORDER, 0), change(order, rng))
+        return True
+    return act
+
+
+# Two places of an order exchanged, by chance.
+# Any two.
+def exchanged(order, rng):
+    i, j = sorted(rng.sample(range(len(order)), 2))
+    return order[:i] + [order[j]] + order[i + 1:j] + [order[i]] + order[j + 1:]
+
+
+# A place of an order names what the one before it names.
+# By chance, and not the first.
+def named_again(order, rng):
+    j = rng.randrange(1, len(order))
+    return order[:j] + [order[j - 1]] + order[j + 1:]
+
+
+# Two more interned effects, given by their words that are not zero, that come in the order the other way round.
+# Only where the call is accepted with the two in their order.
+def disordered(first, second):
+    def act(lent, rng):
+        effects = [record_of(lent.context, INTERNED, k) for k in range(interned(lent))]
+        n = len(effects)
+        if n + 2 > INTERNED[1]:
+            return False
+        put_interned(lent.context, effects + [[words.get(w, 0) for w in range(EFFECT)] for words in (first, second)])
+        if call_class(lent):
+            return False
+        put(lent.context, at(EFFECT_ORDER, 0), [{n: n + 1, n + 1: n}.get(k, k) for k in order_of(lent)])
+        return True
+    return act
+
+
+# Two interned effects exchanged, or one of them put in the place of both; the order stays.
+# Every record is right.
+def records_changed(both):
+    def act(lent, rng):
+        if interned(lent) < 2:
+            return False
+        a, b = rng.sample(range(interned(lent)), 2)
+        first, second = (record_of(lent.context, INTERNED, k) for k in (a, b))
+        put(lent.context, at(INTERNED, a), second)
+        if both:
+            put(lent.context, at(INTERNED, b), first)
+        return True
+    return act
+
+
+# The last interned effect is not counted, where its number has a place among the first of the order, or the last place.
+# Then a place is out of range, or a word of the order has no use.
+def uncounted_effect(last):
+    def act(lent, rng):
+        order = order_of(lent)
+        if not order or (order[-1] == len(order) - 1) != last:
+            return False
+        return uncounted(INTERNED, INTERNED_COUNT)(lent, rng)
+    return act
+
+
+# The last interned effect is not counted, and has no place in the order.
+# Its words alone are too many.
+def left_over(lent, rng):
+    order = order_of(lent)
+    put(lent.context, at(EFFECT_ORDER, 0), [k for k in order if k != len(order) - 1] + [0] * bool(order))
+    return uncounted(INTERNED, INTERNED_COUNT)(lent, rng)
 
 
 # The count of a table falls by one.
@@ -328,6 +451,26 @@ def of_effects(name, table):
     ]]
 
 
+# Damages of the order by the part of two keys that decides: all before it is equal.
+# Every part of a key, and a list of captures that ends first.
+def of_parts():
+    function = {0: CREATE_FUNCTION, CAPTURES: 1}
+    return [("order: by " + name + ", exchanged", 4, disordered(first, second)) for name, first, second in [
+        ("code", {0: MUTATE_COND}, {0: MUTATE_TRANS}),
+        ("source", {0: CAPTURE}, {0: CAPTURE, FIRST: 1}),
+        ("destination", {0: CAPTURE}, {0: CAPTURE, SECOND: 1}),
+        ("kind", {0: CREATE}, {0: CREATE, KIND: 1}),
+        ("reason", {0: FREEZE}, {0: FREEZE, REASON: 1}),
+        ("function", function, {**function, FUNCTION: 1}),
+        ("identity", {0: MUTATE_FROZEN}, {0: MUTATE_FROZEN, IDENTITY: 1, INSTANCE: 1}),
+        ("capture", function, {**function, CAPTURES + 1: 1}),
+        ("last capture", {**function, CAPTURES: 16}, {**function, CAPTURES: 16, CAPTURES + 76: 1}),
+        ("count of captures", function, {**function, CAPTURES: 2}),
+        ("source before destination", {0: CAPTURE, SECOND: 1}, {0: CAPTURE, FIRST: 1}),
+        ("captures before their count", {**function, CAPTURES: 2}, {**function, CAPTURES + 1: 1}),
+    ]]
+
+
 # Name, class and damage of every way to spoil a call.
 # A class is what document 01 and DECISIONS 14 and 24 give it.
 DAMAGES = [
@@ -411,6 +554,11 @@ DAMAGES = [
     ("sentence 11", 3, field(DIAGNOSTICS, 3, 11, lambda r: r[2] == 0)),
     ("name 513 of a diagnostic", 3, field(DIAGNOSTICS, 4, 513)),
     ("an interned Apply", 3, field(INTERNED, 0, APPLY)),
+    ("a place of the order not in the list", 3, field(EFFECT_ORDER, 0, interned)),
+    ("a place of the order FFFFFFFF", 3, field(EFFECT_ORDER, 0, FULL)),
+    ("the first place of the order not in the list", 3, reordered(lambda order, rng: [len(order)] + order[1:], 1)),
+    ("the last place of the order not in the list", 3, reordered(lambda order, rng: order[:-1] + [len(order)], 1)),
+    ("an interned effect not counted, which is not the last of the order", 3, uncounted_effect(False)),
     ("lvalue not in the list", 3, lvalue(0, N)),
     ("lvalue's effect 8", 3, lvalue(1, lambda t: 8)),
     ("lvalue reactive 2", 3, lvalue(2, lambda t: 2)),
@@ -430,8 +578,11 @@ DAMAGES = [
     ("after the last link", 4, after(LINKS)),
     ("after the last key", 4, after(CACHED)),
     ("after the last diagnostic", 4, after(DIAGNOSTICS)),
+    ("after the last place of the order", 4, after(EFFECT_ORDER)),
+    ("the last word of the order", 4, lambda t, r: interned(t) < INTERNED[1] and word(at(EFFECT_ORDER, EFFECT_ORDER[1] - 1), 1)(t, r)),
     ("after the last interned effect", 4, after(INTERNED)),
-    ("an interned effect not counted", 4, uncounted(INTERNED, INTERNED_COUNT)),
+    ("an interned effect not counted, the last of the order", 4, uncounted_effect(True)),
+    ("an interned effect not counted, not in the order", 4, left_over),
     ("a diagnostic not counted", 4, lambda t, r: diagnostics(t) - 1 not in named(t) and uncounted(DIAGNOSTICS, DIAGNOSTIC_COUNT)(t, r)),
     ("a diagnostic counted that is none", 4, lambda t, r: N(t) > 0 and word(DIAGNOSTIC_COUNT, diagnostics(t) + 1)(t, r)),
     ("the last word of the context", 4, word(LONG - 1, 1)),
@@ -449,13 +600,28 @@ DAMAGES = [
     ("an identity out of turn", 4, misnumbered),
     ("sentence of case 1", 4, field(DIAGNOSTICS, 3, 1, lambda r: r[2] == 1)),
     ("access label of case 0", 4, field(DIAGNOSTICS, 5, 1, lambda r: r[2] == 0)),
-    ("an interned effect twice", 4, repeated(INTERNED, INTERNED_COUNT)),
+    ("an interned effect twice", 4, doubled(lambda t, words: words)),
+    ("an interned effect twice, the other span of its source", 4, doubled(raised(FIRST + 3, *MUTATIONS, *FLOWS, FREEZE, RENDER, *DIAGNOSED))),
+    ("an interned effect twice, the other span of its destination", 4, doubled(raised(SECOND + 4, *FLOWS, CREATE, CREATE_FUNCTION))),
+    ("an interned effect twice, the other span of a capture", 4, doubled(lambda t, words: raised(CAPTURES + 4, CREATE_FUNCTION)(t, words) if words[CAPTURES] else None)),
+    ("a Mutate twice, with a reason and without", 4, doubled(with_reason)),
+    ("an Impure twice, with two diagnostics", 4, doubled(with_diagnostic)),
+    ("an interned effect twice, the other without a place in the order", 4, repeated(INTERNED, INTERNED_COUNT)),
+    ("two interned effects equal, their order as before", 4, records_changed(False)),
+    ("two interned effects exchanged, their order as before", 4, records_changed(True)),
+    ("two places of the order exchanged", 4, reordered(exchanged)),
+    ("the first two places of the order exchanged", 4, reordered(lambda order, rng: order[1::-1] + order[2:])),
+    ("the last two places of the order exchanged", 4, reordered(lambda order, rng: order[:-2] + order[:-3:-1])),
+    ("the order backwards", 4, reordered(lambda order, rng: order[::-1])),
+    ("no order", 4, reordered(lambda order, rng: [0] * len(order))),
+    ("a place of the order twice", 4, reordered(named_again)),
+    ("the last place of the order as the first", 4, reordered(lambda order, rng: order[:-1] + order[:1])),
     ("the first candidate an Apply", 5, applied(lambda n, rng: 0, False)),
     ("the last candidate an Apply", 5, applied(lambda n, rng: n - 1, False)),
     ("a candidate an Apply with anything in it", 5, applied(lambda n, rng: rng.randrange(n), True)),
     ("the last candidate an Apply with anything in it", 5, applied(lambda n, rng: n - 1, True)),
     ("every candidate an Apply", 5, all_applied),
-] + of_effects("interned", INTERNED) + of_effects("candidate", CANDIDATES)
+] + of_parts() + of_effects("interned", INTERNED) + of_effects("candidate", CANDIDATES)
 
 # Two damages in places that do not meet: the lower class wins.
 # Named by their names above.
@@ -466,7 +632,9 @@ PAIRS = [
     ("options 4", "the last word of the context"), ("next 513", "the last word of the context"), ("options 4", "the first candidate an Apply"),
     ("own function not in the list", "a candidate an Apply with anything in it"), ("lvalue's effect 8", "reasons without an entry"),
     ("the last word of the context", "the first candidate an Apply"), ("after the last diagnostic", "the last candidate an Apply"),
-    ("reasons at number 0", "a candidate an Apply with anything in it"),
+    ("reasons at number 0", "a candidate an Apply with anything in it"), ("65 functions", "a place of the order not in the list"),
+    ("a place of the order FFFFFFFF", "the last word of the context"), ("options 4", "two places of the order exchanged"),
+    ("a place of the order not in the list", "the first candidate an Apply"), ("two places of the order exchanged", "the first candidate an Apply"),
 ]
 
 

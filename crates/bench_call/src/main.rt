@@ -103,17 +103,24 @@ fn lend_walk(values: &mut [u64], sets: &mut [u64]) {
 // Interned effect k of a full context: ImmutableCapture from identifier k % 512 into identifier k / 512.
 // 2,048 keys.
 fn intern_one(context: &mut [u32], k: u32) {
-    let at = 35269 + wide32(k) * 98;
+    let at = 37317 + wide32(k) * 98;
     set32(context, at, 11);
     set32(context, at + 1, k % 512);
     set32(context, at + 6, k / 512);
 }
 
-// All 2,048 of them.
+// Place j of the order of these effects: by their source first, so that those of one source stand side by side.
+// ImmutableCapture from identifier j / 4 into identifier j % 4.
+fn order_one(context: &mut [u32], j: u32) {
+    set32(context, 35269 + wide32(j), j % 4 * 512 + j / 4);
+}
+
+// All 2,048 of them, and their order.
 fn intern_all(context: &mut [u32]) {
     let mut k: u32 = 0;
     while k < 2048 {
         intern_one(context, k);
+        order_one(context, k);
         k += 1;
     }
 }
@@ -246,11 +253,11 @@ fn repeat(
 fn measure_case_1(n: u32) -> u64 {
     let mut values = [0u64; 1024];
     let mut sets = [0u64; 32];
-    let mut context = [0u32; 235973];
+    let mut context = [0u32; 238021];
     let mut candidates = [0u32; 196];
     let mut output = [0u32; 109760];
     let mut scratch64 = [0u64; 1056];
-    let mut scratch32 = [0u32; 22786];
+    let mut scratch32 = [0u32; 24834];
     lend_case_1(&mut context, &mut candidates);
     repeat(
         n,
@@ -270,11 +277,11 @@ fn measure_case_1(n: u32) -> u64 {
 fn measure_walk(n: u32) -> u64 {
     let mut values = [0u64; 1024];
     let mut sets = [0u64; 32];
-    let mut context = [0u32; 235973];
+    let mut context = [0u32; 238021];
     let candidates = [0u32; 98];
     let mut output = [0u32; 109760];
     let mut scratch64 = [0u64; 1056];
-    let mut scratch32 = [0u32; 22786];
+    let mut scratch32 = [0u32; 24834];
     lend_function(&mut context);
     lend_walk(&mut values, &mut sets);
     repeat(
@@ -295,11 +302,11 @@ fn measure_walk(n: u32) -> u64 {
 fn measure_full(n: u32) -> u64 {
     let mut values = [0u64; 1024];
     let mut sets = [0u64; 8192];
-    let mut context = [0u32; 235973];
+    let mut context = [0u32; 238021];
     let mut candidates = [0u32; 98];
     let mut output = [0u32; 109760];
     let mut scratch64 = [0u64; 9216];
-    let mut scratch32 = [0u32; 22786];
+    let mut scratch32 = [0u32; 24834];
     fill_values(&mut values);
     fill_sets(&mut sets, &[18446744073709551615u64; 16]);
     lend_full(&mut context, &mut candidates);

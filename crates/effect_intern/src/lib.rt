@@ -12,14 +12,19 @@ ghost use Rattle.lent_effects.specs.Records.{effectWith, capturesOf};
 ghost use Rattle.lent_world.specs.World.{world};
 ghost use Rattle.effect_intern.specs.Interning.{chosen};
 ghost use Rattle.lent_slices.specs.Lent.{old, new};
+use base_search::Spot;
 use def_effects::AliasingDiagnostic;
 use lent_effect_read::effect_in;
 use lent_effect_write::put_effect;
 use lent_effects::AliasingEffect;
+use lent_key_of::key_of;
 use lent_keys::Found;
+use lent_layout::EFFECT_ORDER;
 use lent_layout::INTERNED;
 use lent_layout::INTERNED_COUNT;
 use lent_links::interned_count;
+use lent_order::insert;
+use lent_order::order_at;
 use lent_search::find_effect;
 use lent_slices::set32;
 use lent_slices::wide32;
@@ -120,7 +125,7 @@ fn refresh(e: AliasingEffect, x: AliasingEffect) -> AliasingEffect
     }
 }
 
-// The first effect under the key of an effect is used ever after; a new one is appended, and 8 refuses the 2,049th.
+// The first effect under the key of an effect is used ever after; a new one is appended and takes its place in the order, and 8 refuses the 2,049th.
 // This is intern_effect of the Rust.
 pub fn intern_effect(context: &mut [u32], e: AliasingEffect, captures: &[u32]) -> Interned
     ensures { λ r. ⌜
@@ -132,32 +137,35 @@ pub fn intern_effect(context: &mut [u32], e: AliasingEffect, captures: &[u32]) -
         (chosen (new context) (r .found) (capturesOf (old captures))))
         (world vs ss (new context) os run)) ⌝ }
 {
-    let found = find_effect(context, e, captures);
-    match found {
-        Found::At(j) => {
-            let x = effect_in(INTERNED, context, wide32(j));
+    let spot = find_effect(context, key_of(e), captures);
+    match spot {
+        Spot::At(j) => {
+            let k = order_at(EFFECT_ORDER, context, j);
+            let x = effect_in(INTERNED, context, wide32(k));
             let effect = refresh(e, x);
-            return Interned {
+            Interned {
                 refusal: 0,
-                found: Found::At(j),
+                found: Found::At(k),
                 effect,
-            };
+            }
         }
-        Found::Nowhere => {}
-    }
-    let n = interned_count(context);
-    if n >= 2048 {
-        return Interned {
-            refusal: 8,
-            found: Found::Nowhere,
-            effect: e,
-        };
-    }
-    put_effect(INTERNED, context, wide32(n), e, captures);
-    set32(context, INTERNED_COUNT, n + 1);
-    Interned {
-        refusal: 0,
-        found: Found::Nowhere,
-        effect: e,
+        Spot::Before(p) => {
+            let n = interned_count(context);
+            if n >= 2048 {
+                return Interned {
+                    refusal: 8,
+                    found: Found::Nowhere,
+                    effect: e,
+                };
+            }
+            put_effect(INTERNED, context, wide32(n), e, captures);
+            insert(EFFECT_ORDER, context, n, p, n);
+            set32(context, INTERNED_COUNT, n + 1);
+            Interned {
+                refusal: 0,
+                found: Found::Nowhere,
+                effect: e,
+            }
+        }
     }
 }

@@ -1,4 +1,5 @@
 pub mod Code
 pub mod Search
+pub mod Ordered
 pub mod ReadMade
 pub mod Abstract

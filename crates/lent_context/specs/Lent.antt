@@ -6,11 +6,14 @@ use mathlib.Core.Option.{Option, none, some}
 use lib.Dec.{eqb}
 use lib.ListN.{getD, set}
 use Rattle.base_tests.specs.Tests.{ite}
+use Rattle.base_search.specs.declared.Spot.{Spot}
+use Rattle.base_search.specs.declared.Spot.the-variants.{At, Before}
+use Rattle.base_search.specs.Search.{along}
 use Rattle.def_effects.specs.declared.Span.{Span}
 use Rattle.def_effects.specs.declared.Place.{Place}
 use Rattle.def_effects.specs.Places as Places
 use Rattle.def_effects.specs.Effects.{AliasingEffect}
-use Rattle.def_effects.specs.Keys.{EffectKey}
+use Rattle.def_effects.specs.Keys.{EffectKey, effectKey}
 use Rattle.def_transfer.specs.Diagnostics.{Diagnostic}
 use Rattle.def_transfer.specs.Pure as Pure
 use Rattle.def_transfer.specs.Pure.{Interned, firstCached, identities}
@@ -20,6 +23,8 @@ use Rattle.lent_effects.specs.Records.{effectIn, putEffect}
 use Rattle.lent_keys.specs.KeyRecords.{optionIn, putOption, keyIn}
 use Rattle.lent_keys.specs.KeyRecords as Keys
 use Rattle.lent_layout.specs.Layout as Layout
+use Rattle.lent_order.specs.Order.{orderAt, inserted}
+use Rattle.def_key_order.specs.KeyOrder.{compareKeys}
 
 -- bit 0 and bit 1 of flags
 -- any number is read; a flag out of range is refused before it is used
@@ -44,21 +49,36 @@ effectsIn t c k (suc n) = effectIn t c k ∷ effectsIn t c (suc k) n
 unfoldable pub internedCount : List ℕ → ℕ
 internedCount c = getD c Layout.internedCount 0
 
--- "The first effect under a key of `effect_key` is used ever after"
--- the definition's own search, over the effects that the words hold
-unfoldable pub findEffect : List ℕ → EffectKey → Option AliasingEffect
-findEffect c k = Pure.findEffect (effectsIn Layout.interned c 0 (internedCount c)) k
+-- the key of an interned effect
+abbrev pub internedKey : List ℕ → ℕ → EffectKey
+internedKey c r = effectKey (effectIn Layout.interned c r)
 
--- an interned effect by its place in the table, or none
+-- where the order of the interned effects has a key, or would have it
+-- a search by halves, total on any words
+unfoldable pub effectSpot : List ℕ → EffectKey → Spot
+effectSpot c k = along (λ j. compareKeys k (internedKey c (orderAt Layout.effectOrder c j))) (internedCount c)
+
+-- the interned effect at a place of the order, or none
 -- code finds places, the definition effects
-abbrev pub effectAt : List ℕ → Option ℕ → Option AliasingEffect
-effectAt c none = none
-effectAt c (some k) = some (effectIn Layout.interned c k)
+abbrev pub effectAt : List ℕ → Spot → Option AliasingEffect
+effectAt c (At j) = some (effectIn Layout.interned c (orderAt Layout.effectOrder c j))
+effectAt c (Before p) = none
 
--- an effect is appended, and counted
+-- "The first effect under a key of `effect_key` is used ever after"
+-- where no two have one key and the order is right, the search finds it (`Laws/Ordered.antt`: `first-under`)
+unfoldable pub findEffect : List ℕ → EffectKey → Option AliasingEffect
+findEffect c k = effectAt c (effectSpot c k)
+
+-- the place of the order where a search ended
+abbrev pub placeOf : Spot → ℕ
+placeOf (At j) = j
+placeOf (Before p) = p
+
+-- an effect is appended, takes its place in the order, and is counted
 -- "a 2,049th key to intern" is refused before
 unfoldable pub addEffect : List ℕ → AliasingEffect → List ℕ
-addEffect c e = set (putEffect Layout.interned c (internedCount c) e) Layout.internedCount (internedCount c + 1)
+addEffect c e =
+    set (inserted Layout.effectOrder (placeOf (effectSpot c (effectKey e))) (internedCount c) (internedCount c) (putEffect Layout.interned c (internedCount c) e)) Layout.internedCount (internedCount c + 1)
 
 -- ---- cached numbers
 

@@ -57,20 +57,25 @@ cached = record { base = 18629; count = 512; width = 28 }
 abbrev pub diagnostics : Table
 diagnostics = record { base = 32965; count = 256; width = 9 }
 
+-- the order of the interned effects: word j is the record that comes j-th by its key
+-- so that a key is found by halves, and two entries of one key stand side by side
+abbrev pub effectOrder : Table
+effectOrder = record { base = 35269; count = 2048; width = 1 }
+
 -- interned effects: the first effect under a key
 -- the last table: 2,048 records
 abbrev pub interned : Table
-interned = record { base = 35269; count = 2048; width = 98 }
+interned = record { base = 37317; count = 2048; width = 98 }
 
 -- how many words a context has
 -- "1 a lent slice .. has the wrong length"
 abbrev pub long : ℕ
-long = 235973
+long = 238021
 
 -- how many of its words are saved: those from the count of interned effects to before the effects themselves
 -- every word that an instruction may change, but for the effects that it appends
 abbrev pub savedWords : ℕ
-savedWords = 22786
+savedWords = 24834
 
 -- ---- effects in lists of their own, and what stands beside them
 

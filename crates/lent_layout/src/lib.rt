@@ -58,24 +58,31 @@ pub const DIAGNOSTICS: Table = Table {
     width: 9,
 };
 
+// The order of the interned effects: word j is the record that comes j-th by its key.
+pub const EFFECT_ORDER: Table = Table {
+    base: 35269,
+    count: 2048,
+    width: 1,
+};
+
 // Interned effects, the last table.
 pub const INTERNED: Table = Table {
-    base: 35269,
+    base: 37317,
     count: 2048,
     width: 98,
 };
 
 // How many words a context has, and how many of them are saved: those from the count of interned effects up to the effects themselves.
-pub const CONTEXT_WORDS: usize = 235973;
+pub const CONTEXT_WORDS: usize = 238021;
 
-pub const SAVED_WORDS: usize = 22786;
+pub const SAVED_WORDS: usize = 24834;
 
-pub const EFFECTS_FROM: usize = 35269;
+pub const EFFECTS_FROM: usize = 37317;
 
 // The same for `lent_copies::copy32`, which counts in words of 32 bits: from where on, and how many.
 pub const SAVED_FROM: u32 = 12483;
 
-pub const SAVED: u32 = 22786;
+pub const SAVED: u32 = 24834;
 
 // ---- effects in slices of their own
 

@@ -1,57 +1,94 @@
-// What the context has under a key: the interned effect, the cached number.
+// What the context has under a key: the interned effect, by halves along the order of their keys; the cached number.
 ghost use mathlib.Core.Path.{_≡_};
 ghost use Prim.Native.Nat.{_+_};
-ghost use Rattle.def_effects.specs.Keys.{effectKey, eqKey};
+ghost use Rattle.def_effects.specs.Keys.{effectKey};
 ghost use Rattle.def_effects.specs.Places.{identifiers};
-ghost use Rattle.lent_effects.specs.Records.{effectIn, effectWith, capturesOf};
+ghost use Rattle.def_key_order.specs.KeyOrder.{compareKeys};
+ghost use Rattle.lent_effects.specs.Records.{effectIn, capturesOf};
 ghost use Rattle.lent_keys.specs.KeyRecords.{optionOf, keyWith};
 ghost use Rattle.lent_layout.specs.Layout as Layout;
 ghost use Rattle.lent_context.specs.Lent as Lent;
-ghost use Rattle.lent_context.specs.Lent.{effectAt};
 ghost use Rattle.lent_slices.specs.Lent.{old};
-use lent_effects::AliasingEffect;
-use lent_effects::code_in;
-use lent_key_of::effect_has_key;
+use base_search::Order;
+use base_search::Spot;
+use lent_effect_read::effect_in;
 use lent_key_of::key_of;
+use lent_key_order::compare_heads;
+use lent_key_order::compare_runs;
 use lent_keys::Found;
 use lent_keys::Key;
 use lent_keys::record_has_key;
+use lent_keys::taken;
 use lent_layout::CACHED;
+use lent_layout::EFFECT_ORDER;
 use lent_layout::INTERNED;
+use lent_layout::ONE_RUN;
 use lent_links::interned_count;
+use lent_order::order_at;
 use lent_slices::wide32;
+use lent_tables::field;
 
-// Whether interned effect k has a key; the key's captures stand beside it.
-// An effect of another code is passed over by its first word.
-fn is_under(context: &[u32], k: u32, key: Key, captures: &[u32]) -> bool
+// A key against that of interned effect k; the key's captures stand beside it, the record's in the record.
+// Captures are compared only where the rest is equal.
+pub fn compare_effect(context: &[u32], k: u32, key: Key, captures: &[u32]) -> Order
     ensures { λ r. ⌜
         r
-        ≡ eqKey (keyWith key (identifiers (capturesOf (old captures))))
+        ≡ compareKeys (keyWith key (identifiers (capturesOf (old captures))))
         (effectKey (effectIn Layout.interned (old context) k)) ⌝ }
 {
-    if key.code != code_in(INTERNED, context, wide32(k)) {
-        return false;
+    let i = wide32(k);
+    let other = key_of(effect_in(INTERNED, context, i));
+    let heads = compare_heads(key, other);
+    match heads {
+        Order::Less => Order::Less,
+        Order::Same => {
+            let n = taken(key.captured, field(ONE_RUN, captures, 0, 0));
+            let m = taken(other.captured, field(INTERNED, context, i, 17));
+            compare_runs(
+                ONE_RUN,
+                captures,
+                0,
+                1,
+                5,
+                n,
+                INTERNED,
+                context,
+                i,
+                18,
+                5,
+                m,
+            )
+        }
+        Order::More => Order::More,
     }
-    effect_has_key(INTERNED, context, wide32(k), key, captures)
 }
 
-// The first interned effect under the key of an effect, by its place in the table.
-// "The first effect under a key of `effect_key` is used ever after."
-pub fn find_effect(context: &[u32], e: AliasingEffect, captures: &[u32]) -> Found
+// Where the order of the interned effects has a key, or would have it.
+// By halves; on any words it ends.
+pub fn find_effect(context: &[u32], key: Key, captures: &[u32]) -> Spot
     ensures { λ r. ⌜
-        Lent.findEffect (old context) (effectKey (effectWith e (capturesOf (old captures))))
-        ≡ effectAt (old context) (optionOf r) ⌝ }
+        r ≡ Lent.effectSpot (old context) (keyWith key (identifiers (capturesOf (old captures)))) ⌝ }
 {
-    let key = key_of(e);
     let n = interned_count(context);
-    let mut k: u32 = 0;
-    while k < n {
-        if is_under(context, k, key, captures) {
-            return Found::At(k);
+    let mut lo: u32 = 0;
+    let mut hi: u32 = n;
+    while lo < hi {
+        let mid = lo + (hi - lo) / 2;
+        let k = order_at(EFFECT_ORDER, context, mid);
+        let o = compare_effect(context, k, key, captures);
+        match o {
+            Order::Less => {
+                hi = mid;
+            }
+            Order::Same => {
+                return Spot::At(mid);
+            }
+            Order::More => {
+                lo = mid + 1;
+            }
         }
-        k += 1;
     }
-    Found::Nowhere
+    Spot::Before(lo)
 }
 
 // The lowest fresh number that is cached under a key.

@@ -18,6 +18,7 @@ use lent_links::interned_count;
 use lent_slices::get32;
 use lent_slices::wide32;
 use refuse_class::lower;
+use refuse_order::order_class;
 use refuse_records::diagnostic_records;
 use refuse_records::effect_records;
 use refuse_records::function_records;
@@ -89,13 +90,14 @@ fn diagnostics_class(context: &[u32], identifiers: u32) -> u32
     lower(records, stray_after(DIAGNOSTICS, context, wide32(n)))
 }
 
-// The class of the interned effects.
+// The class of the interned effects and of their order.
 fn effects_class(context: &[u32], identifiers: u32, functions: u32) -> u32
     ensures { λ r. ⌜ r ≡ effectsClass identifiers functions (old context) ⌝ }
 {
     let n = wide32(interned_count(context));
     let records = effect_records(context, n, identifiers, functions);
-    lower(records, stray_after(INTERNED, context, n))
+    let after = stray_after(INTERNED, context, n);
+    lower(records, lower(after, order_class(context)))
 }
 
 // ---- the whole context

@@ -14,7 +14,8 @@ use Rattle.refuse_class.specs.Class.{lower}
 use Rattle.refuse_words.specs.Classes.{lowestBelow, earns, wordClass, strayAfter}
 use Rattle.refuse_instruction.specs.EffectClasses.{effectClass}
 use Rattle.refuse_tables.specs.TableClasses.{identifierClass, functionClass, linkClass, keyClass, noKeyClass, messageClass}
-use Rattle.refuse_repeats.specs.Repeats.{internedTwice, keyTwice, diagnosticTwice}
+use Rattle.refuse_repeats.specs.Repeats.{keyTwice, diagnosticTwice}
+use Rattle.refuse_order.specs.Order.{orderClass}
 
 -- ---- records that may repeat one before them
 
@@ -35,9 +36,9 @@ cachedClass identifiers functions c v =
 unfoldable pub diagnosticClass : ℕ → List ℕ → ℕ → ℕ
 diagnosticClass identifiers c k = lower (messageClass identifiers c k) (earns 4 (diagnosticTwice c k))
 
--- an interned effect: right, and the first under its key
+-- an interned effect, by its words; that no other has its key is the order's
 unfoldable pub internedClass : ℕ → ℕ → List ℕ → ℕ → ℕ
-internedClass identifiers functions c k = lower (effectClass identifiers functions c 3 Layout.interned c k) (earns 4 (internedTwice c k))
+internedClass identifiers functions c k = effectClass identifiers functions c 3 Layout.interned c k
 
 -- ---- the tables: the records in use, and the words after them
 
@@ -70,9 +71,9 @@ keysClass identifiers functions c next = lower (lowestBelow (handedOut next) (ca
 unfoldable pub diagnosticsClass : ℕ → List ℕ → ℕ
 diagnosticsClass identifiers c = lower (lowestBelow (instanceCount c) (diagnosticClass identifiers c)) (strayAfter Layout.diagnostics c (instanceCount c))
 
--- the interned effects
+-- the interned effects, and their order
 unfoldable pub effectsClass : ℕ → ℕ → List ℕ → ℕ
-effectsClass identifiers functions c = lower (lowestBelow (internedCount c) (internedClass identifiers functions c)) (strayAfter Layout.interned c (internedCount c))
+effectsClass identifiers functions c = lower (lowestBelow (internedCount c) (internedClass identifiers functions c)) (lower (strayAfter Layout.interned c (internedCount c)) (orderClass c))
 
 -- ---- the whole context
 

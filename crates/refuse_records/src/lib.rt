@@ -13,7 +13,6 @@ use refuse_instruction::effect_class;
 use refuse_keys::key_class;
 use refuse_keys::no_key_class;
 use refuse_repeats::diagnostic_twice;
-use refuse_repeats::interned_twice;
 use refuse_repeats::key_twice;
 use refuse_tables::function_class;
 use refuse_tables::identifier_class;
@@ -65,16 +64,11 @@ fn diagnostic_class(context: &[u32], k: u32, identifiers: u32) -> u32
     earns(4, diagnostic_twice(context, k))
 }
 
-// The class of an interned effect: right, and the first under its key.
-// One that is refused already is not looked for among those before it.
+// The class of an interned effect by its words.
 fn interned_class(context: &[u32], k: usize, identifiers: u32, functions: u32) -> u32
     ensures { λ r. ⌜ r ≡ internedClass identifiers functions (old context) k ⌝ }
 {
-    let class = effect_class(context, 3, INTERNED, context, k, identifiers, functions);
-    if class != 0 {
-        return class;
-    }
-    earns(4, interned_twice(context, k))
+    effect_class(context, 3, INTERNED, context, k, identifiers, functions)
 }
 
 // The lowest class of n identifiers.

@@ -4,22 +4,14 @@ use mathlib.Core.Bool.{Bool, false, not, _||_}
 use mathlib.Core.List.{List}
 use mathlib.Core.Option.{Option, none, some}
 use lib.Dec.{eqb}
-use Rattle.def_effects.specs.Keys.{EffectKey, effectKey}
+use Rattle.def_effects.specs.Keys.{EffectKey}
 use Rattle.def_effects.specs.declared.Diagnostic.{Diagnostic}
 use Rattle.base_tests.specs.Tests.{isSome}
-use Rattle.def_transfer.specs.Pure.{firstCached, identities, findEffect, findIdentity, findInstance}
+use Rattle.def_transfer.specs.Pure.{firstCached, identities, findIdentity, findInstance}
 use Rattle.lent_tables.specs.Words.{field}
-use Rattle.lent_effects.specs.Records.{effectIn}
 use Rattle.lent_keys.specs.KeyRecords.{keyHeadIn, numbersIn}
 use Rattle.lent_layout.specs.Layout as Layout
-use Rattle.lent_context.specs.Lent.{effectsIn, keyAt, diagnosticIn, diagnosticsIn}
-
--- ---- interned effects
-
--- an effect under the key of one before it
--- "the first effect under a key of `effect_key` is used ever after"
-unfoldable pub internedTwice : List ℕ → ℕ → Bool
-internedTwice c k = isSome (findEffect (effectsIn Layout.interned c 0 k) (effectKey (effectIn Layout.interned c k)))
+use Rattle.lent_context.specs.Lent.{keyAt, diagnosticIn, diagnosticsIn}
 
 -- ---- cached numbers
 

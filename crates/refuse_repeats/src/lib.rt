@@ -1,92 +1,26 @@
-// Whether a record of a context repeats one before it: an interned effect, a cached key, a diagnostic.
+// Whether a record of a context repeats one before it: a cached key, a diagnostic.
 // Each search goes through the records before the one that is tested; every function is total, and its contract is one equation.
 ghost use mathlib.Core.Path.{_≡_};
-ghost use Rattle.def_effects.specs.Keys.{effectKey, eqKey};
-ghost use Rattle.def_effects.specs.Places.{identifiers};
 ghost use Rattle.base_tests.specs.Tests.{isSome};
-ghost use Rattle.def_transfer.specs.Pure.{isKey, identities, findEffect, findIdentity, findInstance};
-ghost use Rattle.lent_effects.specs.Records.{effectIn, capturesOf};
-ghost use Rattle.lent_keys.specs.KeyRecords.{optionOf, keyWith, keyIn};
+ghost use Rattle.def_transfer.specs.Pure.{isKey, identities, findIdentity, findInstance};
+ghost use Rattle.lent_keys.specs.KeyRecords.{optionOf, keyIn};
 ghost use Rattle.lent_layout.specs.Layout as Layout;
-ghost use Rattle.lent_context.specs.Lent.{effectsIn, diagnosticsIn};
-ghost use Rattle.refuse_repeats.specs.Repeats.{internedTwice, keyHere, keyTwice, rightIdentity, diagnosticTwice};
+ghost use Rattle.lent_context.specs.Lent.{diagnosticsIn};
+ghost use Rattle.refuse_repeats.specs.Repeats.{keyHere, keyTwice, rightIdentity, diagnosticTwice};
 ghost use Rattle.lent_slices.specs.Lent.{old};
 use def_effects::Diagnostic;
 use lent_diagnostics::diagnostic_in;
 use lent_diagnostics::is_instance;
 use lent_diagnostics::larger;
 use lent_diagnostics::same_identity;
-use lent_effect_read::effect_in;
-use lent_effects::code_in;
-use lent_effects::copy_captures;
-use lent_key_of::effect_has_key;
-use lent_key_of::key_of;
 use lent_keys::Found;
-use lent_keys::Key;
 use lent_keys::head_in;
-use lent_keys::is_other;
 use lent_keys::same_head;
 use lent_keys::same_numbers;
 use lent_layout::CACHED;
 use lent_layout::DIAGNOSTICS;
-use lent_layout::INTERNED;
-use lent_layout::RUN_WORDS;
 use lent_slices::wide32;
 use lent_tables::field;
-
-// ---- interned effects
-
-// Whether interned effect k has a key; the key's captures stand beside it.
-// An effect of another code or with another place is passed over by three words: most are.
-fn is_under(context: &[u32], k: usize, key: Key, captures: &[u32]) -> bool
-    ensures { λ r. ⌜
-        r
-        ≡ eqKey (keyWith key (identifiers (capturesOf (old captures))))
-        (effectKey (effectIn Layout.interned (old context) k)) ⌝ }
-{
-    if key.code != code_in(INTERNED, context, k) {
-        return false;
-    }
-    let from = key.from;
-    if is_other(from, field(INTERNED, context, k, 1)) {
-        return false;
-    }
-    let into = key.into;
-    if is_other(into, field(INTERNED, context, k, 6)) {
-        return false;
-    }
-    effect_has_key(INTERNED, context, k, key, captures)
-}
-
-// Whether one of the first n interned effects has a key.
-// They are looked through in order.
-fn effect_before(context: &[u32], n: usize, key: Key, captures: &[u32]) -> bool
-    ensures { λ r. ⌜
-        r
-        ≡ isSome
-        (findEffect (effectsIn Layout.interned (old context) 0 n)
-        (keyWith key (identifiers (capturesOf (old captures))))) ⌝ }
-{
-    let mut k: usize = 0;
-    while k < n {
-        if is_under(context, k, key, captures) {
-            return true;
-        }
-        k += 1;
-    }
-    false
-}
-
-// Whether interned effect k has the key of one before it.
-// Its captures are copied, since a key has them beside it.
-pub fn interned_twice(context: &[u32], k: usize) -> bool
-    ensures { λ r. ⌜ r ≡ internedTwice (old context) k ⌝ }
-{
-    let mut captures = [0u32; RUN_WORDS];
-    copy_captures(INTERNED, context, k, &mut captures);
-    let key = key_of(effect_in(INTERNED, context, k));
-    effect_before(context, k, key, &captures)
-}
 
 // ---- cached numbers
 

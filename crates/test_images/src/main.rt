@@ -410,11 +410,11 @@ fn replay_file(i: usize) {
     let mut words = [0u32; 16384];
     let mut values = [0u64; 1024];
     let mut sets = [0u64; 8192];
-    let mut context = [0u32; 235973];
+    let mut context = [0u32; 238021];
     let mut candidates = [0u32; 6272];
     let mut output = [0u32; 109760];
     let mut scratch64 = [0u64; 9216];
-    let mut scratch32 = [0u32; 22786];
+    let mut scratch32 = [0u32; 24834];
     let mut buffer = [0u8; 2900000];
     replay_list(
         i,

@@ -13,6 +13,7 @@ use lent_slices::set32;
 use lent_slices::set64;
 use lent_slices::wide32;
 use libc::STDOUT_FILENO;
+use refuse_context::context_class;
 
 // Where the reading of a job stands, and how many differences were found in it.
 // What is compared goes through a job from its first word to its last.
@@ -291,12 +292,12 @@ fn same64(bytes: &[u8], c: Cursor, list: &[u64], limit: u32) -> Cursor {
     }
 }
 
-// ---- interned effects, which are recorded in another order than that of their numbers
+// ---- interned effects, which are recorded by their keys and not by their numbers
 
 // Whether record k of the interned effects is a given one of 98 words.
-// They stand from word 35,269 of a context on.
+// They stand from word 37,317 of a context on.
 fn is_record(context: &[u32], k: u32, record: &[u32]) -> bool {
-    let base = 35269 + wide32(k) * 98;
+    let base = 37317 + wide32(k) * 98;
     let mut w: usize = 0;
     while w < 98 {
         if get32(context, base + w) != get32(record, w) {
@@ -307,31 +308,28 @@ fn is_record(context: &[u32], k: u32, record: &[u32]) -> bool {
     true
 }
 
-// Whether a given record is one of the first n interned effects.
-// Each recorded effect is looked up.
-fn stands(context: &[u32], n: u32, record: &[u32]) -> bool {
-    let mut k: u32 = 0;
-    while k < n {
-        if is_record(context, k, record) {
-            return true;
-        }
-        k += 1;
+// Whether a given record is the interned effect that comes j-th by its key, and its number one of the first n.
+// The order of their numbers stands from word 35,269 of a context on.
+fn comes(context: &[u32], n: u32, j: u32, record: &[u32]) -> bool {
+    let k = get32(context, 35269 + wide32(j));
+    if k >= n {
+        return false;
     }
-    false
+    is_record(context, k, record)
 }
 
-// The next record of a job is looked up among the first n interned effects.
-fn same_record(bytes: &[u8], c: Cursor, context: &[u32], n: u32) -> Cursor {
+// The next record of a job is compared with the interned effect that comes j-th of n.
+fn same_record(bytes: &[u8], c: Cursor, context: &[u32], n: u32, j: u32) -> Cursor {
     let mut record = [0u32; 98];
     let at = load32(bytes, c.at, &mut record);
     Cursor {
         at,
-        faults: plus(c.faults, fault(stands(context, n, &record))),
+        faults: plus(c.faults, fault(comes(context, n, j, &record))),
     }
 }
 
-// As many records of a job as it says are looked up, and nothing stands after as many interned effects.
-// Recorded effects differ from each other, so these are all of them.
+// As many records of a job as it says are compared along the order, and nothing stands after as many places and effects.
+// Recorded effects ascend by their keys and differ from each other, so these are all of them, and the order is the one of their keys.
 fn same_records(bytes: &[u8], c: Cursor, context: &[u32], limit: u32) -> Cursor {
     let n = word(bytes, c.at);
     let mut s = Cursor {
@@ -340,7 +338,7 @@ fn same_records(bytes: &[u8], c: Cursor, context: &[u32], limit: u32) -> Cursor 
     };
     let mut k: u32 = 0;
     while k < n {
-        s = same_record(bytes, s, context, n);
+        s = same_record(bytes, s, context, n, k);
         k += 1;
     }
     Cursor {
@@ -349,13 +347,30 @@ fn same_records(bytes: &[u8], c: Cursor, context: &[u32], limit: u32) -> Cursor 
     }
 }
 
-// Whether a context is zero after a limit and n records.
-// The limit is where the interned effects begin, or where the context ends.
+// Whether a context is zero after n places of the order and after n interned effects.
+// The limit is where the order begins; or where the context ends, and nothing is left.
 fn rest_zero(context: &[u32], limit: u32, n: u32) -> bool {
+    if limit >= 238021 {
+        return n == 0;
+    }
     if n > 2048 {
         return false;
     }
-    zero32(context, plus(limit, n * 98), 235973)
+    if zero32(context, plus(limit, n), 37317) {
+        return zero32(context, 37317 + n * 98, 238021);
+    }
+    false
+}
+
+// Whether a context that is left after a job would be accepted by another call.
+// Not asked where it was compared whole: that of a refused call may be as wrong as it was lent.
+fn left_accepted(context: &[u32], limit: u32, next: u32) -> bool {
+    if limit >= 238021 {
+        return true;
+    }
+    let identifiers = get32(context, 1);
+    let functions = get32(context, 2);
+    context_class(context, identifiers, functions, next) == 0
 }
 
 // ---- the call
@@ -501,7 +516,7 @@ fn call_cut(
 // "Scratch is zero after each call."
 fn scratch_zero(scratch64: &[u64], scratch32: &[u32]) -> bool {
     if zero64(scratch64, 0, 9280) {
-        return zero32(scratch32, 0, 22800);
+        return zero32(scratch32, 0, 24848);
     }
     false
 }
@@ -641,9 +656,16 @@ fn check_session(bytes: &[u8], c: Cursor, flag: bool, s: Session) -> Cursor {
     expect(bytes, end, s.entries)
 }
 
-// The tables are compared with what a job expects: values, sets, the context below a limit, its interned effects.
+// The tables are compared with what a job expects: values, sets, the context below a limit, its interned effects with their order.
 // Lists that are shorter are zero past their end.
-fn check_tables(bytes: &[u8], c: Cursor, values: &[u64], sets: &[u64], context: &[u32]) -> Cursor {
+fn check_tables(
+    bytes: &[u8],
+    c: Cursor,
+    values: &[u64],
+    sets: &[u64],
+    context: &[u32],
+    next: u32,
+) -> Cursor {
     let entries = same64(bytes, c, values, 1040);
     let rows = same64(bytes, entries, sets, 8224);
     let limit = word(bytes, rows.at);
@@ -652,7 +674,11 @@ fn check_tables(bytes: &[u8], c: Cursor, values: &[u64], sets: &[u64], context: 
         faults: rows.faults,
     };
     let fixed = same32(bytes, start, context, limit);
-    same_records(bytes, fixed, context, limit)
+    let effects = same_records(bytes, fixed, context, limit);
+    Cursor {
+        at: effects.at,
+        faults: plus(effects.faults, fault(left_accepted(context, limit, next))),
+    }
 }
 
 // Whether the reading came to the end of a job without a difference.
@@ -671,7 +697,7 @@ fn check_end(
         faults: g.faults,
     };
     let after = check_session(bytes, start, g.flag, session);
-    let end = check_tables(bytes, after, values, sets, context);
+    let end = check_tables(bytes, after, values, sets, context, session.next);
     if end.at != size {
         return false;
     }
@@ -727,7 +753,7 @@ fn replay_lent(
 
 // ---- lists of the lengths that a job says, zero at first, with room for a few words more
 
-// Scratch for the words of a context, 22,786 of them.
+// Scratch for the words of a context, 24,834 of them.
 fn with_scratch32(
     bytes: &[u8],
     size: u32,
@@ -737,7 +763,7 @@ fn with_scratch32(
     output: &mut [u32],
     scratch64: &mut [u64],
 ) -> bool {
-    let mut scratch32 = [0u32; 22800];
+    let mut scratch32 = [0u32; 24848];
     let n = most32(word(bytes, 5), &scratch32);
     replay_lent(
         bytes,
@@ -786,9 +812,9 @@ fn with_output(
     with_scratch64(bytes, size, values, sets, context, &mut output[..n])
 }
 
-// The context, 235,973 words.
+// The context, 238,021 words.
 fn with_context(bytes: &[u8], size: u32, values: &mut [u64], sets: &mut [u64]) -> bool {
-    let mut context = [0u32; 236000];
+    let mut context = [0u32; 238048];
     let n = most32(word(bytes, 2), &context);
     with_output(bytes, size, values, sets, &mut context[..n])
 }

@@ -1,10 +1,8 @@
 -- What acceptance says of the candidates: each names identifiers of the list, and has at most 16 captures. Assumes nothing.
 use Prim.Native.Nat.{ℕ, zero, suc, _+_, _-_, _*_, _%_, _≤_, _<_}
-use native.Mathlib.Nat.{eq-or-lt-of-le}
 use native.Mathlib.Omega.{arith}
 use mathlib.Core.Path.{_≡_, refl, sym, ap, _∙_}
 use mathlib.Core.Bool.{Bool, true, false, _&&_}
-use mathlib.Core.Logic.{⊎-elim}
 use mathlib.Core.List.{List, [], _∷_}
 use mathlib.Core.Option.{Option, none, some}
 use lib.Dec.{eqb, leb, ltb, le→leb}
@@ -24,22 +22,11 @@ use Rattle.lent_effects.specs.Records.{countedPlaces, effectWith, heads, headIn
 use Rattle.lent_context.specs.Lent.{effectsIn, instanceCount}
 use Rattle.base_tests.specs.Laws.Bool.{or-no-first}
 use Rattle.refuse_class.specs.Laws.Class.{lower-0}
-use Rattle.refuse_words.specs.Classes.{lowestBelow, earns, wordClass, usedIf, placeLimit, runLimit, wordsBelow, recordClass}
-use Rattle.refuse_words.specs.Laws.Class.{run-used}
+use Rattle.refuse_words.specs.Classes.{earns, wordClass, usedIf, placeLimit, runLimit, wordsBelow, recordClass}
+use Rattle.refuse_words.specs.Laws.Class.{run-used, earns-none, lowest-0}
 use Rattle.refuse_instruction.specs.EffectClasses.{uses, usedParts, countClass, effectLimit, effectClass, placeClass, instructionClass}
 use Rattle.def_faithful.specs.Laws.Steps.{Fine}
 use Rattle.lent_layout.specs.Layout.{candidateTable}
-
-earns-none : (n : ℕ) (b : Bool) → earns (suc n) b ≡ 0 → b ≡ false
-earns-none n true e = absurd (omega arith)
-earns-none n false e = refl
-
-lowest-0 : (n : ℕ) (f : ℕ → ℕ) → lowestBelow n f ≡ 0 → (k : ℕ) → k < n → f k ≡ 0
-unfolding lowestBelow
-lowest-0 zero f e k l = absurd (omega arith)
-lowest-0 (suc n) f e k l =
-    let a = lower-0 (lowestBelow n f) (f n) e in
-    ⊎-elim (λ z. ap f z ∙ a .1) (λ z. lowest-0 n f (a .0) k z) (eq-or-lt-of-le (let y : k ≤ n = omega arith in y))
 
 -- a word with a limit lies below it
 word-limit : (o : Option ℕ) (x b : ℕ) → wordClass o x ≡ 0 → o ≡ some b → x < b

@@ -28,7 +28,8 @@ use Rattle.laws_counts.specs.Laws.Steps.{mutated}
 use Rattle.laws_counts.specs.Laws.Counts.{Fits, listed-most, entries-most, append-length}
 use Rattle.call_outcome.specs.Calls.{Call, Outcome, candidateCount, callClass, lentInstruction, lentWorld, refusedWith, concluded, outcome}
 use Rattle.call_means.specs.Meaning.{plainWorld, MeansEnd, MeansPlain}
-use Rattle.call_outcome.specs.Laws.Class.{class-0, lengths-right}
+use Rattle.call_outcome.specs.Laws.Class.{class-0, lengths-right, order-right}
+use Rattle.refuse_order.specs.Laws.Accepted.{in-order}
 use Rattle.laws_suffices.specs.Laws.Suffices.{accepted-fits}
 use Rattle.def_faithful.specs.Laws.Means.{Any, Rel}
 use Rattle.def_faithful.specs.Laws.Steps.{Fine, call-means}
@@ -95,7 +96,7 @@ call-related c e l =
     (record {
       state = record { fit-values = b .values-length; values = refl; fit-sets = b .sets-length; sets = refl; flag = refl };
       session = record { low = b .next-low; next = refl; access = refl; span = refl; entries = λ h. refl };
-      fit = d .0;
+      fit = record { long = d .0; ordered = in-order (c .context) (order-right (identifiers (c .sets)) (getD (c .context) Layout.functionCount 0) (c .context) (c .session .next) (a .2)) };
       context = refl;
     })
 

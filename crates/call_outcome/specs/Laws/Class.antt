@@ -6,7 +6,6 @@ use mathlib.Core.Bool.{Bool, true, false, not, _||_}
 use mathlib.Core.Logic.{⊎-elim}
 use mathlib.Core.List.{List}
 use mathlib.Core.Option.{none}
-use native.Mathlib.Nat.{eq-or-lt-of-le}
 use lib.Dec.{eqb, ltb}
 use lib.ListN.{length, getD, List·getD-eq-default}
 use borrow.Author.Tests.{eq-eqb, ne-eqb, eqb-true, ltb-false}
@@ -23,7 +22,9 @@ use Rattle.refuse_entries.specs.Laws.State.{lengths-fit, refused-1}
 use Rattle.refuse_class.specs.Class.{lower}
 use Rattle.refuse_class.specs.Laws.Class.{lower-none, lower-alone, lower-first, lower-0}
 use Rattle.refuse_words.specs.Classes.{lowestBelow, earns, wordClass, strayFrom, strayAfter}
+use Rattle.refuse_words.specs.Laws.Class.{earns-none, lowest-0}
 use Rattle.refuse_instruction.specs.EffectClasses.{instructionClass}
+use Rattle.refuse_order.specs.Order.{orderClass}
 use Rattle.refuse_records.specs.Accepting.{countsWrong, effectsClass, tablesClass, contextClass}
 use Rattle.call_outcome.specs.Calls.{call, lengthsWrong, candidateCount, callClass}
 use Rattle.call_outcome.specs.Attempts.{atMost}
@@ -38,26 +39,26 @@ five a b c d e = not a || (not b || (not c || (not d || not e)))
 module _ (sets context candidates output scratch64 scratch32 : ℕ) where
   -- a context of another length
   -- nothing else is looked at
-  pub length-context : (context ≡ 235973 → ⊥) → true ≡ lengthsWrong sets context candidates output scratch64 scratch32
+  pub length-context : (context ≡ 238021 → ⊥) → true ≡ lengthsWrong sets context candidates output scratch64 scratch32
   unfolding lengthsWrong
-  length-context n = sym (ap (λ (a : Bool). five a (eqb (candidates % 98) 0) (eqb output 109760) (eqb scratch32 22786) (eqb scratch64 (1024 + sets))) (ne-eqb context 235973 n))
+  length-context n = sym (ap (λ (a : Bool). five a (eqb (candidates % 98) 0) (eqb output 109760) (eqb scratch32 24834) (eqb scratch64 (1024 + sets))) (ne-eqb context 238021 n))
 
   -- the context is right
-  module _ (h : context ≡ 235973) where
+  module _ (h : context ≡ 238021) where
     -- no whole number of candidates
     -- records of 98 words
     pub length-candidates : (candidates % 98 ≡ 0 → ⊥) → true ≡ lengthsWrong sets context candidates output scratch64 scratch32
     unfolding lengthsWrong
-    length-candidates n = sym (ap₂ (λ (a b : Bool). five a b (eqb output 109760) (eqb scratch32 22786) (eqb scratch64 (1024 + sets))) (eq-eqb context 235973 h) (ne-eqb (candidates % 98) 0 n))
+    length-candidates n = sym (ap₂ (λ (a b : Bool). five a b (eqb output 109760) (eqb scratch32 24834) (eqb scratch64 (1024 + sets))) (eq-eqb context 238021 h) (ne-eqb (candidates % 98) 0 n))
 
     -- the candidates are right
     module _ (g : candidates % 98 ≡ 0) where
       -- what is left to test
-      rest : (c : Bool) → c ≡ eqb output 109760 → (not c || (not (eqb scratch32 22786) || not (eqb scratch64 (1024 + sets)))) ≡ lengthsWrong sets context candidates output scratch64 scratch32
+      rest : (c : Bool) → c ≡ eqb output 109760 → (not c || (not (eqb scratch32 24834) || not (eqb scratch64 (1024 + sets)))) ≡ lengthsWrong sets context candidates output scratch64 scratch32
       unfolding lengthsWrong
       rest c e =
-          ap (λ (x : Bool). not x || (not (eqb scratch32 22786) || not (eqb scratch64 (1024 + sets)))) e
-          ∙ sym (ap₂ (λ (a b : Bool). five a b (eqb output 109760) (eqb scratch32 22786) (eqb scratch64 (1024 + sets))) (eq-eqb context 235973 h) (eq-eqb (candidates % 98) 0 g))
+          ap (λ (x : Bool). not x || (not (eqb scratch32 24834) || not (eqb scratch64 (1024 + sets)))) e
+          ∙ sym (ap₂ (λ (a b : Bool). five a b (eqb output 109760) (eqb scratch32 24834) (eqb scratch64 (1024 + sets))) (eq-eqb context 238021 h) (eq-eqb (candidates % 98) 0 g))
 
       -- an output list of another length
       -- 1,120 records
@@ -67,20 +68,20 @@ module _ (sets context candidates output scratch64 scratch32 : ℕ) where
       -- the output list is right
       module _ (f : output ≡ 109760) where
         -- scratch for a context, of another length
-        pub length-32 : (scratch32 ≡ 22786 → ⊥) → true ≡ lengthsWrong sets context candidates output scratch64 scratch32
-        length-32 n = sym (ap (λ (a : Bool). not a || not (eqb scratch64 (1024 + sets))) (ne-eqb scratch32 22786 n)) ∙ rest true (sym (eq-eqb output 109760 f))
+        pub length-32 : (scratch32 ≡ 24834 → ⊥) → true ≡ lengthsWrong sets context candidates output scratch64 scratch32
+        length-32 n = sym (ap (λ (a : Bool). not a || not (eqb scratch64 (1024 + sets))) (ne-eqb scratch32 24834 n)) ∙ rest true (sym (eq-eqb output 109760 f))
 
         -- scratch for a state, of another length
-        pub length-64 : (b : Bool) → scratch32 ≡ 22786 → b ≡ eqb scratch64 (1024 + sets) → not b ≡ lengthsWrong sets context candidates output scratch64 scratch32
+        pub length-64 : (b : Bool) → scratch32 ≡ 24834 → b ≡ eqb scratch64 (1024 + sets) → not b ≡ lengthsWrong sets context candidates output scratch64 scratch32
         length-64 b e k =
-            ap not k ∙ sym (ap (λ (a : Bool). not a || not (eqb scratch64 (1024 + sets))) (eq-eqb scratch32 22786 e)) ∙ rest true (sym (eq-eqb output 109760 f))
+            ap not k ∙ sym (ap (λ (a : Bool). not a || not (eqb scratch64 (1024 + sets))) (eq-eqb scratch32 24834 e)) ∙ rest true (sym (eq-eqb output 109760 f))
 
         -- it is shorter than the values alone
-        pub length-short : scratch32 ≡ 22786 → scratch64 < 1024 → true ≡ lengthsWrong sets context candidates output scratch64 scratch32
+        pub length-short : scratch32 ≡ 24834 → scratch64 < 1024 → true ≡ lengthsWrong sets context candidates output scratch64 scratch32
         length-short e l = length-64 false e (sym (ne-eqb scratch64 (1024 + sets) (λ z. omega arith)))
 
         -- it is longer, and the rest is compared with the sets
-        pub length-rest : scratch32 ≡ 22786 → 1024 ≤ scratch64 → not (eqb (scratch64 - 1024) sets) ≡ lengthsWrong sets context candidates output scratch64 scratch32
+        pub length-rest : scratch32 ≡ 24834 → 1024 ≤ scratch64 → not (eqb (scratch64 - 1024) sets) ≡ lengthsWrong sets context candidates output scratch64 scratch32
         length-rest e l = length-64 (eqb (scratch64 - 1024) sets) e
             (⊎-elim
             (λ z. eq-eqb (scratch64 - 1024) sets z ∙ sym (eq-eqb scratch64 (1024 + sets) (omega arith)))
@@ -89,36 +90,36 @@ module _ (sets context candidates output scratch64 scratch32 : ℕ) where
 
   -- all lengths are right
   pub lengths-right : lengthsWrong sets context candidates output scratch64 scratch32 ≡ false
-      → (context ≡ 235973) × (candidates % 98 ≡ 0) × (output ≡ 109760) × (scratch32 ≡ 22786) × (scratch64 ≡ 1024 + sets)
+      → (context ≡ 238021) × (candidates % 98 ≡ 0) × (output ≡ 109760) × (scratch32 ≡ 24834) × (scratch64 ≡ 1024 + sets)
   unfolding lengthsWrong
-  lengths-right e = (right context 235973 e1, right (candidates % 98) 0 e2, right output 109760 e3, right scratch32 22786 e4, right scratch64 (1024 + sets) e5)
+  lengths-right e = (right context 238021 e1, right (candidates % 98) 0 e2, right output 109760 e3, right scratch32 24834 e4, right scratch64 (1024 + sets) e5)
     where
       right : (m n : ℕ) → not (eqb m n) ≡ false → m ≡ n
       right m n h = eqb-true m n (not-false (eqb m n) h)
 
-      e1 : not (eqb context 235973) ≡ false
-      e1 = or-no-first (not (eqb context 235973)) _ e
+      e1 : not (eqb context 238021) ≡ false
+      e1 = or-no-first (not (eqb context 238021)) _ e
 
-      r1 : (not (eqb (candidates % 98) 0) || (not (eqb output 109760) || (not (eqb scratch32 22786) || not (eqb scratch64 (1024 + sets))))) ≡ false
-      r1 = or-no-second (not (eqb context 235973)) _ e
+      r1 : (not (eqb (candidates % 98) 0) || (not (eqb output 109760) || (not (eqb scratch32 24834) || not (eqb scratch64 (1024 + sets))))) ≡ false
+      r1 = or-no-second (not (eqb context 238021)) _ e
 
       e2 : not (eqb (candidates % 98) 0) ≡ false
       e2 = or-no-first (not (eqb (candidates % 98) 0)) _ r1
 
-      r2 : (not (eqb output 109760) || (not (eqb scratch32 22786) || not (eqb scratch64 (1024 + sets)))) ≡ false
+      r2 : (not (eqb output 109760) || (not (eqb scratch32 24834) || not (eqb scratch64 (1024 + sets)))) ≡ false
       r2 = or-no-second (not (eqb (candidates % 98) 0)) _ r1
 
       e3 : not (eqb output 109760) ≡ false
       e3 = or-no-first (not (eqb output 109760)) _ r2
 
-      r3 : (not (eqb scratch32 22786) || not (eqb scratch64 (1024 + sets))) ≡ false
+      r3 : (not (eqb scratch32 24834) || not (eqb scratch64 (1024 + sets))) ≡ false
       r3 = or-no-second (not (eqb output 109760)) _ r2
 
-      e4 : not (eqb scratch32 22786) ≡ false
-      e4 = or-no-first (not (eqb scratch32 22786)) _ r3
+      e4 : not (eqb scratch32 24834) ≡ false
+      e4 = or-no-first (not (eqb scratch32 24834)) _ r3
 
       e5 : not (eqb scratch64 (1024 + sets)) ≡ false
-      e5 = or-no-second (not (eqb scratch32 22786)) _ r3
+      e5 = or-no-second (not (eqb scratch32 24834)) _ r3
 
 -- a length within its limit, and one past it
 pub most-past : (limit n : ℕ) → limit < n → limit ≡ atMost limit n
@@ -201,19 +202,7 @@ module _ (vs ss : List ℕ) (flag : Bool) (cs : List ℕ) (s : Session) (xs : Li
       let a = lower-0 (earns 1 lengths) (lower (stateRefusal vs ss (s .next) (s .access)) (lower tables instruction)) e in
       let b = lower-0 (stateRefusal vs ss (s .next) (s .access)) (lower tables instruction) (a .1) in
       let d = lower-0 tables instruction (b .1) in
-      (earns-none lengths (a .0), b .0, d .0, d .1)
-    where
-      earns-none : (b : Bool) → earns 1 b ≡ 0 → b ≡ false
-      earns-none true h = absurd (omega arith)
-      earns-none false h = refl
-
--- the lowest of some classes is none only if each is
-lowest-0 : (n : ℕ) (f : ℕ → ℕ) → lowestBelow n f ≡ 0 → (k : ℕ) → k < n → f k ≡ 0
-unfolding lowestBelow
-lowest-0 zero f e k l = absurd (omega arith)
-lowest-0 (suc n) f e k l =
-    let a = lower-0 (lowestBelow n f) (f n) e in
-    ⊎-elim (λ z. ap f z ∙ a .1) (λ z. lowest-0 n f (a .0) k z) (eq-or-lt-of-le (let y : k ≤ n = omega arith in y))
+      (earns-none 0 lengths (a .0), b .0, d .0, d .1)
 
 -- a word without use that earns no class is zero
 -- 4 is what it would earn
@@ -221,9 +210,20 @@ word-0 : (x : ℕ) → wordClass none x ≡ 0 → x ≡ 0
 unfolding wordClass
 word-0 x e = ⊎-elim (λ z. z) (λ n. absurd (let y : _≡_ {A = ℕ} 4 0 = sym (ap (λ (b : Bool). earns 4 (not b)) (ne-eqb x 0 n)) ∙ e in omega arith)) (same-or-not x 0)
 
+-- the order of the interned effects of an accepted context earns no class
+pub order-right : (n f : ℕ) (cs : List ℕ) (next : ℕ) → contextClass n f cs next ≡ 0 → orderClass cs ≡ 0
+unfolding contextClass tablesClass effectsClass
+order-right n f cs next e = go (countsWrong n f cs) refl
+  where
+    go : (b : Bool) → countsWrong n f cs ≡ b → orderClass cs ≡ 0
+    go true h = absurd (let z : 2 ≡ 0 = sym (ite-yes (countsWrong n f cs) 2 (tablesClass n f cs next) h) ∙ e in omega arith)
+    go false h =
+        let a : tablesClass n f cs next ≡ 0 = sym (ite-no (countsWrong n f cs) 2 (tablesClass n f cs next) h) ∙ e in
+        lower-0 _ _ (lower-0 _ _ (lower-0 _ _ (lower-0 _ _ (lower-0 _ _ (lower-0 _ _ (lower-0 _ _ (lower-0 _ _ a .1) .1) .1) .1) .1) .1) .1) .1
+
 -- after the last interned effect of an accepted context every word is zero
 -- the words of its table, and past the end of the list
-pub zero-after : (n f : ℕ) (cs : List ℕ) (next : ℕ) → length cs ≡ 235973 → contextClass n f cs next ≡ 0 → (k : ℕ) → 35269 + internedCount cs * 98 ≤ k → getD cs k 0 ≡ 0
+pub zero-after : (n f : ℕ) (cs : List ℕ) (next : ℕ) → length cs ≡ 238021 → contextClass n f cs next ≡ 0 → (k : ℕ) → 37317 + internedCount cs * 98 ≤ k → getD cs k 0 ≡ 0
 unfolding contextClass tablesClass effectsClass strayAfter strayFrom countsWrong index
 zero-after n f cs next long e k l = go (countsWrong n f cs) refl
   where
@@ -231,18 +231,18 @@ zero-after n f cs next long e k l = go (countsWrong n f cs) refl
     m = internedCount cs
 
     words : tablesClass n f cs next ≡ 0 → m ≤ 2048 → getD cs k 0 ≡ 0
-    words h q = ⊎-elim inside past (lt-or-ge k 235973)
+    words h q = ⊎-elim inside past (lt-or-ge k 238021)
       where
-        stray : lowestBelow ((2048 - m) * 98) (λ j. wordClass none (getD cs (35269 + m * 98 + 0 + j) 0)) ≡ 0
-        stray = lower-0 _ _ (lower-0 _ _ (lower-0 _ _ (lower-0 _ _ (lower-0 _ _ (lower-0 _ _ (lower-0 _ _ h .1) .1) .1) .1) .1) .1) .1
+        stray : lowestBelow ((2048 - m) * 98) (λ j. wordClass none (getD cs (37317 + m * 98 + 0 + j) 0)) ≡ 0
+        stray = lower-0 _ _ (lower-0 _ _ (lower-0 _ _ (lower-0 _ _ (lower-0 _ _ (lower-0 _ _ (lower-0 _ _ (lower-0 _ _ h .1) .1) .1) .1) .1) .1) .1) .0
 
-        inside : k < 235973 → getD cs k 0 ≡ 0
+        inside : k < 238021 → getD cs k 0 ≡ 0
         inside p =
-            let z : k ≡ 35269 + m * 98 + 0 + (k - (35269 + m * 98)) = omega arith in
+            let z : k ≡ 37317 + m * 98 + 0 + (k - (37317 + m * 98)) = omega arith in
             ap (λ (x : ℕ). getD cs x 0) z
-            ∙ word-0 (getD cs (35269 + m * 98 + 0 + (k - (35269 + m * 98))) 0) (lowest-0 ((2048 - m) * 98) _ stray (k - (35269 + m * 98)) (omega arith))
+            ∙ word-0 (getD cs (37317 + m * 98 + 0 + (k - (37317 + m * 98))) 0) (lowest-0 ((2048 - m) * 98) _ stray (k - (37317 + m * 98)) (omega arith))
 
-        past : 235973 ≤ k → getD cs k 0 ≡ 0
+        past : 238021 ≤ k → getD cs k 0 ≡ 0
         past p = List·getD-eq-default cs 0 {n = k} (omega arith)
 
     go : (b : Bool) → countsWrong n f cs ≡ b → getD cs k 0 ≡ 0

@@ -97,7 +97,7 @@ module _ (c d : Call) (t : Twins c d) where
       same : lentInstruction c ≡ lentInstruction d
       same = λ j. Rattle.call_parts.specs.Instructions.instructionOf (t .candidates j) (candidateCount (t .candidates j)) (t .lvalue j) (t .own j)
 
-      long : length (c .context) ≡ 235973
+      long : length (c .context) ≡ 238021
       long = lengths-right (length (c .sets)) (length (c .context)) (length (c .candidates)) (length (c .output)) (length (c .scratch64)) (length (c .scratch32))
           (class-0 (c .values) (c .sets) (c .flag) (c .context) (c .session) (c .candidates) (c .lvalue) (c .own) (c .output) (c .scratch64) (c .scratch32) z .0) .0
 

@@ -16,6 +16,10 @@ use Rattle.def_transfer.specs.Context.{refreshed, putEffect, internNew, internE
 use Rattle.lent_effects.specs.declared.AliasingEffect.{AliasingEffect as Head}
 use Rattle.lent_effects.specs.Records as Records
 use Rattle.lent_effects.specs.Records.{effectWith, headIn, effectIn, countedPlaces}
+use Rattle.base_search.specs.declared.Spot.{Spot}
+use Rattle.base_search.specs.declared.Spot.the-variants.{Before}
+use Rattle.base_search.specs.declared.Spot.the-variants as Search
+use Rattle.lent_order.specs.Order.{orderAt, inserted}
 use Rattle.lent_keys.specs.declared.Found.{Found}
 use Rattle.lent_keys.specs.declared.Found.the-variants.{Nowhere, At}
 use Rattle.lent_keys.specs.KeyRecords.{optionOf}
@@ -31,37 +35,49 @@ use Rattle.effect_intern.specs.Interning.{chosen}
 
 -- ---- interning
 
-module _ (vs ss cs os : List ℕ) (r : Run) (e : Head) (ps : List Place) (f : Found) (h : Lent.findEffect cs (effectKey (effectWith e ps)) ≡ effectAt cs (optionOf f)) where
+module _ (vs ss cs os : List ℕ) (r : Run) (e : Head) (ps : List Place) (key : EffectKey) (same : key ≡ effectKey (effectWith e ps)) (s : Spot) (h : s ≡ Lent.effectSpot cs key) where
+  -- what the search ended at is what the definition finds
+  asked : (x : Spot) → s ≡ x → Lent.findEffect cs (effectKey (effectWith e ps)) ≡ effectAt cs x
+  unfolding Lent.findEffect
+  asked x q = ap (effectAt cs) (ap (Lent.effectSpot cs) (sym same) ∙ sym h ∙ q)
+
   -- the effect was interned before
   -- it is used, with the diagnostic of the one that was given
-  pub intern-found : (j k : ℕ) (x y : Head) → f ≡ At j → k ≡ j → x ≡ headIn Layout.interned cs k → ((a b : List Place) → effectWith y b ≡ refreshed (effectWith e a) (effectWith x b))
+  pub intern-found : (i j k : ℕ) (x y : Head) → s ≡ Search.At i → j ≡ orderAt Layout.effectOrder cs i → k ≡ j → x ≡ headIn Layout.interned cs k → ((a b : List Place) → effectWith y b ≡ refreshed (effectWith e a) (effectWith x b))
       → internEffect (effectWith e ps) (world vs ss cs os r) ≡ answer 0 (effectWith y (chosen cs (At j) ps)) (world vs ss cs os r)
   unfolding internEffect internNew ask return answer effectIn
-  intern-found j k x y q m g z =
-      bind-ok _ _ _ _ _ _ (ap (λ (o : Option AliasingEffect). ok o (world vs ss cs os r)) (h ∙ ap (λ (o : Found). effectAt cs (optionOf o)) q))
+  intern-found i j k x y q p m g z =
+      bind-ok _ _ _ _ _ _ (ap (λ (o : Option AliasingEffect). ok o (world vs ss cs os r)) (asked (Search.At i) q ∙ ap (λ (w : ℕ). some (effectIn Layout.interned cs w)) (sym p)))
       (ap (λ (a : AliasingEffect). ok a (world vs ss cs os r))
       (ap (λ (w : Head). refreshed (effectWith e ps) (effectWith w (countedPlaces Layout.interned cs j Records.captures))) (ap (headIn Layout.interned cs) (sym m) ∙ sym g) ∙ sym (z ps (countedPlaces Layout.interned cs j Records.captures))))
 
   -- the table is full
   -- "8 a 2,049th key to intern"
-  pub intern-full : (n : ℕ) → f ≡ Nowhere → n ≡ Lent.internedCount cs → 2048 ≤ n → internEffect (effectWith e ps) (world vs ss cs os r) ≡ answer 8 (effectWith e (chosen cs Nowhere ps)) (world vs ss cs os r)
+  pub intern-full : (p n : ℕ) → s ≡ Before p → n ≡ Lent.internedCount cs → 2048 ≤ n → internEffect (effectWith e ps) (world vs ss cs os r) ≡ answer 8 (effectWith e (chosen cs Nowhere ps)) (world vs ss cs os r)
   unfolding internEffect internNew ask refuse answer
-  intern-full n q m l =
-      bind-ok _ _ _ _ _ _ (ap (λ (o : Option AliasingEffect). ok o (world vs ss cs os r)) (h ∙ ap (λ (o : Found). effectAt cs (optionOf o)) q))
+  intern-full p n q m l =
+      bind-ok _ _ _ _ _ _ (ap (λ (o : Option AliasingEffect). ok o (world vs ss cs os r)) (asked (Before p) q))
       (bind-ok _ _ _ _ _ _ (ap (λ (k : ℕ). ok k (world vs ss cs os r)) (sym m)) (if-le 2048 n _ _ _ _ l refl))
 
-  -- a new key
-  pub intern-new : (n k : ℕ) (ds us : List ℕ) → f ≡ Nowhere → n ≡ Lent.internedCount cs → n < 2048 → k ≡ n → ds ≡ Records.putEffect Layout.interned cs k (effectWith e ps) → us ≡ set ds 12483 (n + 1)
+  -- a new key: its effect is appended, put into the order where the search ended, and counted
+  added : (p n k : ℕ) (ds fs us : List ℕ) → s ≡ Before p → n ≡ Lent.internedCount cs → k ≡ n → ds ≡ Records.putEffect Layout.interned cs k (effectWith e ps) → fs ≡ inserted Layout.effectOrder p n n ds → us ≡ set fs 12483 (n + 1)
+      → Lent.addEffect cs (effectWith e ps) ≡ us
+  unfolding Lent.addEffect
+  added p n k ds fs us q m w g f z =
+      ap (λ (x : Spot). set (inserted Layout.effectOrder (Lent.placeOf x) (Lent.internedCount cs) (Lent.internedCount cs) (Records.putEffect Layout.interned cs (Lent.internedCount cs) (effectWith e ps))) 12483 (Lent.internedCount cs + 1))
+      (ap (Lent.effectSpot cs) (sym same) ∙ sym h ∙ q)
+      ∙ ap (λ (i : ℕ). set (inserted Layout.effectOrder p i i (Records.putEffect Layout.interned cs i (effectWith e ps))) 12483 (i + 1)) (sym m)
+      ∙ ap (λ (c : List ℕ). set (inserted Layout.effectOrder p n n c) 12483 (n + 1)) (ap (λ (i : ℕ). Records.putEffect Layout.interned cs i (effectWith e ps)) (sym w) ∙ sym g)
+      ∙ ap (λ (c : List ℕ). set c 12483 (n + 1)) (sym f) ∙ sym z
+
+  pub intern-new : (p n k : ℕ) (ds fs us : List ℕ) → s ≡ Before p → n ≡ Lent.internedCount cs → n < 2048 → k ≡ n → ds ≡ Records.putEffect Layout.interned cs k (effectWith e ps) → fs ≡ inserted Layout.effectOrder p n n ds → us ≡ set fs 12483 (n + 1)
       → internEffect (effectWith e ps) (world vs ss cs os r) ≡ answer 0 (effectWith e (chosen cs Nowhere ps)) (world vs ss us os r)
-  unfolding internEffect internNew putEffect ask change return answer Lent.addEffect
-  intern-new n k ds us q m l w g z =
-      bind-ok _ _ _ _ _ _ (ap (λ (o : Option AliasingEffect). ok o (world vs ss cs os r)) (h ∙ ap (λ (o : Found). effectAt cs (optionOf o)) q))
+  unfolding internEffect internNew putEffect ask change return answer
+  intern-new p n k ds fs us q m l w g f z =
+      bind-ok _ _ _ _ _ _ (ap (λ (o : Option AliasingEffect). ok o (world vs ss cs os r)) (asked (Before p) q))
       (bind-ok _ _ _ _ _ _ (ap (λ (i : ℕ). ok i (world vs ss cs os r)) (sym m)) (if-gt 2048 n _ _ _ _ l
       (then-ok _ _ _ _ _ _ refl
-      (ap (λ (c : List ℕ). ok (effectWith e ps) (world vs ss c os r))
-      (ap (λ (i : ℕ). set (Records.putEffect Layout.interned cs i (effectWith e ps)) 12483 (i + 1)) (sym m)
-      ∙ ap (λ (i : ℕ). set (Records.putEffect Layout.interned cs i (effectWith e ps)) 12483 (n + 1)) (sym w)
-      ∙ ap (λ (c : List ℕ). set c 12483 (n + 1)) (sym g) ∙ sym z)))))
+      (ap (λ (c : List ℕ). ok (effectWith e ps) (world vs ss c os r)) (added p n k ds fs us q m w g f z)))))
 
 -- ---- numbers under keys
 

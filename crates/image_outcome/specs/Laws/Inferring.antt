@@ -149,7 +149,7 @@ module _ (vs ss : List ℕ) (flag : Bool) (cs : List ℕ) (s : Session) (xs : Li
 
 -- the rows, the records and the scratch that the call is lent are those of the job
 -- the way through `run_tables`
-pub runs-job : (vs ss cs xs : List ℕ) (j : Job) (os s64 s32 : List ℕ) (m n e : ℕ) (d c : Cursor) → m ≡ setWords j → n ≡ candidateWords j → e ≡ 1024 + m → e ≤ length s64 → length os ≡ 109760 → length s32 ≡ 22786
+pub runs-job : (vs ss cs xs : List ℕ) (j : Job) (os s64 s32 : List ℕ) (m n e : ℕ) (d c : Cursor) → m ≡ setWords j → n ≡ candidateWords j → e ≡ 1024 + m → e ≤ length s64 → length os ≡ 109760 → length s32 ≡ 24834
     → Writes (shown (outcome (call vs (take m ss) false cs (j .session) (take n xs) (j .lvalue) (j .own) os (take e s64) s32))) c d
     → Writes (shown (outcome (jobCall j (tables vs ss cs xs)))) c d
 unfolding jobCall
@@ -157,10 +157,10 @@ runs-job vs ss cs xs j os s64 s32 m n e d c hm hn he l ho hs h =
     as-text
     (ap₂ (λ (a b : ℕ). shown (outcome (call vs (take a ss) false cs (j .session) (take b xs) (j .lvalue) (j .own) os (take e s64) s32))) hm hn
     ∙ ap shown
-    (memory-same vs (take (setWords j) ss) false cs (j .session) (take (candidateWords j) xs) (j .lvalue) (j .own) os (zeros 109760) (take e s64) (zeros (1024 + setWords j)) s32 (zeros 22786)
+    (memory-same vs (take (setWords j) ss) false cs (j .session) (take (candidateWords j) xs) (j .lvalue) (j .own) os (zeros 109760) (take e s64) (zeros (1024 + setWords j)) s32 (zeros 24834)
     (ho ∙ sym (zeros-length 109760))
     (length-take-le e s64 l ∙ he ∙ ap (λ (a : ℕ). 1024 + a) hm ∙ sym (zeros-length (1024 + setWords j)))
-    (hs ∙ sym (zeros-length 22786))))
+    (hs ∙ sym (zeros-length 24834))))
     h
 
 -- ---- lengths
@@ -180,25 +180,25 @@ module _ (o p q b : ℕ) where
   wrong-64 g h = wrong-here p 9216 _ h ∙ right-here o 109760 _ g
 
   -- scratch for a context has
-  pub wrong-32 : o ≡ 109760 → p ≡ 9216 → (q ≡ 22786 → ⊥) → true ≡ memoryWrong o p q b
+  pub wrong-32 : o ≡ 109760 → p ≡ 9216 → (q ≡ 24834 → ⊥) → true ≡ memoryWrong o p q b
   unfolding memoryWrong
-  wrong-32 f g h = wrong-here q 22786 _ h ∙ right-here p 9216 _ g ∙ right-here o 109760 _ f
+  wrong-32 f g h = wrong-here q 24834 _ h ∙ right-here p 9216 _ g ∙ right-here o 109760 _ f
 
   -- the buffer decides
   -- all else is right
-  pub wrong-buffer : o ≡ 109760 → p ≡ 9216 → q ≡ 22786 → not (eqb b 2900000) ≡ memoryWrong o p q b
+  pub wrong-buffer : o ≡ 109760 → p ≡ 9216 → q ≡ 24834 → not (eqb b 2900000) ≡ memoryWrong o p q b
   unfolding memoryWrong
-  wrong-buffer e f g = right-here q 22786 _ g ∙ right-here p 9216 _ f ∙ right-here o 109760 _ e
+  wrong-buffer e f g = right-here q 24834 _ g ∙ right-here p 9216 _ f ∙ right-here o 109760 _ e
 
   -- memory of the right lengths
-  pub memory-right : memoryWrong o p q b ≡ false → (o ≡ 109760) × (p ≡ 9216) × (q ≡ 22786)
+  pub memory-right : memoryWrong o p q b ≡ false → (o ≡ 109760) × (p ≡ 9216) × (q ≡ 24834)
   unfolding memoryWrong
   memory-right h =
       let g = or-no-second (not (eqb o 109760)) _ h in
       let f = or-no-second (not (eqb p 9216)) _ g in (
         eqb-true o 109760 (not-false _ (or-no-first (not (eqb o 109760)) _ h)),
         eqb-true p 9216 (not-false _ (or-no-first (not (eqb p 9216)) _ g)),
-        eqb-true q 22786 (not-false _ (or-no-first (not (eqb q 22786)) _ f)),
+        eqb-true q 24834 (not-false _ (or-no-first (not (eqb q 24834)) _ f)),
       )
 
 -- tables of the right lengths
@@ -336,7 +336,7 @@ module _ (bs : List ℕ) (w : ℕ) (vs ss cs xs : List ℕ) (o p q b : ℕ) wher
   -- an accepted image: its call, and what is shown of it
   pub lists-job : (r : Read) (os s64 s32 : List ℕ) (d e : Cursor) → false ≡ memoryWrong o p q b → o ≡ length os → p ≡ length s64 → q ≡ length s32 → r ≡ readImage bs w t → r .job .refusal ≡ 0
       → length (r .tables .sets) ≡ length ss → length (r .tables .candidates) ≡ length xs
-      → (Fits (r .tables .sets) (r .tables .candidates) s64 (r .job) → length os ≡ 109760 → length s32 ≡ 22786 → Writes (shown (outcome (jobCall (r .job) (r .tables)))) d e)
+      → (Fits (r .tables .sets) (r .tables .candidates) s64 (r .job) → length os ≡ 109760 → length s32 ≡ 24834 → Writes (shown (outcome (jobCall (r .job) (r .tables)))) d e)
       → Writes text d e
   unfolding jobOf
   lists-job r os s64 s32 d e m ho hp hq h n ls lx f =

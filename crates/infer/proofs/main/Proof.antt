@@ -28,7 +28,7 @@ slice-aggregate-infer-4 : tie.Need-slice-aggregate-infer-4
 slice-aggregate-infer-4 c = sym (length-replicate {0} {A = ℕ} 8192 0)
 
 slice-aggregate-infer-5 : tie.Need-slice-aggregate-infer-5
-slice-aggregate-infer-5 c = sym (length-replicate {0} {A = ℕ} 235973 0)
+slice-aggregate-infer-5 c = sym (length-replicate {0} {A = ℕ} 238021 0)
 
 slice-aggregate-infer-6 : tie.Need-slice-aggregate-infer-6
 slice-aggregate-infer-6 c = sym (length-replicate {0} {A = ℕ} 6272 0)
@@ -40,7 +40,7 @@ slice-aggregate-infer-8 : tie.Need-slice-aggregate-infer-8
 slice-aggregate-infer-8 c = sym (length-replicate {0} {A = ℕ} 9216 0)
 
 slice-aggregate-infer-9 : tie.Need-slice-aggregate-infer-9
-slice-aggregate-infer-9 c = sym (length-replicate {0} {A = ℕ} 22786 0)
+slice-aggregate-infer-9 c = sym (length-replicate {0} {A = ℕ} 24834 0)
 
 slice-aggregate-infer-10 : tie.Need-slice-aggregate-infer-10
 slice-aggregate-infer-10 c = sym (length-replicate {0} {A = ℕ} 2900000 0)

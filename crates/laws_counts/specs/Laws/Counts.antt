@@ -19,7 +19,7 @@ use Rattle.def_transfer.specs.Instruction.{Instruction, applySignature}
 use Rattle.def_transfer.specs.Pure.{pure}
 use Rattle.def_transfer.specs.Laws.Pure.{found-key}
 use Rattle.lent_world.specs.World.{lent, Listed, putListed, oneMore}
-use Rattle.lent_world.specs.Laws.Context.{effect-found}
+use Rattle.lent_context.specs.Laws.Ordered.{found-under}
 use Rattle.laws_counts.specs.Laws.Grows.{total, after, Grows, bind-keeps, refuse-grows, if-grows, unless-grows, each-keeps}
 use Rattle.laws_counts.specs.Laws.Keeps.{ask-grows, enter-grows, walk-grows}
 use Rattle.laws_counts.specs.Laws.Steps.{weight, freezes, Measure, Finding, mutated, lists, walksOf, signature-grows}
@@ -157,7 +157,7 @@ lent-entry n = choice (λ m. m ≤ suc n) (ltb n 4294967295) (omega arith) (omeg
 -- "The output list has 1,120 records (32 + 64 × 17, so it suffices)": over lent tables, refused or not
 -- for every instruction of the document's sizes
 pub lent-listed : (ins : Instruction) (w : World lent) → Fits lent ins (w .rest .context) → after (applySignature ins w) .listed .count ≤ 32 + 17 * length (ins .candidates)
-lent-listed ins w f = listed-most {T = lent} effect-found (λ l. l .count) lent-one-more ins w f refl
+lent-listed ins w f = listed-most {T = lent} found-under (λ l. l .count) lent-one-more ins w f refl
 
 -- 32 + 64 × 17 is 1,120
 pub lent-suffices : (ins : Instruction) (w : World lent) → Fits lent ins (w .rest .context) → after (applySignature ins w) .listed .count ≤ 1120
@@ -165,7 +165,7 @@ lent-suffices ins w f = let h = lent-listed ins w f in let n = f .few in omega a
 
 -- the entries of an instruction over lent tables: 4,096 for each Freeze, and so for each candidate
 pub lent-entries : (ins : Instruction) (w : World lent) → after (applySignature ins w) .entries ≤ 4096 * walksOf ins
-lent-entries ins w = entries-bound {T = lent} effect-found lent-entry ins w
+lent-entries ins w = entries-bound {T = lent} found-under lent-entry ins w
 
 -- ---- of the functions: the definition's own counts, without any limit
 

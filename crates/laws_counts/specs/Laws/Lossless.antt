@@ -24,7 +24,7 @@ use Rattle.def_transfer.specs.Context.{functionContext}
 use Rattle.def_transfer.specs.Step.{flowing, reportModified, reportHoisted, report, mutating, freezing, creating, capturingImmutably, listCreated, creatingFrom, assigning, creatingFunction, act, applyEffect}
 use Rattle.def_transfer.specs.Instruction.{Instruction, reportEarly, earlyError, earlyErrors, defineLvalue, startInstruction, run, applySignature}
 use Rattle.lent_world.specs.World.{lent, Listed, putListed, oneMore}
-use Rattle.lent_world.specs.Laws.Context.{effect-found}
+use Rattle.lent_context.specs.Laws.Ordered.{found-under}
 use Rattle.laws_counts.specs.Laws.Grows.{after}
 use Rattle.laws_counts.specs.Laws.Steps.{started, mutated}
 use Rattle.laws_counts.specs.Laws.Counts.{Fits, listed-most, entries-most, append-length}
@@ -298,10 +298,10 @@ lossless ins w f h = record {
     work = ap after same ∙ after-limited (freely ins w)
 
     few : length (after (freely ins w) .listed) ≤ 1120
-    few = le-trans (listed-most {T = unlimited lent} effect-found length (λ l e. let q = append-length l e in omega arith) ins (freed w) (fits-freely ins (w .rest .context) f) refl) (let n = f .few in omega arith)
+    few = le-trans (listed-most {T = unlimited lent} found-under length (λ l e. let q = append-length l e in omega arith) ins (freed w) (fits-freely ins (w .rest .context) f) refl) (let n = f .few in omega arith)
 
     few-counted : lent .noneListed .count + length (after (freely ins w) .listed) ≤ 4294967295
     few-counted = let n = few in omega arith
 
     rare : after (freely ins w) .entries ≤ 4294967295
-    rare = le-trans (entries-most {T = unlimited lent} effect-found (λ n. omega arith) ins (freed w)) (let n = f .few in omega arith)
+    rare = le-trans (entries-most {T = unlimited lent} found-under (λ n. omega arith) ins (freed w)) (let n = f .few in omega arith)

@@ -25,6 +25,7 @@ use Rattle.refuse_class.specs.Class.{lower}
 use Rattle.refuse_words.specs.Classes.{earns, wordClass, usedIf, any, runLimit, recordClass}
 use Rattle.refuse_tables.specs.TableClasses.{identifierLimit, identifierClass, functionLimit, placesClass, functionClass, linkLimit, linkClass, noKeyClass}
 use Rattle.refuse_tables.specs.TableClasses as Tables
+use Rattle.refuse_order.specs.Order.{placeClass, orderClass}
 use Rattle.refuse_records.specs.Accepting.{cachedClass, diagnosticClass, internedClass, identifiersClass, functionsClass, handedOut, linksClass, keysClass, diagnosticsClass, effectsClass, countsWrong, tablesClass, contextClass}
 use Rattle.def_image.specs.Layout.{Image, word, identifiers, functions, countOf, options, next, identifierFlags, identifierName, accessStart, accessEnd, functionFlags, contextFirst, contextCount, insideFirst, insideCount, flagOne, flagTwo}
 use Rattle.def_image.specs.Refusals.{refusalOfWords}
@@ -126,7 +127,7 @@ module _ (im : Image) where
 
   -- zeros with the header
   abbrev headed : List ℕ
-  headed = decodedHeader im (zeros 235973)
+  headed = decodedHeader im (zeros 238021)
 
   -- and with the identifiers
   abbrev named : List ℕ
@@ -134,7 +135,7 @@ module _ (im : Image) where
 
   -- every record of a table is zero after the header
   headed-zero : (t : Table) → 3 ≤ t .base → (j : ℕ) → Zero t j headed
-  headed-zero t h j v = header-kept t (zeros 235973) j v h ∙ zero-record t j (zeros 235973) (zero-word 235973) v
+  headed-zero t h j v = header-kept t (zeros 238021) j v h ∙ zero-record t j (zeros 238021) (zero-word 238021) v
 
   -- and so it is after the identifiers, where the table is apart from them
   named-zero : (t : Table) → 3 ≤ t .base → apart Layout.identifiers t ≡ true → (j : ℕ) → Zero t j named
@@ -151,7 +152,7 @@ module _ (im : Image) where
   -- "Interned effects, cached numbers, links and diagnostics start empty"
   far : (p : ℕ) → 17605 ≤ p → getD (lentContext im) p 0 ≡ 0
   unfolding end
-  far p h = word-stays im (zeros 235973) p (omega arith) (inr (let z : 2051 ≤ p = omega arith in z)) (inr (let z : 12483 ≤ p = omega arith in z)) (inr (let z : 17605 ≤ p = omega arith in z)) ∙ zero-word 235973 p
+  far p h = word-stays im (zeros 238021) p (omega arith) (inr (let z : 2051 ≤ p = omega arith in z)) (inr (let z : 12483 ≤ p = omega arith in z)) (inr (let z : 17605 ≤ p = omega arith in z)) ∙ zero-word 238021 p
 
   -- every record of such a table is zero
   -- links, cached numbers, diagnostics, interned effects
@@ -165,12 +166,12 @@ module _ (im : Image) where
   -- nothing is interned
   pub none-interned : internedCount (lentContext im) ≡ 0
   unfolding end internedCount
-  none-interned = word-stays im (zeros 235973) 12483 (omega arith) (inr (let z : 2051 ≤ 12483 = omega arith in z)) (inr (let z : 12483 ≤ 12483 = omega arith in z)) (inl (let z : 12483 < 12485 = omega arith in z)) ∙ zero-word 235973 12483
+  none-interned = word-stays im (zeros 238021) 12483 (omega arith) (inr (let z : 2051 ≤ 12483 = omega arith in z)) (inr (let z : 12483 ≤ 12483 = omega arith in z)) (inl (let z : 12483 < 12485 = omega arith in z)) ∙ zero-word 238021 12483
 
   -- and there is no diagnostic
   pub none-told : instanceCount (lentContext im) ≡ 0
   unfolding end instanceCount
-  none-told = word-stays im (zeros 235973) 12484 (omega arith) (inr (let z : 2051 ≤ 12484 = omega arith in z)) (inr (let z : 12483 ≤ 12484 = omega arith in z)) (inl (let z : 12484 < 12485 = omega arith in z)) ∙ zero-word 235973 12484
+  none-told = word-stays im (zeros 238021) 12484 (omega arith) (inr (let z : 2051 ≤ 12484 = omega arith in z)) (inr (let z : 12483 ≤ 12484 = omega arith in z)) (inl (let z : 12484 < 12485 = omega arith in z)) ∙ zero-word 238021 12484
 
   -- ---- tables that are empty
 
@@ -212,12 +213,19 @@ module _ (im : Image) where
       lower-both _ _ (lowest-both (instanceCount (lentContext im)) (diagnosticClass n (lentContext im)) (λ k l. absurd (let z = none-told in omega arith)))
       (stray-none Layout.diagnostics (lentContext im) (instanceCount (lentContext im)) (omega arith) (λ j l. far-zero Layout.diagnostics (omega arith) j))
 
+  -- nor does the order of no effects
+  order-right : orderClass (lentContext im) ≡ 0
+  unfolding orderClass
+  order-right =
+      lower-both _ _ (lowest-both (internedCount (lentContext im)) (placeClass (lentContext im) (internedCount (lentContext im))) (λ k l. absurd (let z = none-interned in omega arith)))
+      (stray-none Layout.effectOrder (lentContext im) (internedCount (lentContext im)) (omega arith) (λ j l. far-zero Layout.effectOrder (omega arith) j))
+
   -- nor do the interned effects
   effects-right : (n f : ℕ) → effectsClass n f (lentContext im) ≡ 0
   unfolding effectsClass
   effects-right n f =
       lower-both _ _ (lowest-both (internedCount (lentContext im)) (internedClass n f (lentContext im)) (λ k l. absurd (let z = none-interned in omega arith)))
-      (stray-none Layout.interned (lentContext im) (internedCount (lentContext im)) (omega arith) (λ j l. far-zero Layout.interned (omega arith) j))
+      (lower-both _ _ (stray-none Layout.interned (lentContext im) (internedCount (lentContext im)) (omega arith) (λ j l. far-zero Layout.interned (omega arith) j)) order-right)
 
 -- as many places are read as are asked for
 places-count : (t : Table) (c : List ℕ) (i w k n : ℕ) → length (placesIn t c i w k n) ≡ n
@@ -252,8 +260,8 @@ module _ (im : Image) (small : (i : ℕ) → word im i < 4294967296) (ok : refus
   c = lentContext im
 
   -- it holds every table
-  long : 17605 ≤ length (zeros 235973)
-  long = let z = zeros-length 235973 in omega arith
+  long : 17605 ≤ length (zeros 238021)
+  long = let z = zeros-length 238021 in omega arith
 
   -- ---- identifiers
 
@@ -304,7 +312,7 @@ module _ (im : Image) (small : (i : ℕ) → word im i < 4294967296) (ok : refus
   identifiers-right =
       lower-both _ _
       (lowest-both n (identifierClass c)
-      (λ j l. ap (λ (x : ℕ). recordClass Layout.identifiers c (identifierLimit x) j) (identifiers-back im (zeros 235973) (let z = long in omega arith) (few-identifiers im ok) j 0 l (omega arith))
+      (λ j l. ap (λ (x : ℕ). recordClass Layout.identifiers c (identifierLimit x) j) (identifiers-back im (zeros 238021) (let z = long in omega arith) (few-identifiers im ok) j 0 l (omega arith))
       ∙ record-good Layout.identifiers j (naming j) c (identifiers-good j l)))
       (stray-none Layout.identifiers c n (omega arith) identifiers-after)
 
@@ -388,7 +396,7 @@ module _ (im : Image) (small : (i : ℕ) → word im i < 4294967296) (ok : refus
   unfolding contextOf
   count-context j l =
       sym (places-count Layout.contexts c j 0 0 (field Layout.functions c j 1))
-      ∙ ap length (contexts-back im (zeros 235973) long (few-functions im ok) (few-context im ok) j l)
+      ∙ ap length (contexts-back im (zeros 238021) long (few-functions im ok) (few-context im ok) j l)
       ∙ places-long im (contextFirst im j) (contextCount im j)
 
   -- and so is the count of its places mutated inside
@@ -396,7 +404,7 @@ module _ (im : Image) (small : (i : ℕ) → word im i < 4294967296) (ok : refus
   unfolding mutatedInside
   count-inside j l =
       sym (places-count Layout.functions c j 3 0 (field Layout.functions c j 2))
-      ∙ ap length (insides-back im (zeros 235973) long (few-functions im ok) (few-inside im ok) j l)
+      ∙ ap length (insides-back im (zeros 238021) long (few-functions im ok) (few-inside im ok) j l)
       ∙ places-long im (insideFirst im j) (insideCount im j)
 
   -- a function with a tracked side effect, or with a place mutated inside, has its effects known
@@ -410,7 +418,7 @@ module _ (im : Image) (small : (i : ℕ) → word im i < 4294967296) (ok : refus
   function-right : (j : ℕ) → j < f → functionClass n c j ≡ 0
   unfolding functionClass placesClass
   function-right j l =
-      (λ i. by (flags-back im (zeros 235973) long (few-functions im ok) j l i) (count-context j l i) (count-inside j l i))
+      (λ i. by (flags-back im (zeros 238021) long (few-functions im ok) j l i) (count-context j l i) (count-inside j l i))
       ∙ lower-both _ _ (earns-not 2 _ (or-neither (ltb 16 (contextCount im j)) _ (le-ltb 16 (contextCount im j) (few-context im ok j l)) (le-ltb 32 (insideCount im j) (few-inside im ok j l))))
       (lower-both _ _ (record-good Layout.functions j (shape j) c (functions-good j l .0))
       (lower-both _ _ (earns-not 3 _ (known j l)) (record-good Layout.contexts j (run j) c (functions-good j l .1))))
@@ -435,8 +443,8 @@ module _ (im : Image) (small : (i : ℕ) → word im i < 4294967296) (ok : refus
   counts-right : countsWrong n f c ≡ false
   unfolding countsWrong
   counts-right =
-      or-neither (not (eqb (getD c Layout.identifierCount 0) n)) _ (ap not (eq-eqb (getD c Layout.identifierCount 0) n (identifier-count-back im (zeros 235973) (let z = long in omega arith))))
-      (or-neither (not (eqb (getD c Layout.functionCount 0) f)) _ (ap not (eq-eqb (getD c Layout.functionCount 0) f (function-count-back im (zeros 235973) (let z = long in omega arith))))
+      or-neither (not (eqb (getD c Layout.identifierCount 0) n)) _ (ap not (eq-eqb (getD c Layout.identifierCount 0) n (identifier-count-back im (zeros 238021) (let z = long in omega arith))))
+      (or-neither (not (eqb (getD c Layout.functionCount 0) f)) _ (ap not (eq-eqb (getD c Layout.functionCount 0) f (function-count-back im (zeros 238021) (let z = long in omega arith))))
       (or-neither (ltb 64 f) _ (le-ltb 64 f (few-functions im ok))
       (or-neither (ltb 2048 (internedCount c)) _ (le-ltb 2048 (internedCount c) (let z = none-interned im in omega arith)) (le-ltb 256 (instanceCount c) (let z = none-told im in omega arith)))))
 
@@ -446,7 +454,7 @@ module _ (im : Image) (small : (i : ℕ) → word im i < 4294967296) (ok : refus
   unfolding contextClass tablesClass
   context-right =
       ite-no (countsWrong n f c) 2 _ counts-right
-      ∙ lower-both _ _ (word-below 4 (getD c Layout.options 0) (let a = options-small im ok in let b = options-back im (zeros 235973) (let z = long in omega arith) in omega arith))
+      ∙ lower-both _ _ (word-below 4 (getD c Layout.options 0) (let a = options-small im ok in let b = options-back im (zeros 238021) (let z = long in omega arith) in omega arith))
       (lower-both _ _ identifiers-right
       (lower-both _ _ functions-right
       (lower-both _ _ (links-right im f (next im)) (lower-both _ _ (keys-right im n f (next im)) (lower-both _ _ (diagnostics-right im n) (effects-right im n f))))))

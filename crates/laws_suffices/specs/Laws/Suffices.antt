@@ -1,6 +1,5 @@
 -- An instruction that the call accepts has the document's sizes, so that nothing of it is lost. Assumes nothing.
 use Prim.Native.Nat.{ℕ, zero, suc, _+_, _≤_, _<_}
-use native.Mathlib.Nat.{eq-or-lt-of-le}
 use native.Mathlib.Omega.{arith}
 use mathlib.Core.Path.{_≡_, refl, sym, ap, _∙_}
 use mathlib.Core.Bool.{Bool, true, false}
@@ -33,6 +32,7 @@ use Rattle.lent_world.specs.World.{lent}
 use Rattle.refuse_entries.specs.Words.{identifiers}
 use Rattle.refuse_class.specs.Laws.Class.{lower-0}
 use Rattle.refuse_words.specs.Classes.{lowestBelow, earns}
+use Rattle.refuse_words.specs.Laws.Class.{earns-none, lowest-0}
 use Rattle.refuse_instruction.specs.EffectClasses.{uses, usedParts, countClass, effectClass, instructionClass}
 use Rattle.refuse_tables.specs.TableClasses.{placesClass, functionClass}
 use Rattle.refuse_records.specs.Accepting.{countsWrong, functionsClass, tablesClass, contextClass}
@@ -44,22 +44,6 @@ use Rattle.laws_counts.specs.Laws.Lossless.{Lossless, lossless}
 use Rattle.call_outcome.specs.Calls.{Call, Outcome, candidateCount, callClass, lentInstruction, lentWorld, refusedWith, concluded, outcome}
 use Rattle.call_outcome.specs.Laws.Class.{class-0}
 use Rattle.lent_layout.specs.Layout.{candidateTable}
-
--- ---- classes
-
--- a test that earns no class did not hold
--- 0 is no class
-earns-none : (n : ℕ) (b : Bool) → earns (suc n) b ≡ 0 → b ≡ false
-earns-none n true e = absurd (omega arith)
-earns-none n false e = refl
-
--- the lowest of some classes is none only if each is
-lowest-0 : (n : ℕ) (f : ℕ → ℕ) → lowestBelow n f ≡ 0 → (k : ℕ) → k < n → f k ≡ 0
-unfolding lowestBelow
-lowest-0 zero f e k l = absurd (omega arith)
-lowest-0 (suc n) f e k l =
-    let a = lower-0 (lowestBelow n f) (f n) e in
-    ⊎-elim (λ z. ap f z ∙ a .1) (λ z. lowest-0 n f (a .0) k z) (eq-or-lt-of-le (let y : k ≤ n = omega arith in y))
 
 -- ---- candidates
 

@@ -1,4 +1,5 @@
--- Every read of a lent context is the one of the plain tables that its words mean: a wrong word or flag is refused here. Assumes nothing.
+-- Every read of a lent context is the one of the plain tables that its words mean: a wrong word or flag is refused here.
+-- (The search for an interned effect: `Laws/Ordered.antt`.) Assumes nothing.
 use Prim.Native.Nat.{ℕ}
 use mathlib.Core.Path.{_≡_, refl}
 use mathlib.Core.List.{List}
@@ -9,10 +10,6 @@ use Rattle.lent_context.specs.Lent as Lent
 use Rattle.lent_context.specs.Abstract.{abstract}
 
 module _ (c : List ℕ) where
-  pub effect-is : (k : EffectKey) → Lent.findEffect c k ≡ pure .findEffect (abstract c) k
-  unfolding Lent.findEffect Lent.internedCount
-  effect-is k = refl
-
   pub key-is : (v : ℕ) → Lent.keyAt c v ≡ pure .keyAt (abstract c) v
   unfolding Lent.keyAt
   key-is v = refl

@@ -35,7 +35,7 @@ taken-numbers b ws x n h e =
     ∙ ap (numbersIn oneRun ws 0 1 5 0) (sym (e ∙ ap (λ (y : ℕ). ite b y 0) h))
 
 -- the identifiers of a record's captures, of those that its key takes
-record-numbers : (b : Bool) (t : Table) (c : List ℕ) (i x n : ℕ) → x ≡ field t c i 17 → n ≡ ite b x 0 → ite b (identifiers (countedPlaces t c i 17)) [] ≡ numbersIn t c i 18 5 0 n
+pub record-numbers : (b : Bool) (t : Table) (c : List ℕ) (i x n : ℕ) → x ≡ field t c i 17 → n ≡ ite b x 0 → ite b (identifiers (countedPlaces t c i 17)) [] ≡ numbersIn t c i 18 5 0 n
 unfolding countedPlaces
 record-numbers b t c i x n h e =
     ap (λ (l : List ℕ). ite b l []) (places-numbers t c i 18 0 (field t c i 17))
@@ -45,7 +45,7 @@ record-numbers b t c i x n h e =
 module _ (t : Table) (c : List ℕ) (i : ℕ) (key other : Key) (ws : List ℕ) (e : Head)
     (g : e ≡ headIn t c i) (h : (cs : List Place) → keyWith other (identifiers cs) ≡ effectKey (effectWith e cs)) where
   -- the key of a record's effect
-  effect-key : keyWith other (identifiers (countedPlaces t c i 17)) ≡ effectKey (effectIn t c i)
+  pub effect-key : keyWith other (identifiers (countedPlaces t c i 17)) ≡ effectKey (effectIn t c i)
   unfolding effectIn
   effect-key = h (countedPlaces t c i 17) ∙ ap (λ (x : Head). effectKey (effectWith x (countedPlaces t c i 17))) g
 

@@ -1,55 +1,90 @@
 use borrow.Author.Needs.{needs}
-use mathlib.Core.Path.{_≡_, refl, _∙_}
-use Prim.Native.Nat.{_-_}
+use native.Mathlib.Omega.{arith}
+use Prim.Native.Nat.{_-_, _≤_}
+use mathlib.Core.Path.{_≡_, refl}
+use Rattle.base_search.specs.Search.{halving}
 use Rattle.def_effects.specs.Places.{identifiers}
-use Rattle.def_transfer.specs.Pure.{findEffect as firstUnder}
 use Rattle.lent_effects.specs.Records.{capturesOf}
 use Rattle.lent_keys.specs.KeyRecords.{keyWith}
-use Rattle.lent_layout.specs.Layout as Layout
-use Rattle.lent_context.specs.Lent.{effectsIn}
-use Rattle.lent_context.specs.Laws.Search.{effect-passed, effect-found, effect-nowhere}
+use Rattle.lent_context.specs.Lent.{effectSpot}
+use Rattle.lent_search.specs.Laws.Find.{sought, search-starts, search-down, search-up, search-at, search-over}
 use Rattle.lent_search.proofs.find_effect.Statement.{statement}
 use Rattle.lent_search.proofs.find_effect.Tie as tie
+use Rattle.lent_search.proofs.find_effect.Reads as reads
+use Rattle.lent_search.proofs.find_effect.Lts as lts
+use Rattle.lent_links.proofs.interned_count.Reads as interned-count-reads
+use Rattle.lent_order.proofs.order_at.Reads as order-at-reads
+use Rattle.lent_search.proofs.compare_effect.Reads as compare-effect-reads
 
 abbrev Inv-loop : tie.InvT-loop
-Inv-loop context captures key n k₀ k =
-    firstUnder (effectsIn Layout.interned context k₀ (n - k₀)) (keyWith key (identifiers (capturesOf captures)))
-    ≡ firstUnder (effectsIn Layout.interned context k (n - k)) (keyWith key (identifiers (capturesOf captures)))
+Inv-loop context key captures n lo₀ hi₀ lo hi = (lo ≤ hi) × (hi ≤ n) × (effectSpot context (keyWith key (identifiers (capturesOf captures))) ≡ halving (hi - lo) (sought context (keyWith key (identifiers (capturesOf captures)))) lo hi)
 
 abbrev μ-loop : tie.MeasureT-loop
-μ-loop context captures key n k₀ k = n - k
+μ-loop context key captures n lo₀ hi₀ lo hi = hi - lo
 
-key-of-requires : tie.Need-key-of-requires Inv-loop μ-loop
-key-of-requires c κs = search needs
-
+-- src/lib.rt:59:9
 interned-count-requires : tie.Need-interned-count-requires Inv-loop μ-loop
 interned-count-requires c κs = search needs
 
+-- src/lib.rt:62:5
 loop-holds : tie.Need-loop-holds Inv-loop μ-loop
-loop-holds c = refl
+loop-holds c = (omega arith, omega arith, search-starts _ (keyWith (c .before .before .before .args .key) (identifiers (capturesOf (c .before .before .before .args .captures .now)))) _ (c .interned-count .ensures))
 
-is-under-requires : tie.Need-is-under-requires Inv-loop μ-loop
-is-under-requires c κs = search needs
+-- src/lib.rt:63:25
+sub-mid : tie.Need-sub-mid Inv-loop μ-loop
+sub-mid c = omega arith
 
-returns : tie.Need-returns Inv-loop μ-loop
-returns c =
-    let at-loop-test = c .before .before in
-    let at-loop = at-loop-test .before in
-    let at-interned-count = at-loop .before in
-    let at-key-of = at-interned-count .before in
-    effect-found _ _ _ _ _ _ (at-key-of .key-of .ensures) (at-interned-count .interned-count .ensures) (at-loop .loop .inv) _ (at-loop-test .loop-test .taken) (c .before .is-under .ensures) (c .if1 .taken)
+-- src/lib.rt:63:19
+add-mid : tie.Need-add-mid Inv-loop μ-loop
+add-mid c = omega arith
 
-add-k : tie.Need-add-k Inv-loop μ-loop
-add-k c = search needs
+-- src/lib.rt:64:13
+order-at-requires : tie.Need-order-at-requires Inv-loop μ-loop
+order-at-requires c κs = search needs
 
+-- src/lib.rt:65:13
+compare-effect-requires : tie.Need-compare-effect-requires Inv-loop μ-loop
+compare-effect-requires c κs = search needs
+
+-- src/lib.rt:68:17
+enum-told : tie.Need-enum-told Inv-loop μ-loop
+enum-told c = search needs
+
+-- src/lib.rt:62:5
 loop-less : tie.Need-loop-less Inv-loop μ-loop
-loop-less c = search needs
+loop-less c = omega arith
 
+-- src/lib.rt:62:5
 loop-again : tie.Need-loop-again Inv-loop μ-loop
-loop-again c = c .before .before .before .loop .inv ∙ effect-passed _ _ _ _ _ (c .before .before .loop-test .taken) (c .before .is-under .ensures) (c .if1 .left)
+loop-again c = (omega arith, omega arith, search-down (c .before .before .before .before .before .before .before .before .before .args .context .now) (keyWith (c .before .before .before .before .before .before .before .before .before .args .key) (identifiers (capturesOf (c .before .before .before .before .before .before .before .before .before .args .captures .now)))) (c .before .before .before .before .before .loop .lo) (c .before .before .before .before .before .loop .hi) _ _ _ (c .before .before .before .before .loop-test .taken) refl (c .before .before .before .order-at .ensures) (c .before .before .compare-effect .ensures) (c .before .before .before .before .before .loop .inv .2) (c .enum-told .given .1))
 
+-- src/lib.rt:71:17
+enum-told-2 : tie.Need-enum-told-2 Inv-loop μ-loop
+enum-told-2 c = search needs
+
+-- src/lib.rt:71:17
+returns : tie.Need-returns Inv-loop μ-loop
+returns c = search-at (c .before .before .before .before .before .before .before .before .before .args .context .now) (keyWith (c .before .before .before .before .before .before .before .before .before .args .key) (identifiers (capturesOf (c .before .before .before .before .before .before .before .before .before .args .captures .now)))) (c .before .before .before .before .before .loop .lo) (c .before .before .before .before .before .loop .hi) _ _ _ (c .before .before .before .before .loop-test .taken) refl (c .before .before .before .order-at .ensures) (c .before .before .compare-effect .ensures) (c .before .before .before .before .before .loop .inv .2) (c .enum-told2 .given .1)
+
+-- src/lib.rt:74:22
+enum-told-3 : tie.Need-enum-told-3 Inv-loop μ-loop
+enum-told-3 c = search needs
+
+-- src/lib.rt:74:22
+add-lo : tie.Need-add-lo Inv-loop μ-loop
+add-lo c = omega arith
+
+-- src/lib.rt:62:5
+loop-less-2 : tie.Need-loop-less-2 Inv-loop μ-loop
+loop-less-2 c = omega arith
+
+-- src/lib.rt:62:5
+loop-again-2 : tie.Need-loop-again-2 Inv-loop μ-loop
+loop-again-2 c = (omega arith, omega arith, search-up (c .before .before .before .before .before .before .before .before .before .args .context .now) (keyWith (c .before .before .before .before .before .before .before .before .before .args .key) (identifiers (capturesOf (c .before .before .before .before .before .before .before .before .before .args .captures .now)))) (c .before .before .before .before .before .loop .lo) (c .before .before .before .before .before .loop .hi) _ _ _ (c .before .before .before .before .loop-test .taken) refl (c .before .before .before .order-at .ensures) (c .before .before .compare-effect .ensures) (c .before .before .before .before .before .loop .inv .2) (c .enum-told3 .given .1))
+
+-- src/lib.rt:55:1
 returns-2 : tie.Need-returns-2 Inv-loop μ-loop
-returns-2 c = effect-nowhere _ _ _ _ _ _ (c .before .before .before .key-of .ensures) (c .before .before .interned-count .ensures) (c .before .loop .inv) (c .loop-test .left)
+returns-2 c = search-over _ (keyWith (c .before .before .before .before .before .args .key) (identifiers (capturesOf (c .before .before .before .before .before .args .captures .now)))) _ _ (c .loop-test .left) (c .before .loop .inv .2)
 
 pub find-effect-spec : {M : Type 1} → statement M
 find-effect-spec =
@@ -57,12 +92,19 @@ find-effect-spec =
     (tie.spec
     Inv-loop
     μ-loop
-    key-of-requires
     interned-count-requires
     loop-holds
-    is-under-requires
-    returns
-    add-k
+    sub-mid
+    add-mid
+    order-at-requires
+    compare-effect-requires
+    enum-told
     loop-less
     loop-again
+    enum-told-2
+    returns
+    enum-told-3
+    add-lo
+    loop-less-2
+    loop-again-2
     returns-2)

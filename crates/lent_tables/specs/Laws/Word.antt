@@ -379,7 +379,7 @@ places-none t c i w k n h =
 
 -- a word of a record with room, inside the list
 -- `put-same` asks for it at each of the five
-inside : (t : Table) (c : List ℕ) (i w : ℕ) → within t i w ≡ true → end t ≤ length c → index t i w < length c
+pub inside : (t : Table) (c : List ℕ) (i w : ℕ) → within t i w ≡ true → end t ≤ length c → index t i w < length c
 inside t c i w h l =
     let p : index t i w < end t = index-ends t i w h in
     omega arith

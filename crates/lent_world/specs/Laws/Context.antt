@@ -13,19 +13,20 @@ use Rattle.base_tests.specs.Tests.{ite}
 use Rattle.base_tests.specs.Laws.Order.{lt-or-ge, same-or-not}
 use Rattle.def_effects.specs.Places.{identifiers}
 use Rattle.def_effects.specs.Effects.{AliasingEffect}
-use Rattle.def_effects.specs.Keys.{EffectKey, effectKey}
+use Rattle.def_effects.specs.Keys.{EffectKey}
 use Rattle.def_transfer.specs.Diagnostics.{Diagnostic}
 use Rattle.def_transfer.specs.Lawful.{SameLinks}
-use Rattle.def_transfer.specs.Laws.Pure.{found-key, found-number}
+use Rattle.def_transfer.specs.Laws.Pure.{found-number}
 use Rattle.lent_tables.specs.declared.Table.{Table}
 use Rattle.lent_tables.specs.Words.{index, end, apart, field, putField, placeIn, placesIn}
 use Rattle.lent_tables.specs.Laws.Word.{put-length, put-out, put-same, put-other, put-apart, set-outside, places-cong, within-yes, within-no-record}
 use Rattle.lent_effects.specs.Records.{putEffect}
 use Rattle.lent_effects.specs.Laws.EffectFrames.{effect-apart}
+use Rattle.lent_order.specs.Laws.Order.{insert-apart}
 use Rattle.lent_keys.specs.KeyRecords.{optionIn, putOption}
 use Rattle.lent_keys.specs.KeyRecords as Keys
 use Rattle.lent_layout.specs.Layout as Layout
-use Rattle.lent_context.specs.Lent.{effectsIn, internedCount, findEffect, addEffect, keyAt, findNumber, putKey, linkOf, putLink, contextOf, makeRead, instanceCount, putDiagnostic, addDiagnostic}
+use Rattle.lent_context.specs.Lent.{internedCount, addEffect, keyAt, findNumber, putKey, linkOf, putLink, contextOf, makeRead, instanceCount, putDiagnostic, addDiagnostic}
 use Rattle.lent_world.specs.World.{lent}
 use Rattle.lent_keys.specs.Laws.KeyFrames.{option-cong, key-cong, key-apart, key-record, option-apart, option-record}
 use Rattle.lent_context.specs.Laws.ReadMade.{read-keeps}
@@ -61,17 +62,12 @@ same-links c d p q r s = record {
 
 -- ---- interned effects
 
--- what is found under a key has that key
--- the search is the definition's own
-pub effect-found : (c : List ℕ) (k : EffectKey) (e : AliasingEffect) → findEffect c k ≡ some e → k ≡ effectKey e
-unfolding findEffect
-effect-found c k e h = found-key (effectsIn Layout.interned c 0 (internedCount c)) k e h
-
--- an effect added leaves every table that stands apart and has no count in it
-effect-leaves : (u : Table) (c : List ℕ) (e : AliasingEffect) → apart Layout.interned u ≡ true → (Layout.internedCount < u .base) ⊎ (end u ≤ Layout.internedCount) → Same u c (addEffect c e)
+-- an effect added leaves every table that stands apart from the effects and from their order, and has no count in it
+pub effect-leaves : (u : Table) (c : List ℕ) (e : AliasingEffect) → apart Layout.interned u ≡ true → apart Layout.effectOrder u ≡ true → (Layout.internedCount < u .base) ⊎ (end u ≤ Layout.internedCount) → Same u c (addEffect c e)
 unfolding addEffect
-effect-leaves u c e a o j v =
-    set-outside u (putEffect Layout.interned c (internedCount c) e) Layout.internedCount (internedCount c + 1) j v o
+effect-leaves u c e a b o j v =
+    set-outside u _ Layout.internedCount (internedCount c + 1) j v o
+    ∙ insert-apart Layout.effectOrder u _ _ _ _ j v b
     ∙ effect-apart Layout.interned u c (internedCount c) e j v a
 
 -- an effect added leads nowhere new
@@ -80,10 +76,10 @@ pub effect-same : (c : List ℕ) (e : AliasingEffect) → SameLinks lent c (addE
 unfolding apart end
 effect-same c e =
     same-links c (addEffect c e)
-    (effect-leaves Layout.cached c e refl (inl (omega arith)))
-    (effect-leaves Layout.links c e refl (inl (omega arith)))
-    (effect-leaves Layout.contexts c e refl (inl (omega arith)))
-    (effect-leaves Layout.functions c e refl (inr (omega arith)))
+    (effect-leaves Layout.cached c e refl refl (inl (omega arith)))
+    (effect-leaves Layout.links c e refl refl (inl (omega arith)))
+    (effect-leaves Layout.contexts c e refl refl (inl (omega arith)))
+    (effect-leaves Layout.functions c e refl refl (inr (omega arith)))
 
 -- ---- diagnostics
 

@@ -1,10 +1,10 @@
 -- Each write of a lent context means the plain one. Assumes nothing.
 use Prim.Native.Nat.{ℕ, suc, _+_, _*_, _≤_, _<_}
-use mathlib.Core.Path.{_≡_, refl, ap, _∙_, fun-ext}
+use mathlib.Core.Path.{_≡_, refl, sym, ap, ap₂, _∙_, subst, fun-ext}
 use mathlib.Core.Bool.{Bool}
 use mathlib.Core.Logic.{inl, inr}
 use mathlib.Core.List.{List, [], _∷_, _++_}
-use mathlib.Core.Option.{Option, some}
+use mathlib.Core.Option.{Option, none, some}
 use native.Mathlib.Omega.{arith}
 use lib.Dec.{leb→le}
 use lib.ListN.{length, getD, set, length-set}
@@ -16,65 +16,171 @@ use Rattle.def_transfer.specs.Pure.{pure, at, readOnlyIn}
 use Rattle.lent_tables.specs.Words.{end, apart, field, placesIn}
 use Rattle.lent_tables.specs.Laws.Word.{put-length, put-outside, set-outside, put-record, places-cong}
 use Rattle.lent_effects.specs.Records.{putEffect}
-use Rattle.lent_effects.specs.Laws.EffectFrames.{effect-length}
+use Rattle.lent_effects.specs.Laws.EffectFrames.{effect-length, effect-cong, effect-record, effect-apart}
+use Rattle.lent_effects.specs.Laws.Back.{effect-back}
+use Rattle.base_search.specs.declared.Spot.{Spot}
+use Rattle.base_search.specs.declared.Spot.the-variants.{At, Before}
+use Rattle.base_search.specs.Laws.Search.{Between}
+use Rattle.base_search.specs.Laws.Ascending.{Ascends}
+use Rattle.def_key_order.specs.KeyOrder.{compareKeys}
+use Rattle.def_key_order.specs.Laws.KeyOrder.{keys}
+use Rattle.lent_order.specs.Order.{orderAt, inserted}
+use Rattle.lent_order.specs.Laws.Order.{insert-length, insert-apart, insert-inside, insert-ascends}
 use Rattle.lent_keys.specs.KeyRecords.{optionIn, putOption, keyIn}
 use Rattle.lent_keys.specs.KeyRecords as Keys
 use Rattle.lent_keys.specs.Laws.KeyFrames.{key-cong, key-record, key-outside, key-length, option-cong, option-record, option-outside, option-length}
 use Rattle.lent_layout.specs.Layout as Layout
-use Rattle.lent_context.specs.Lent.{internedCount, addEffect, putKey, putLink, makeRead, instanceCount, putDiagnostic, addDiagnostic, diagnosticIn}
-use Rattle.lent_world.specs.Laws.Context.{Same, key-leaves, link-leaves, read-leaves, diagnostic-keeps}
+use Rattle.lent_context.specs.Lent.{internedCount, internedKey, effectSpot, effectAt, placeOf, findEffect, addEffect, putKey, putLink, makeRead, instanceCount, putDiagnostic, addDiagnostic, diagnosticIn}
+use Rattle.lent_world.specs.Laws.Context.{Same, effect-leaves, key-leaves, link-leaves, read-leaves, diagnostic-keeps}
 use Rattle.lent_context.specs.Laws.ReadMade.{read-keeps, read-other, read-made}
+use Rattle.lent_context.specs.Laws.Ordered.{OrderedTo, Ordered, Parts, parts}
 use Rattle.def_faithful.specs.Ranges.{Fresh, Short}
 use Rattle.lent_world.specs.Laws.StateFaithful.{at-is}
 use Rattle.lent_context.specs.Abstract.{abstract, functionIn}
-use Rattle.lent_world.specs.Laws.Frames.{interned-same, cached-same, links-same, function-same, functions-same, identifiers-same, transitive-same, diagnostics-same, diagnostic-cong, effect-leaves, effect-word, diagnostic-leaves, diagnostic-word}
-use Rattle.lent_world.specs.Laws.Back.{key-back, link-back, effect-appended, diagnostic-back, diagnostics-append}
+use Rattle.lent_world.specs.Laws.Frames.{interned-same, cached-same, links-same, function-same, functions-same, identifiers-same, transitive-same, diagnostics-same, diagnostic-cong, ordered-same, effect-word, diagnostic-leaves, diagnostic-word}
+use Rattle.lent_world.specs.Laws.Back.{captures-few, key-back, link-back, effect-appended, diagnostic-back, diagnostics-append}
 
-abbrev pub FitContext : List ℕ → Type 0
-FitContext c = length c ≡ 235973
+-- a context of the right length whose interned effects are in order
+pub record FitContext (c : List ℕ) : Type 0 where
+  pub long : length c ≡ 238021
+  pub ordered : Ordered c
 
 -- ---- interned effects
 
-pub effect-fit : (c : List ℕ) (e : AliasingEffect) → FitContext c → FitContext (addEffect c e)
+-- the length that an effect added leaves
+effect-long : (c : List ℕ) (e : AliasingEffect) → length (addEffect c e) ≡ length c
 unfolding addEffect
-effect-fit c e h = length-set (putEffect Layout.interned c (internedCount c) e) 12483 (internedCount c + 1) ∙ effect-length Layout.interned c (internedCount c) e ∙ h
+effect-long c e =
+    length-set (inserted Layout.effectOrder (placeOf (effectSpot c (effectKey e))) (internedCount c) (internedCount c) (putEffect Layout.interned c (internedCount c) e)) 12483 (internedCount c + 1)
+    ∙ insert-length Layout.effectOrder (placeOf (effectSpot c (effectKey e))) (internedCount c) (internedCount c) (putEffect Layout.interned c (internedCount c) e) ∙ effect-length Layout.interned c (internedCount c) e
+
+-- the words of the interned effects, with one added
+effect-fields : (c : List ℕ) (e : AliasingEffect) (j v : ℕ) → field Layout.interned (addEffect c e) j v ≡ field Layout.interned (putEffect Layout.interned c (internedCount c) e) j v
+unfolding addEffect apart end
+effect-fields c e j v = set-outside Layout.interned _ 12483 (internedCount c + 1) j v (inl (omega arith)) ∙ insert-apart Layout.effectOrder Layout.interned _ _ _ _ j v refl
+
+-- the count, with one added
+effect-count : (c : List ℕ) (e : AliasingEffect) → FitContext c → getD (addEffect c e) 12483 0 ≡ internedCount c + 1
+unfolding addEffect
+effect-count c e h =
+    let x = h .long in
+    let y = insert-length Layout.effectOrder (placeOf (effectSpot c (effectKey e))) (internedCount c) (internedCount c) (putEffect Layout.interned c (internedCount c) e) in
+    let z = effect-length Layout.interned c (internedCount c) e in
+    getD-set-same (inserted Layout.effectOrder (placeOf (effectSpot c (effectKey e))) (internedCount c) (internedCount c) (putEffect Layout.interned c (internedCount c) e)) 12483 (internedCount c + 1) 0 (omega arith)
 
 effects-added : (c : List ℕ) (e : AliasingEffect) → FitContext c → internedCount c < 2048 → Short (effectKey e) → abstract (addEffect c e) .interned ≡ abstract c .interned ++ (e ∷ [])
-unfolding addEffect internedCount
+unfolding internedCount
 effects-added c e h l s =
-    let m : ℕ = getD c 12483 0 in
-    let b : List ℕ = putEffect Layout.interned c m e in
-    let long : length b ≡ length c = effect-length Layout.interned c m e in
-    let count : getD (set b 12483 (m + 1)) 12483 0 ≡ m + 1 = getD-set-same b 12483 (m + 1) 0 (omega arith) in
-    ap (Rattle.lent_context.specs.Lent.effectsIn Layout.interned (set b 12483 (m + 1)) 0) (let z : getD (set b 12483 (m + 1)) 12483 0 ≡ suc m = omega arith in z)
-    ∙ effect-appended Layout.interned c (set b 12483 (m + 1)) m e refl l (let z : 35269 + m * 98 + 98 ≤ length c = omega arith in z) s (λ j v. set-outside Layout.interned b 12483 (m + 1) j v (inl (omega arith)))
+    let long = h .long in
+    let count = effect-count c e h in
+    ap (Rattle.lent_context.specs.Lent.effectsIn Layout.interned (addEffect c e) 0) (let z : getD (addEffect c e) 12483 0 ≡ suc (internedCount c) = omega arith in z)
+    ∙ effect-appended Layout.interned c (addEffect c e) (internedCount c) e refl l (let z : 37317 + internedCount c * 98 + 98 ≤ length c = omega arith in z) s (effect-fields c e)
+
+-- the order, with one more: where the search for its key ended
+module _ (c : List ℕ) (e : AliasingEffect) (h : FitContext c) (l : internedCount c < 2048) (s : Short (effectKey e)) (p : ℕ) (low : p ≤ internedCount c)
+    (apart-at : Between (λ j. compareKeys (effectKey e) (internedKey c (orderAt Layout.effectOrder c j))) (internedCount c) p) (spot : effectSpot c (effectKey e) ≡ Before p) where
+  abbrev n : ℕ
+  n = internedCount c
+
+  -- the effect written; its number put into the order
+  abbrev b : List ℕ
+  b = putEffect Layout.interned c n e
+
+  abbrev d : List ℕ
+  d = addEffect c e
+
+  -- keys of the records that were there, and of the new one
+  old-key : (r : ℕ) → r < n → internedKey d r ≡ internedKey c r
+  old-key r q = ap effectKey (effect-cong Layout.interned b d r (effect-fields c e r) ∙ effect-cong Layout.interned c b r (λ v. effect-record Layout.interned c n e r v (λ x. omega arith)))
+
+  new-key : internedKey d n ≡ effectKey e
+  new-key =
+      let x = h .long in
+      ap effectKey (effect-cong Layout.interned b d n (effect-fields c e n) ∙ effect-back Layout.interned c n refl l (let z : 37317 + n * 98 + 98 ≤ length c = omega arith in z) e (captures-few e s))
+
+  -- the order of the list with the effect written is the old one
+  b-order : (j : ℕ) → orderAt Layout.effectOrder b j ≡ orderAt Layout.effectOrder c j
+  unfolding orderAt apart end
+  b-order j = effect-apart Layout.interned Layout.effectOrder c n e j 0 refl
+
+  b-long : end Layout.effectOrder ≤ length b
+  unfolding end
+  b-long = let x = h .long in let y = effect-length Layout.interned c n e in omega arith
+
+  -- and that of the whole has the number put in
+  d-order : (j : ℕ) → orderAt Layout.effectOrder d j ≡ orderAt Layout.effectOrder (inserted Layout.effectOrder p n n b) j
+  unfolding orderAt addEffect end
+  d-order j =
+      set-outside Layout.effectOrder _ 12483 (internedCount c + 1) j 0 (inl (omega arith))
+      ∙ ap (λ (x : Spot). field Layout.effectOrder (inserted Layout.effectOrder (placeOf x) n n b) j 0) spot
+
+  above : Ascends keys (internedKey d) (orderAt Layout.effectOrder b) n
+  above j q =
+      ap₂ (keys .compare) (at j (omega arith)) (at (suc j) q) ∙ h .ordered .ascends j q
+    where
+      at : (i : ℕ) → i < n → internedKey d (orderAt Layout.effectOrder b i) ≡ internedKey c (orderAt Layout.effectOrder c i)
+      at i r = ap (internedKey d) (b-order i) ∙ old-key (orderAt Layout.effectOrder c i) (h .ordered .inside i r)
+
+  between : Between (λ j. keys .compare (internedKey d n) (internedKey d (orderAt Layout.effectOrder b j))) n p
+  unfolding keys
+  between = record { lower = λ j q. same j (omega arith) ∙ apart-at .lower j q; upper = λ j q r. same j r ∙ apart-at .upper j q r }
+    where
+      same : (j : ℕ) → j < n → compareKeys (internedKey d n) (internedKey d (orderAt Layout.effectOrder b j)) ≡ compareKeys (effectKey e) (internedKey c (orderAt Layout.effectOrder c j))
+      same j r = ap₂ compareKeys new-key (ap (internedKey d) (b-order j) ∙ old-key (orderAt Layout.effectOrder c j) (h .ordered .inside j r))
+
+  ordered-to : OrderedTo (suc n) d
+  ordered-to = record {
+    inside = λ j q. subst (λ (x : ℕ). x < suc n) (sym (d-order j)) (insert-inside Layout.effectOrder (omega arith) b p n n low l b-long (omega arith) (λ i r. subst (λ (x : ℕ). x < n) (sym (b-order i)) (h .ordered .inside i r)) j q);
+    ascends = λ j q.
+        ap₂ (λ (x y : ℕ). keys .compare (internedKey d x) (internedKey d y)) (d-order j) (d-order (suc j))
+        ∙ insert-ascends Layout.effectOrder (omega arith) b p n n low l b-long keys (internedKey d) above between j q;
+  }
+
+  pub ordered-added : Ordered (addEffect c e)
+  unfolding internedCount
+  ordered-added = subst (λ (m : ℕ). OrderedTo m d) (sym counted) ordered-to
+    where
+      counted : internedCount d ≡ suc n
+      counted = let z = effect-count c e h in let y : getD (addEffect c e) 12483 0 ≡ suc (internedCount c) = omega arith in y
+
+pub effect-fit : (c : List ℕ) (e : AliasingEffect) → FitContext c → internedCount c < 2048 → Short (effectKey e) → findEffect c (effectKey e) ≡ none → FitContext (addEffect c e)
+unfolding findEffect
+effect-fit c e h l s z = record { long = effect-long c e ∙ h .long; ordered = go (effectSpot c (effectKey e)) refl (parts c (h .ordered) (effectKey e)) z }
+  where
+    go : (x : Spot) → effectSpot c (effectKey e) ≡ x → Parts c (h .ordered) (effectKey e) x → effectAt c x ≡ none → Ordered (addEffect c e)
+    go (At j) q b r = let x : _≡_ {A = ℕ} 0 1 = cc in absurd (let y : ⊥ = omega arith in y)
+    go (Before p) q b r = ordered-added c e h l s p (b .0) (b .1) q
 
 pub effect-add : (c : List ℕ) (e : AliasingEffect) → FitContext c → internedCount c < 2048 → Short (effectKey e) → abstract (addEffect c e) ≡ pure .addEffect (abstract c) e
 unfolding apart end
 effect-add c e h l s = λ j. record {
   interned = effects-added c e h l s j;
-  cached = cached-same c (addEffect c e) (effect-leaves Layout.cached c e refl (inl (omega arith))) j;
-  links = links-same c (addEffect c e) (effect-leaves Layout.links c e refl (inl (omega arith))) j;
-  functions = functions-same c (addEffect c e) (effect-leaves Layout.contexts c e refl (inl (omega arith))) (effect-leaves Layout.functions c e refl (inr (omega arith))) j;
-  identifiers = identifiers-same c (addEffect c e) (effect-leaves Layout.identifiers c e refl (inr (omega arith))) j;
+  cached = cached-same c (addEffect c e) (effect-leaves Layout.cached c e refl refl (inl (omega arith))) j;
+  links = links-same c (addEffect c e) (effect-leaves Layout.links c e refl refl (inl (omega arith))) j;
+  functions = functions-same c (addEffect c e) (effect-leaves Layout.contexts c e refl refl (inl (omega arith))) (effect-leaves Layout.functions c e refl refl (inr (omega arith))) j;
+  identifiers = identifiers-same c (addEffect c e) (effect-leaves Layout.identifiers c e refl refl (inr (omega arith))) j;
   transitive = transitive-same c (addEffect c e) (effect-word c e 0 (omega arith) (λ q. omega arith)) j;
-  diagnostics = diagnostics-same c (addEffect c e) (effect-leaves Layout.diagnostics c e refl (inl (omega arith))) (effect-word c e 12484 (omega arith) (λ q. omega arith)) j;
+  diagnostics = diagnostics-same c (addEffect c e) (effect-leaves Layout.diagnostics c e refl refl (inl (omega arith))) (effect-word c e 12484 (omega arith) (λ q. omega arith)) j;
 }
 
 -- ---- cached numbers
-
-pub key-fit : (c : List ℕ) (v : ℕ) (k : EffectKey) → FitContext c → FitContext (putKey c v k)
-unfolding putKey
-key-fit c v k h = key-length Layout.cached c v k ∙ h
 
 key-word : (c : List ℕ) (v : ℕ) (k : EffectKey) (m : ℕ) → m < 18629 → getD (putKey c v k) m 0 ≡ getD c m 0
 unfolding putKey end
 key-word c v k m l = key-outside Layout.cached c v k m (inl l)
 
+pub key-fit : (c : List ℕ) (v : ℕ) (k : EffectKey) → FitContext c → FitContext (putKey c v k)
+unfolding putKey apart end
+key-fit c v k h = record {
+  long = key-length Layout.cached c v k ∙ h .long;
+  ordered = ordered-same c (putKey c v k) (key-leaves Layout.interned c v k refl) (key-leaves Layout.effectOrder c v k refl) (key-word c v k 12483 (omega arith)) (h .ordered);
+}
+
 keys-put : (c : List ℕ) (v : ℕ) (k : EffectKey) → FitContext c → Fresh v → Short k → keyIn Layout.cached (putKey c v k) ≡ at (keyIn Layout.cached c) v (some k)
 unfolding putKey
 keys-put c v k h p s =
     let x = p .high in
+    let long = h .long in
     fun-ext (at-is (keyIn Layout.cached c) (keyIn Layout.cached (Keys.putKey Layout.cached c v k)) v (some k)
     (key-back Layout.cached c v k refl (p .high) (let z : 18629 + v * 28 + 28 ≤ length c = omega arith in z) (leb→le (length (k .captures)) 16 s))
     (λ m n. key-cong Layout.cached c (Keys.putKey Layout.cached c v k) m (λ w. key-record Layout.cached c v k m w n)))
@@ -93,18 +199,22 @@ key-put c v k h p s = λ j. record {
 
 -- ---- links
 
-pub link-fit : (c : List ℕ) (v f : ℕ) → FitContext c → FitContext (putLink c v f)
-unfolding putLink
-link-fit c v f h = option-length Layout.links c v 0 (some f) ∙ h
-
 link-word : (c : List ℕ) (v f m : ℕ) → m < 17605 → getD (putLink c v f) m 0 ≡ getD c m 0
 unfolding putLink end
 link-word c v f m l = option-outside Layout.links c v 0 (some f) m (inl l)
+
+pub link-fit : (c : List ℕ) (v f : ℕ) → FitContext c → FitContext (putLink c v f)
+unfolding putLink apart end
+link-fit c v f h = record {
+  long = option-length Layout.links c v 0 (some f) ∙ h .long;
+  ordered = ordered-same c (putLink c v f) (link-leaves Layout.interned c v f refl) (link-leaves Layout.effectOrder c v f refl) (link-word c v f 12483 (omega arith)) (h .ordered);
+}
 
 links-put : (c : List ℕ) (v f : ℕ) → FitContext c → Fresh v → _≡_ {A = ℕ → Option ℕ} (λ x. optionIn Layout.links (putLink c v f) x 0) (at (λ x. optionIn Layout.links c x 0) v (some f))
 unfolding putLink
 links-put c v f h p =
     let x = p .high in
+    let long = h .long in
     fun-ext (at-is (λ x. optionIn Layout.links c x 0) (λ x. optionIn Layout.links (putOption Layout.links c v 0 (some f)) x 0) v (some f)
     (link-back Layout.links c v f refl (p .high) (let z : 17605 + v * 2 + 2 ≤ length c = omega arith in z))
     (λ m n. option-cong Layout.links c (putOption Layout.links c v 0 (some f)) m 0 (λ w. option-record Layout.links c v 0 (some f) m w n)))
@@ -123,12 +233,16 @@ link-put c v f h p = λ j. record {
 
 -- ---- context places made Read
 
-pub read-fit : (c : List ℕ) (f i : ℕ) → FitContext c → FitContext (makeRead c f i)
-read-fit c f i h = read-keeps f i (λ (d : List ℕ). length d ≡ length c) (λ d k x e. put-length Layout.contexts d f (k * 5 + 1) x ∙ e) c refl ∙ h
-
 read-word : (c : List ℕ) (f i m : ℕ) → m < 12485 → getD (makeRead c f i) m 0 ≡ getD c m 0
 unfolding end
 read-word c f i m l = read-keeps f i (λ (d : List ℕ). getD d m 0 ≡ getD c m 0) (λ d k x e. put-outside Layout.contexts d f (k * 5 + 1) x m (inl l) ∙ e) c refl
+
+pub read-fit : (c : List ℕ) (f i : ℕ) → FitContext c → FitContext (makeRead c f i)
+unfolding apart end
+read-fit c f i h = record {
+  long = read-keeps f i (λ (d : List ℕ). length d ≡ length c) (λ d k x e. put-length Layout.contexts d f (k * 5 + 1) x ∙ e) c refl ∙ h .long;
+  ordered = ordered-same c (makeRead c f i) (read-leaves Layout.interned c f i refl) (read-leaves Layout.effectOrder c f i refl) (read-word c f i 12483 (omega arith)) (h .ordered);
+}
 
 functions-made : (c : List ℕ) (f i : ℕ) → FitContext c → functionIn (makeRead c f i) ≡ at (functionIn c) f (readOnlyIn i (functionIn c f))
 unfolding apart end
@@ -139,7 +253,7 @@ functions-made c f i h = fun-ext (at-is (functionIn c) (functionIn (makeRead c f
 
     own : functionIn (makeRead c f i) f ≡ readOnlyIn i (functionIn c f)
     own = λ j. record {
-      context = (ap (placesIn Layout.contexts (makeRead c f i) f 0 0) (same f 1) ∙ read-made f i c h) j;
+      context = (ap (placesIn Layout.contexts (makeRead c f i) f 0 0) (same f 1) ∙ read-made f i c (h .long)) j;
       inside = (places-cong Layout.functions c (makeRead c f i) f 3 0 (field Layout.functions (makeRead c f i) f 2) (same f) ∙ ap (placesIn Layout.functions c f 3 0) (same f 2)) j;
       tracked = ap (λ (x : ℕ). functionTracked x) (same f 0) j;
     }
@@ -162,14 +276,21 @@ read-means c f i h = λ j. record {
 -- ---- diagnostics
 
 pub diagnostic-fit : (c : List ℕ) (n : ℕ) (d : Diagnostic) → FitContext c → FitContext (addDiagnostic c n d)
-unfolding addDiagnostic
-diagnostic-fit c n d h =
-    length-set (putDiagnostic c (instanceCount c) n d) 12484 (instanceCount c + 1)
-    ∙ diagnostic-keeps (instanceCount c) (λ (b : List ℕ). length b ≡ length c) (λ b w x e. put-length Layout.diagnostics b (instanceCount c) w x ∙ e) c n d refl ∙ h
+unfolding addDiagnostic apart end
+diagnostic-fit c n d h = record {
+  long =
+      length-set (putDiagnostic c (instanceCount c) n d) 12484 (instanceCount c + 1)
+      ∙ diagnostic-keeps (instanceCount c) (λ (b : List ℕ). length b ≡ length c) (λ b w x e. put-length Layout.diagnostics b (instanceCount c) w x ∙ e) c n d refl ∙ h .long;
+  ordered = keeps;
+}
+  where
+    keeps : Ordered (addDiagnostic c n d)
+    keeps = ordered-same c (addDiagnostic c n d) (diagnostic-leaves Layout.interned c n d refl (inl (omega arith))) (diagnostic-leaves Layout.effectOrder c n d refl (inl (omega arith))) (diagnostic-word c n d 12483 (omega arith) (λ q. omega arith)) (h .ordered)
 
 diagnostics-added : (c : List ℕ) (n : ℕ) (d : Diagnostic) → FitContext c → instanceCount c < 256 → abstract (addDiagnostic c n d) .diagnostics ≡ abstract c .diagnostics ++ (record { identity = n; diagnostic = d } ∷ [])
 unfolding addDiagnostic instanceCount
 diagnostics-added c n d h l =
+    let wide = h .long in
     let m : ℕ = getD c 12484 0 in
     let b : List ℕ = putDiagnostic c m n d in
     let long : length b ≡ length c = diagnostic-keeps m (λ (x : List ℕ). length x ≡ length c) (λ x w y e. put-length Layout.diagnostics x m w y ∙ e) c n d refl in

@@ -1,6 +1,6 @@
 -- What each write of a context leaves of its meaning. Assumes nothing.
 use Prim.Native.Nat.{ℕ, zero, suc, _+_, _/_, _%_, _≤_, _<_}
-use mathlib.Core.Path.{_≡_, refl, ap, ap₂, _∙_, fun-ext}
+use mathlib.Core.Path.{_≡_, refl, sym, ap, ap₂, _∙_, subst, fun-ext}
 use mathlib.Core.Bool.{true, not}
 use mathlib.Core.Logic.{_⊎_, inl}
 use mathlib.Core.List.{List, _∷_}
@@ -8,20 +8,26 @@ use mathlib.Core.Option.{Option}
 use lib.Dec.{eqb}
 use lib.ListN.{getD}
 use lib.Seq.{getD-set-other}
+use native.Mathlib.Omega.{arith}
 use Rattle.def_effects.specs.Effects.{AliasingEffect}
+use Rattle.def_effects.specs.Keys.{effectKey}
+use Rattle.def_key_order.specs.Laws.KeyOrder.{keys}
 use Rattle.def_transfer.specs.Pure.{Interned}
 use Rattle.def_transfer.specs.Diagnostics.{Diagnostic}
 use Rattle.lent_tables.specs.declared.Table.{Table}
 use Rattle.lent_tables.specs.Words.{end, apart, field, placesIn}
 use Rattle.lent_tables.specs.Laws.Word.{put-apart, put-outside, set-outside, places-cong}
-use Rattle.lent_effects.specs.Records.{putEffect}
-use Rattle.lent_effects.specs.Laws.EffectFrames.{effect-cong, effect-apart, effect-outside}
+use Rattle.lent_effects.specs.Records.{effectIn, putEffect}
+use Rattle.lent_effects.specs.Laws.EffectFrames.{effect-cong, effect-outside}
 use Rattle.lent_keys.specs.KeyRecords.{optionIn, keyIn}
 use Rattle.lent_keys.specs.Laws.KeyFrames.{option-cong, key-cong}
 use Rattle.lent_layout.specs.Layout as Layout
-use Rattle.lent_context.specs.Lent.{effectsIn, internedCount, addEffect, diagnosticIn, diagnosticsIn, instanceCount, putDiagnostic, addDiagnostic}
+use Rattle.lent_context.specs.Lent.{effectsIn, internedCount, internedKey, effectSpot, placeOf, addEffect, diagnosticIn, diagnosticsIn, instanceCount, putDiagnostic, addDiagnostic}
 use Rattle.lent_world.specs.Laws.Context.{Same, diagnostic-keeps}
 use Rattle.lent_context.specs.Abstract.{functionIn, identifierIn}
+use Rattle.lent_context.specs.Laws.Ordered.{OrderedTo, Ordered}
+use Rattle.lent_order.specs.Order.{orderAt, inserted}
+use Rattle.lent_order.specs.Laws.Order.{insert-outside}
 
 effects-cong : (t : Table) (c d : List ℕ) (k n : ℕ) → ((j v : ℕ) → field t d j v ≡ field t c j v) → effectsIn t d k n ≡ effectsIn t c k n
 unfolding effectsIn
@@ -70,15 +76,25 @@ module _ (c d : List ℕ) where
   pub diagnostics-same : Same Layout.diagnostics c d → getD d 12484 0 ≡ getD c 12484 0 → diagnosticsIn d 0 (getD d 12484 0) ≡ diagnosticsIn c 0 (getD c 12484 0)
   diagnostics-same h e = diagnostics-cong c d 0 (getD d 12484 0) h ∙ ap (diagnosticsIn c 0) e
 
--- ---- an effect added, a diagnostic added
+-- an order of effects whose words and records stay
+pub ordered-same : (c d : List ℕ) → Same Layout.interned c d → Same Layout.effectOrder c d → getD d 12483 0 ≡ getD c 12483 0 → Ordered c → Ordered d
+unfolding internedCount orderAt
+ordered-same c d h g e o = subst (λ (n : ℕ). OrderedTo n d) (sym e) (record {
+  inside = λ j l. subst (λ (x : ℕ). x < getD c 12483 0) (sym (g j 0)) (o .inside j l);
+  ascends = λ j l. ap₂ (keys .compare) (at j) (at (suc j)) ∙ o .ascends j l;
+})
+  where
+    at : (j : ℕ) → internedKey d (field Layout.effectOrder d j 0) ≡ internedKey c (field Layout.effectOrder c j 0)
+    at j = ap effectKey (effect-cong Layout.interned c d (field Layout.effectOrder d j 0) (h (field Layout.effectOrder d j 0)) ∙ ap (effectIn Layout.interned c) (g j 0))
 
-pub effect-leaves : (u : Table) (c : List ℕ) (e : AliasingEffect) → apart Layout.interned u ≡ true → (12483 < u .base) ⊎ (end u ≤ 12483) → Same u c (addEffect c e)
-unfolding addEffect
-effect-leaves u c e a o j v = set-outside u (putEffect Layout.interned c (internedCount c) e) 12483 (internedCount c + 1) j v o ∙ effect-apart Layout.interned u c (internedCount c) e j v a
+-- ---- an effect added, a diagnostic added
 
 pub effect-word : (c : List ℕ) (e : AliasingEffect) (k : ℕ) → k < 35269 → (k ≡ 12483 → ⊥) → getD (addEffect c e) k 0 ≡ getD c k 0
 unfolding addEffect
-effect-word c e k l n = getD-set-other (putEffect Layout.interned c (internedCount c) e) 12483 k (internedCount c + 1) 0 n ∙ effect-outside Layout.interned c (internedCount c) e k (inl l)
+effect-word c e k l n =
+    getD-set-other (inserted Layout.effectOrder (placeOf (effectSpot c (effectKey e))) (internedCount c) (internedCount c) (putEffect Layout.interned c (internedCount c) e)) 12483 k (internedCount c + 1) 0 n
+    ∙ insert-outside Layout.effectOrder (placeOf (effectSpot c (effectKey e))) (internedCount c) (internedCount c) (putEffect Layout.interned c (internedCount c) e) k (inl l)
+    ∙ effect-outside Layout.interned c (internedCount c) e k (inl (omega arith))
 
 pub diagnostic-leaves : (u : Table) (c : List ℕ) (n : ℕ) (d : Diagnostic) → apart Layout.diagnostics u ≡ true → (12484 < u .base) ⊎ (end u ≤ 12484) → Same u c (addDiagnostic c n d)
 unfolding addDiagnostic

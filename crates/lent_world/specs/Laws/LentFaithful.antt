@@ -39,7 +39,8 @@ use Rattle.lent_world.specs.Laws.StateFaithful.{value-word, value-put, s
 use Rattle.lent_context.specs.Abstract.{abstract}
 use Rattle.lent_world.specs.Laws.Back.{effect-appended, effects-length, diagnostics-length}
 use Rattle.lent_world.specs.Laws.ContextFaithful.{FitContext, effect-fit, effect-add, key-fit, key-put, link-fit, link-put, read-fit, read-means, diagnostic-fit, diagnostic-add}
-use Rattle.lent_context.specs.Laws.Abstract.{effect-is, key-is, number-is, link-is, places-is, inside-is, tracked-is, ref-is, hoisted-is, access-is, name-is, transitive-is, identities-is, identity-is, instance-is}
+use Rattle.lent_context.specs.Laws.Abstract.{key-is, number-is, link-is, places-is, inside-is, tracked-is, ref-is, hoisted-is, access-is, name-is, transitive-is, identities-is, identity-is, instance-is}
+use Rattle.lent_context.specs.Laws.Ordered.{effect-is}
 use Rattle.lent_layout.specs.Layout.{output}
 
 -- ---- marks
@@ -171,7 +172,7 @@ lent-faithful n few = record {
   FitContext = FitContext;
   meaning = abstract;
   count-is = λ c h. sym (effects-length Layout.interned c 0 (getD c 12483 0));
-  effect-is = λ c k h. effect-is c k;
+  effect-is = λ c k h. effect-is c (h .ordered) k;
   key-is = λ c v h. key-is c v;
   number-is = λ c k h. number-is c k;
   link-is = λ c v h. link-is c v;
@@ -187,7 +188,7 @@ lent-faithful n few = record {
   instances-is = λ c h. sym (diagnostics-length c 0 (getD c 12484 0));
   identity-is = λ c d h. identity-is c d;
   instance-is = λ c m d h. instance-is c m d;
-  effect-fit = λ c e h l s z. effect-fit c e h;
+  effect-fit = effect-fit;
   effect-add = λ c e h l s z. effect-add c e h l s;
   key-fit = λ c v k h p s. key-fit c v k h;
   key-put = key-put;

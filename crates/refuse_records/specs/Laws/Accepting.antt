@@ -19,9 +19,9 @@ use Rattle.refuse_class.specs.Laws.Class.{lower-none}
 use Rattle.refuse_words.specs.Classes.{lowestBelow, earns, wordClass, strayAfter, recordClass}
 use Rattle.refuse_words.specs.Laws.Order.{Class, class-later, earns-class, record-class, lower-keeps, two-first, four-last}
 use Rattle.refuse_instruction.specs.EffectClasses.{effectClass}
-use Rattle.refuse_instruction.specs.Laws.Instruction.{effect-class}
 use Rattle.refuse_tables.specs.TableClasses.{identifierClass, functionClass, linkClass, keyLimit, keyLacks, keyClass, noKeyClass, diagnosticLimit, labelClass, messageClass}
-use Rattle.refuse_repeats.specs.Repeats.{internedTwice, keyTwice, diagnosticTwice}
+use Rattle.refuse_repeats.specs.Repeats.{keyTwice, diagnosticTwice}
+use Rattle.refuse_order.specs.Order.{orderClass}
 use Rattle.refuse_records.specs.Accepting.{tooManyCaptures, cachedClass, handedOut, diagnosticClass, internedClass, identifiersClass, functionsClass, linksClass, keysClass, diagnosticsClass, effectsClass, countsWrong, tablesClass, contextClass}
 
 -- ---- a class, and 4 where a record repeats another
@@ -57,18 +57,9 @@ module _ (identifiers : ℕ) (c : List ℕ) (k i x : ℕ) (e : i ≡ k) (h : x �
 
 -- ---- an interned effect
 
-module _ (identifiers functions : ℕ) (c : List ℕ) (k x : ℕ) (h : x ≡ effectClass identifiers functions c 3 Layout.interned c k) where
-  -- an effect that is refused by its words
-  pub interned-wrong : (x ≡ 0 → ⊥) → x ≡ internedClass identifiers functions c k
-  unfolding internedClass
-  interned-wrong n =
-      first-wrong (effectClass identifiers functions c 3 Layout.interned c k) x (internedTwice c k) h n
-      (effect-class identifiers functions c 3 Layout.interned c k (Class.something (omega arith) (omega arith)))
-
-  -- an effect that is not
-  pub interned-right : (r : ℕ) (t : Bool) → x ≡ 0 → t ≡ internedTwice c k → r ≡ earns 4 t → r ≡ internedClass identifiers functions c k
-  unfolding internedClass
-  interned-right r t z g q = first-right (effectClass identifiers functions c 3 Layout.interned c k) x r (internedTwice c k) t h z g q
+pub interned-is : (identifiers functions : ℕ) (c : List ℕ) (k x : ℕ) → x ≡ effectClass identifiers functions c 3 Layout.interned c k → x ≡ internedClass identifiers functions c k
+unfolding internedClass
+interned-is identifiers functions c k x h = h
 
 -- ---- a cached number
 
@@ -167,11 +158,11 @@ unfolding diagnosticsClass
 diagnostics-are identifiers c n m a b r e f h g q =
     q ∙ ap₂ lower (h ∙ ap (λ (k : ℕ). lowestBelow k (diagnosticClass identifiers c)) e) (g ∙ ap (strayAfter Layout.diagnostics c) (f ∙ e))
 
--- interned effects
-pub effects-are : (identifiers functions : ℕ) (c : List ℕ) (n m a b r : ℕ) → n ≡ internedCount c → m ≡ n → a ≡ lowestBelow m (internedClass identifiers functions c) → b ≡ strayAfter Layout.interned c m → r ≡ lower a b → r ≡ effectsClass identifiers functions c
+-- interned effects, and their order
+pub effects-are : (identifiers functions : ℕ) (c : List ℕ) (n m a b o r s : ℕ) → n ≡ internedCount c → m ≡ n → a ≡ lowestBelow m (internedClass identifiers functions c) → b ≡ strayAfter Layout.interned c m → o ≡ orderClass c → s ≡ lower b o → r ≡ lower a s → r ≡ effectsClass identifiers functions c
 unfolding effectsClass
-effects-are identifiers functions c n m a b r e f h g q =
-    q ∙ ap₂ lower (h ∙ ap (λ (k : ℕ). lowestBelow k (internedClass identifiers functions c)) (f ∙ e)) (g ∙ ap (strayAfter Layout.interned c) (f ∙ e))
+effects-are identifiers functions c n m a b o r s e f h g k p q =
+    q ∙ ap₂ lower (h ∙ ap (λ (k : ℕ). lowestBelow k (internedClass identifiers functions c)) (f ∙ e)) (p ∙ ap₂ lower (g ∙ ap (strayAfter Layout.interned c) (f ∙ e)) k)
 
 -- ---- the whole
 

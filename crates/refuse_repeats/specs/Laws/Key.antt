@@ -1,4 +1,4 @@
--- Laws by which the searches of interned effects and of cached keys before one meet the definitions. Assumes nothing.
+-- Laws by which the search of cached keys before one meets the definition. Assumes nothing.
 use Prim.Native.Nat.{ℕ, suc, _+_, _-_, _≤_, _<_}
 use native.Mathlib.Omega.{arith}
 use native.Mathlib.Numerals.{add-one}
@@ -6,60 +6,18 @@ use mathlib.Core.Path.{_≡_, refl, sym, ap, ap₂, _∙_}
 use mathlib.Core.Bool.{Bool, true, false, not}
 use mathlib.Core.List.{List, []}
 use mathlib.Core.Option.{Option, none, some}
-use lib.ListN.{length}
 use Rattle.base_tests.specs.Laws.Bool.{not-true, not-false}
 use Rattle.base_tests.specs.Tests.{ite, isSome}
 use Rattle.base_tests.specs.Laws.Choice.{ite-eq, ite-ne}
-use Rattle.def_effects.specs.declared.Place.{Place}
-use Rattle.def_effects.specs.Places.{identifiers}
-use Rattle.def_effects.specs.Effects.{AliasingEffect}
-use Rattle.def_effects.specs.Keys.{EffectKey, effectKey, eqKey, eqList}
-use Rattle.def_transfer.specs.Pure.{findEffect, isKey, firstCached}
+use Rattle.def_effects.specs.Keys.{EffectKey, eqKey, eqList}
+use Rattle.def_transfer.specs.Pure.{isKey, firstCached}
 use Rattle.lent_tables.specs.Words.{field}
-use Rattle.lent_effects.specs.declared.AliasingEffect.{AliasingEffect as Head}
-use Rattle.lent_effects.specs.Records.{effectWith, headIn, effectIn, capturesOf, copiedCaptures}
-use Rattle.lent_effects.specs.Laws.Capture.{captures-copied}
 use Rattle.lent_keys.specs.declared.Key.{Key}
 use Rattle.lent_keys.specs.KeyRecords.{keyWith, sameHead, numbersIn, keyHeadIn, keyIn}
 use Rattle.lent_keys.specs.Laws.SameKey.{keys-differ, keys-captures}
 use Rattle.lent_layout.specs.Layout as Layout
-use Rattle.lent_context.specs.Lent.{effectsIn, keyAt}
-use Rattle.lent_context.specs.Laws.Search.{effects-more}
-use Rattle.refuse_repeats.specs.Repeats.{internedTwice, keyHere, keyTwice}
-
--- ---- the search of interned effects
-
-module _ (c : List ℕ) (key : EffectKey) (n k : ℕ) (inv : findEffect (effectsIn Layout.interned c 0 (n - 0)) key ≡ findEffect (effectsIn Layout.interned c k (n - k)) key) where
-  -- the definition's search is what the loop has left to do
-  left : findEffect (effectsIn Layout.interned c 0 n) key ≡ findEffect (effectsIn Layout.interned c k (n - k)) key
-  left =
-      let a : n - 0 ≡ n = omega arith in
-      ap (λ (m : ℕ). findEffect (effectsIn Layout.interned c 0 m) key) (sym a) ∙ inv
-
-  -- the search ends at effect k
-  pub before-found : (b : Bool) → k < n → b ≡ eqKey key (effectKey (effectIn Layout.interned c k)) → b ≡ true → true ≡ isSome (findEffect (effectsIn Layout.interned c 0 n) key)
-  unfolding findEffect
-  before-found b l h z =
-      sym (ap isSome (left ∙ ap (λ (es : List AliasingEffect). findEffect es key) (effects-more Layout.interned c k n l)
-      ∙ ap (λ (t : Bool). elim t as (λ x. Option AliasingEffect) [ true ↦ some (effectIn Layout.interned c k) | false ↦ findEffect (effectsIn Layout.interned c (k + 1) (n - (k + 1))) key ]) (sym h ∙ z)))
-
-  -- the search ends without an effect
-  pub before-nowhere : n ≤ k → false ≡ isSome (findEffect (effectsIn Layout.interned c 0 n) key)
-  unfolding findEffect effectsIn
-  before-nowhere l =
-      let m : n - k ≡ 0 = omega arith in
-      sym (ap isSome (left ∙ ap (λ (x : ℕ). findEffect (effectsIn Layout.interned c k x) key) m))
-
--- an effect's own key, with its captures copied beside it
--- the search for it is the definition's test
-pub twice-is : (c : List ℕ) (k : ℕ) (ws vs : List ℕ) (e : Head) (key : Key) (r : Bool) → length ws ≡ 81 → vs ≡ copiedCaptures Layout.interned c k ws → e ≡ headIn Layout.interned c k
-    → ((cs : List Place) → keyWith key (identifiers cs) ≡ effectKey (effectWith e cs)) → r ≡ isSome (findEffect (effectsIn Layout.interned c 0 k) (keyWith key (identifiers (capturesOf vs)))) → r ≡ internedTwice c k
-unfolding internedTwice effectIn
-twice-is c k ws vs e key r hl hv he hk h =
-    h
-    ∙ ap (λ (q : EffectKey). isSome (findEffect (effectsIn Layout.interned c 0 k) q))
-    (hk (capturesOf vs)
-    ∙ ap₂ (λ (x : Head) (ps : List Place). effectKey (effectWith x ps)) he (ap capturesOf hv ∙ captures-copied Layout.interned c k ws refl hl))
+use Rattle.lent_context.specs.Lent.{keyAt}
+use Rattle.refuse_repeats.specs.Repeats.{keyHere, keyTwice}
 
 -- ---- one cached key and another
 

@@ -1,10 +1,11 @@
 -- Laws of classes: the ways through the code of a word, a limit and stray words, and how a loop comes to the lowest class. Assumes nothing.
-use Prim.Native.Nat.{ℕ, suc, _+_, _-_, _/_, _%_, _≤_, _<_}
+use Prim.Native.Nat.{ℕ, zero, suc, _+_, _-_, _/_, _%_, _≤_, _<_}
 use mathlib.Core.Path.{_≡_, refl, sym, ap, ap₂, _∙_}
-use mathlib.Core.Bool.{Bool, not}
+use mathlib.Core.Bool.{Bool, true, false, not}
 use mathlib.Core.Logic.{_⊎_, ⊎-elim}
 use mathlib.Core.List.{List, [], _∷_}
 use mathlib.Core.Option.{Option, none, some}
+use native.Mathlib.Nat.{eq-or-lt-of-le}
 use native.Mathlib.Omega.{arith}
 use native.Mathlib.Numerals.{add-one}
 use lib.Dec.{ltb}
@@ -15,6 +16,7 @@ use Rattle.base_tests.specs.Laws.Choice.{ite-lt, ite-ge}
 use Rattle.lent_tables.specs.declared.Table.{Table}
 use Rattle.lent_tables.specs.Words.{field}
 use Rattle.refuse_class.specs.Class.{lower}
+use Rattle.refuse_class.specs.Laws.Class.{lower-0}
 use Rattle.refuse_words.specs.Classes.{lowestBelow, earns, wordClass, limitOf, usedIf, any, placeLimit, runLimit, wordsBelow, recordClass}
 
 -- ---- a word and its limit
@@ -137,3 +139,19 @@ module _ (t : Table) (c : List ℕ) (limit : ℕ → Option ℕ) (i : ℕ) where
   words-end k w a b h =
       let e : k ≡ t .width = omega arith in
       h ∙ ap (wordsBelow t c limit i) e
+
+-- ---- no class at all
+
+-- a test that earns no class did not hold
+-- 0 is no class
+pub earns-none : (n : ℕ) (b : Bool) → earns (suc n) b ≡ 0 → b ≡ false
+earns-none n true e = absurd (let z : ⊥ = omega arith in z)
+earns-none n false e = refl
+
+-- the lowest of some classes is none only if each is
+pub lowest-0 : (n : ℕ) (f : ℕ → ℕ) → lowestBelow n f ≡ 0 → (k : ℕ) → k < n → f k ≡ 0
+unfolding lowestBelow
+lowest-0 zero f e k l = absurd (let z : ⊥ = omega arith in z)
+lowest-0 (suc n) f e k l =
+    let a = lower-0 (lowestBelow n f) (f n) e in
+    ⊎-elim (λ z. ap f z ∙ a .1) (λ z. lowest-0 n f (a .0) k z) (eq-or-lt-of-le (let y : k ≤ n = omega arith in y))

@@ -19,7 +19,7 @@ slice-aggregate-replay-list-4 : tie.Need-slice-aggregate-replay-list-4
 slice-aggregate-replay-list-4 c = sym (length-replicate {0} {A = ℕ} 8192 0)
 
 slice-aggregate-replay-list-5 : tie.Need-slice-aggregate-replay-list-5
-slice-aggregate-replay-list-5 c = sym (length-replicate {0} {A = ℕ} 235973 0)
+slice-aggregate-replay-list-5 c = sym (length-replicate {0} {A = ℕ} 238021 0)
 
 slice-aggregate-replay-list-6 : tie.Need-slice-aggregate-replay-list-6
 slice-aggregate-replay-list-6 c = sym (length-replicate {0} {A = ℕ} 6272 0)
@@ -31,7 +31,7 @@ slice-aggregate-replay-list-8 : tie.Need-slice-aggregate-replay-list-8
 slice-aggregate-replay-list-8 c = sym (length-replicate {0} {A = ℕ} 9216 0)
 
 slice-aggregate-replay-list-9 : tie.Need-slice-aggregate-replay-list-9
-slice-aggregate-replay-list-9 c = sym (length-replicate {0} {A = ℕ} 22786 0)
+slice-aggregate-replay-list-9 c = sym (length-replicate {0} {A = ℕ} 24834 0)
 
 slice-aggregate-replay-list-10 : tie.Need-slice-aggregate-replay-list-10
 slice-aggregate-replay-list-10 c = sym (length-replicate {0} {A = ℕ} 2900000 0)

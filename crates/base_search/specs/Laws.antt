@@ -1,0 +1,4 @@
+pub mod Search
+pub mod Ascending
+pub mod Inserting
+pub mod Comparings

@@ -1,0 +1,1 @@
+// The order of the keys of effects: definitions and laws, no code.
