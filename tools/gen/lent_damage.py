@@ -255,7 +255,7 @@ def raised(w, *codes):
 
 
 # A Mutate without a reason gets one.
-# "Neither Mutate's reason nor Impure's diagnostic is in the key."
+# Its key is the same.
 def with_reason(lent, words):
     return raised(MUTATION, MUTATE)(lent, words) if words[MUTATION] == 0 else None
 

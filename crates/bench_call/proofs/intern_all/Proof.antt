@@ -18,6 +18,9 @@ loop-holds c = (search needs, refl)
 intern-one-requires : tie.Need-intern-one-requires Inv-loop μ-loop
 intern-one-requires c κs = search needs
 
+order-one-requires : tie.Need-order-one-requires Inv-loop μ-loop
+order-one-requires c κs = search needs
+
 add-k : tie.Need-add-k Inv-loop μ-loop
 add-k c = search needs
 
@@ -25,7 +28,10 @@ loop-less : tie.Need-loop-less Inv-loop μ-loop
 loop-less c = search needs
 
 loop-again : tie.Need-loop-again Inv-loop μ-loop
-loop-again c = (search needs, c .before .before .intern-one .kept .0 ∙ c .before .before .before .before .before .loop .inv .1)
+loop-again c =
+    let at-order-one = c .before .before in
+    let at-intern-one = at-order-one .before .before .before .before in
+    (search needs, at-order-one .order-one .kept .0 ∙ at-intern-one .intern-one .kept .0 ∙ at-intern-one .before .before .before .loop .inv .1)
 
 same-length : tie.Need-same-length Inv-loop μ-loop
 same-length c = c .before .loop .inv .1
@@ -41,6 +47,7 @@ intern-all-spec =
     μ-loop
     loop-holds
     intern-one-requires
+    order-one-requires
     add-k
     loop-less
     loop-again

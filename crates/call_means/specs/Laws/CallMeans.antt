@@ -28,14 +28,13 @@ use Rattle.laws_counts.specs.Laws.Steps.{mutated}
 use Rattle.laws_counts.specs.Laws.Counts.{Fits, listed-most, entries-most, append-length}
 use Rattle.call_outcome.specs.Calls.{Call, Outcome, candidateCount, callClass, lentInstruction, lentWorld, refusedWith, concluded, outcome}
 use Rattle.call_means.specs.Meaning.{plainWorld, MeansEnd, MeansPlain}
-use Rattle.call_outcome.specs.Laws.Class.{class-0, lengths-right, order-right}
-use Rattle.refuse_order.specs.Laws.Accepted.{in-order}
+use Rattle.call_outcome.specs.Laws.Class.{class-0}
 use Rattle.laws_suffices.specs.Laws.Suffices.{accepted-fits}
 use Rattle.def_faithful.specs.Laws.Means.{Any, Rel}
 use Rattle.def_faithful.specs.Laws.Steps.{Fine, call-means}
 use Rattle.lent_context.specs.Abstract.{abstract}
 use Rattle.lent_world.specs.Laws.LentFaithful.{Holds, lent-faithful}
-use Rattle.call_means.specs.Laws.Accepting.{candidates-fine, lvalue-named}
+use Rattle.call_means.specs.Laws.Accepting.{candidates-fine, lvalue-named, context-fit}
 use Rattle.lent_layout.specs.Layout.{output}
 
 -- ---- bounds, over plain tables
@@ -90,13 +89,12 @@ unfolding lent-faithful instructionOf
 call-related c e l =
     let a = class-0 (c .values) (c .sets) (c .flag) (c .context) (c .session) (c .candidates) (c .lvalue) (c .own) (c .output) (c .scratch64) (c .scratch32) e in
     let b = accepted-lent (c .values) (c .sets) (c .session .next) (c .session .access) (a .1) in
-    let d = lengths-right (length (c .sets)) (length (c .context)) (length (c .candidates)) (length (c .output)) (length (c .scratch64)) (length (c .scratch32)) (a .0) in
     call-means {F = lent-faithful (identifiers (c .sets)) l} (lentInstruction c) (call-fine c e .0) (call-fine c e .1)
     (lentWorld c) (plainWorld c)
     (record {
       state = record { fit-values = b .values-length; values = refl; fit-sets = b .sets-length; sets = refl; flag = refl };
       session = record { low = b .next-low; next = refl; access = refl; span = refl; entries = λ h. refl };
-      fit = record { long = d .0; ordered = in-order (c .context) (order-right (identifiers (c .sets)) (getD (c .context) Layout.functionCount 0) (c .context) (c .session .next) (a .2)) };
+      fit = context-fit c e;
       context = refl;
     })
 

@@ -1,7 +1,6 @@
 -- Reach and entries of a call are those of the plain tables that it is lent. Assumes nothing.
 use Prim.Native.Nat.{_≤_}
 use mathlib.Core.Path.{_≡_, refl}
-use lib.ListN.{length}
 use Rattle.def_transfer.specs.Reach.{Node, val, id, entry, Reach}
 use Rattle.def_transfer.specs.Pure.{pure}
 use Rattle.def_faithful.specs.Laws.Reach.{reach-means}
@@ -13,7 +12,8 @@ use Rattle.refuse_entries.specs.Laws.Accepted.{accepted-lent}
 use Rattle.call_outcome.specs.Calls.{Call, callClass, lentInstruction}
 use Rattle.call_outcome.specs.Isolation.{stateOf, reach}
 use Rattle.call_means.specs.Meaning.{plainWorld}
-use Rattle.call_outcome.specs.Laws.Class.{class-0, lengths-right}
+use Rattle.call_outcome.specs.Laws.Class.{class-0}
+use Rattle.call_means.specs.Laws.Accepting.{context-fit}
 
 -- the reach of a call's instruction, taken in the plain tables
 abbrev pub plainReach : Call → Node → Type 0
@@ -30,5 +30,4 @@ unfolding lent-faithful
 reach-plain c e n =
     let a = class-0 (c .values) (c .sets) (c .flag) (c .context) (c .session) (c .candidates) (c .lvalue) (c .own) (c .output) (c .scratch64) (c .scratch32) e in
     let l : identifiers (c .sets) ≤ 512 = accepted-lent (c .values) (c .sets) (c .session .next) (c .session .access) (a .1) .most in
-    let d = lengths-right (length (c .sets)) (length (c .context)) (length (c .candidates)) (length (c .output)) (length (c .scratch64)) (length (c .scratch32)) (a .0) in
-    reach-means (lent-faithful (identifiers (c .sets)) l) (lentInstruction c) (c .session) (c .context) (d .0) (stateOf c) (plainWorld c .state) refl n
+    reach-means (lent-faithful (identifiers (c .sets)) l) (lentInstruction c) (c .session) (c .context) (context-fit c e) (stateOf c) (plainWorld c .state) refl n
