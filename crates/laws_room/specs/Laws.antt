@@ -1,0 +1,9 @@
+pub mod Near
+pub mod Parts
+pub mod Steps
+pub mod Bound
+pub mod Short
+pub mod Pure
+pub mod Lent
+pub mod Both
+pub mod LentShort

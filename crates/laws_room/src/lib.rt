@@ -1,0 +1,1 @@
+// How much room the interned effects of an instruction need, and that more room changes nothing: laws of the definition, and no code.
