@@ -1,3 +1,4 @@
 pub mod Accepting
+pub mod Padding
 pub mod CallMeans
 pub mod PlainReach

@@ -21,7 +21,7 @@ pub record Ready (vs ss cs os xs s64 s32 : List ℕ) : Type 0 where
   pub values : length vs ≡ 1024
   pub sets : length ss ≡ 16 * count
   pub most : count ≤ 512
-  pub context : length cs ≡ Layout.long
+  pub context : Layout.interned .base ≤ length cs
   pub after : (k : ℕ) → Layout.interned .base + internedCount cs * Layout.effectWords ≤ k → getD cs k 0 ≡ 0
   pub output : os ≡ zeros Layout.outputWords
   pub candidates : length xs / Layout.effectWords ≤ 64

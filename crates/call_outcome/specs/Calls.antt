@@ -1,9 +1,9 @@
 -- The call for one instruction: what it is lent and given, which class refuses it, and what comes of it (document 01, 'Refused calls').
 -- Assumes nothing: these are definitions.
-use Prim.Native.Nat.{ℕ, _+_, _/_, _%_}
+use Prim.Native.Nat.{ℕ, _+_, _-_, _*_, _/_, _%_}
 use mathlib.Core.Bool.{Bool, not, _||_}
 use mathlib.Core.List.{List}
-use lib.Dec.{eqb}
+use lib.Dec.{eqb, ltb}
 use lib.ListN.{length, getD}
 use Rattle.base_tests.specs.Tests.{ite}
 use Rattle.lent_copies.specs.Copies.{zeros}
@@ -22,6 +22,9 @@ use Rattle.refuse_words.specs.Classes.{earns}
 use Rattle.refuse_instruction.specs.EffectClasses.{instructionClass}
 use Rattle.refuse_records.specs.Accepting.{contextClass}
 use Rattle.call_parts.specs.Instructions.{instructionOf}
+use Rattle.lent_context.specs.Lent.{internedCount, effectsIn}
+use Rattle.laws_room.specs.Room.{needs}
+use Rattle.call_outcome.specs.Attempts.{atMost}
 use Rattle.call_outcome.specs.declared.Applied.{Applied}
 
 -- ---- what a call is lent and given
@@ -73,23 +76,36 @@ given a vs ss cs os s64 s32 = record { applied = a; values = vs; sets = ss; cont
 
 -- ---- 1 to 5
 
--- whether a lent list has the wrong length: context, candidates, output list and scratch, by their lengths and that of the sets
--- "The output list has 1,120 records", 98 words each
-unfoldable pub lengthsWrong : ℕ → ℕ → ℕ → ℕ → ℕ → ℕ → Bool
-lengthsWrong sets context candidates output scratch64 scratch32 =
-    not (eqb context Layout.long)
-    || (not (eqb (candidates % Layout.effectWords) 0) || (not (eqb output Layout.outputWords) || (not (eqb scratch32 Layout.savedWords) || not (eqb scratch64 (1024 + sets)))))
-
 -- how many candidates there are
 -- records of 98 words
 abbrev pub candidateCount : List ℕ → ℕ
 candidateCount xs = length xs / Layout.effectWords
 
+-- for how many interned effects a context has to have room: those that it has, and those that the candidates can intern
+-- no more than "a 2,049th key to intern" leaves, so that room for 2,048 always suffices
+unfoldable pub roomFor : List ℕ → List ℕ → ℕ
+roomFor cs xs = atMost 2048 (internedCount cs + needs (effectsIn Layout.candidateTable xs 0 (candidateCount xs)))
+
+-- whether a context has the wrong length, by the room that it has to have: its last table is too short for it, longer than it can be, or ends in a part of a record
+unfoldable pub contextWrong : ℕ → ℕ → Bool
+contextWrong room context = ltb context (Layout.interned .base + room * Layout.effectWords) || (ltb Layout.long context || not (eqb ((context - Layout.interned .base) % Layout.effectWords) 0))
+
+-- the same of the words themselves
+abbrev pub wrongContext : List ℕ → List ℕ → Bool
+wrongContext cs xs = contextWrong (roomFor cs xs) (length cs)
+
+-- whether a lent list has the wrong length: context, candidates, output list and scratch, by their lengths and that of the sets
+-- "The output list has 1,120 records", 98 words each
+unfoldable pub lengthsWrong : ℕ → Bool → ℕ → ℕ → ℕ → ℕ → Bool
+lengthsWrong sets context candidates output scratch64 scratch32 =
+    context
+    || (not (eqb (candidates % Layout.effectWords) 0) || (not (eqb output Layout.outputWords) || (not (eqb scratch32 Layout.savedWords) || not (eqb scratch64 (1024 + sets)))))
+
 -- the lowest class that anything lent earns, or 0
 -- "Order 1 to 5 over the whole input"
 unfoldable pub callClass : Call → ℕ
 callClass c =
-    lower (earns 1 (lengthsWrong (length (c .sets)) (length (c .context)) (length (c .candidates)) (length (c .output)) (length (c .scratch64)) (length (c .scratch32))))
+    lower (earns 1 (lengthsWrong (length (c .sets)) (wrongContext (c .context) (c .candidates)) (length (c .candidates)) (length (c .output)) (length (c .scratch64)) (length (c .scratch32))))
     (lower (stateRefusal (c .values) (c .sets) (c .session .next) (c .session .access))
     (lower (contextClass (identifiers (c .sets)) (getD (c .context) Layout.functionCount 0) (c .context) (c .session .next))
     (instructionClass (identifiers (c .sets)) (getD (c .context) Layout.functionCount 0) (c .context) (c .candidates) (candidateCount (c .candidates)) (c .lvalue) (c .own))))

@@ -1,4 +1,4 @@
--- What acceptance says of the candidates: each names identifiers of the list, and has at most 16 captures; and of the context: it fits. Assumes nothing.
+-- What acceptance says of the candidates: each names identifiers of the list, and has at most 16 captures. Assumes nothing.
 use Prim.Native.Nat.{ℕ, zero, suc, _+_, _-_, _*_, _%_, _≤_, _<_}
 use native.Mathlib.Omega.{arith}
 use mathlib.Core.Path.{_≡_, refl, sym, ap, _∙_}
@@ -27,12 +27,6 @@ use Rattle.refuse_words.specs.Laws.Class.{run-used, earns-none, lowest-0}
 use Rattle.refuse_instruction.specs.EffectClasses.{uses, usedParts, countClass, effectLimit, effectClass, placeClass, instructionClass}
 use Rattle.def_faithful.specs.Laws.Steps.{Fine}
 use Rattle.lent_layout.specs.Layout.{candidateTable}
-use Rattle.lent_layout.specs.Layout as Layout
-use Rattle.lent_world.specs.Laws.ContextFaithful.{FitContext}
-use Rattle.refuse_entries.specs.Words.{identifiers}
-use Rattle.refuse_order.specs.Laws.Accepted.{in-order}
-use Rattle.call_outcome.specs.Calls.{Call, callClass}
-use Rattle.call_outcome.specs.Laws.Class.{class-0, lengths-right, order-right}
 
 -- a word with a limit lies below it
 word-limit : (o : Option ℕ) (x b : ℕ) → wordClass o x ≡ 0 → o ≡ some b → x < b
@@ -134,12 +128,3 @@ module _ (n functions : ℕ) (c xs : List ℕ) (count : ℕ) (p : Place) (own : 
   pub lvalue-named : p .identifier < n
   unfolding instructionClass placeClass
   lvalue-named = ltb-true (p .identifier) n (not-false (ltb (p .identifier) n) (or-no-first _ _ (earns-none 2 _ (lower-0 _ _ (lower-0 _ _ (lower-0 _ _ e .1) .1) .0))))
-
--- ---- the context
-
--- a context that the call accepts has the right length, and its interned effects are in order
-pub context-fit : (c : Call) → callClass c ≡ 0 → FitContext (c .context)
-context-fit c e =
-    let a = class-0 (c .values) (c .sets) (c .flag) (c .context) (c .session) (c .candidates) (c .lvalue) (c .own) (c .output) (c .scratch64) (c .scratch32) e in
-    let d = lengths-right (length (c .sets)) (length (c .context)) (length (c .candidates)) (length (c .output)) (length (c .scratch64)) (length (c .scratch32)) (a .0) in
-    record { long = d .0; ordered = in-order (c .context) (order-right (identifiers (c .sets)) (getD (c .context) Layout.functionCount 0) (c .context) (c .session .next) (a .2)) }

@@ -4,7 +4,7 @@ use Prim.Native.Nat.{ℕ, _*_, _≤_, _<_}
 use native.Mathlib.Nat.{le-trans}
 use native.Mathlib.Omega.{arith}
 use mathlib.Core.Path.{_≡_, refl, sym, ap, _∙_, subst}
-use mathlib.Core.List.{List}
+use mathlib.Core.List.{List, _++_}
 use mathlib.Core.Option.{Option, none, some}
 use lib.ListN.{length, getD}
 use Rattle.base_tests.specs.Tests.{All}
@@ -34,7 +34,11 @@ use Rattle.def_faithful.specs.Laws.Means.{Any, Rel}
 use Rattle.def_faithful.specs.Laws.Steps.{Fine, call-means}
 use Rattle.lent_context.specs.Abstract.{abstract}
 use Rattle.lent_world.specs.Laws.LentFaithful.{Holds, lent-faithful}
-use Rattle.call_means.specs.Laws.Accepting.{candidates-fine, lvalue-named, context-fit}
+use Rattle.call_means.specs.Laws.Accepting.{candidates-fine, lvalue-named}
+use Rattle.call_means.specs.Laws.Padding.{missing, whole, whole-fit, whole-run}
+use Rattle.laws_room.specs.Laws.Near.{ended, beside, besides}
+use Rattle.laws_room.specs.Laws.LentShort.{pad-means}
+use Rattle.lent_copies.specs.Copies.{zeros}
 use Rattle.lent_layout.specs.Layout.{output}
 
 -- ---- bounds, over plain tables
@@ -83,26 +87,27 @@ call-fine c e =
       lvalue-named (identifiers (c .sets)) (getD (c .context) Layout.functionCount 0) (c .context) (c .candidates) (candidateCount (c .candidates)) (c .lvalue) (c .own) (a .3),
     )
 
--- the two worlds mean the same as the call begins, and so do its two runs
-pub call-related : (c : Call) (e : callClass c ≡ 0) (l : identifiers (c .sets) ≤ 512) → Rel (lent-faithful (identifiers (c .sets)) l) Any (applySignature (lentInstruction c) (lentWorld c)) (applySignature (lentInstruction c) (plainWorld c))
+-- with room for all effects, the two worlds mean the same as the call begins, and so do its two runs
+pub call-related : (c : Call) (e : callClass c ≡ 0) (l : identifiers (c .sets) ≤ 512)
+    → Rel (lent-faithful (identifiers (c .sets)) l) Any (applySignature (lentInstruction c) (beside (whole c e) (lentWorld c))) (applySignature (lentInstruction c) (plainWorld c))
 unfolding lent-faithful instructionOf
 call-related c e l =
     let a = class-0 (c .values) (c .sets) (c .flag) (c .context) (c .session) (c .candidates) (c .lvalue) (c .own) (c .output) (c .scratch64) (c .scratch32) e in
     let b = accepted-lent (c .values) (c .sets) (c .session .next) (c .session .access) (a .1) in
     call-means {F = lent-faithful (identifiers (c .sets)) l} (lentInstruction c) (call-fine c e .0) (call-fine c e .1)
-    (lentWorld c) (plainWorld c)
+    (beside (whole c e) (lentWorld c)) (plainWorld c)
     (record {
       state = record { fit-values = b .values-length; values = refl; fit-sets = b .sets-length; sets = refl; flag = refl };
       session = record { low = b .next-low; next = refl; access = refl; span = refl; entries = λ h. refl };
-      fit = context-fit c e;
-      context = refl;
+      fit = whole-fit c e;
+      context = pad-means (record { long = refl; more = refl });
     })
 
--- related ends mean the same, within the bounds
-ends-mean : (c : Call) (l : identifiers (c .sets) ≤ 512) (r : Res (World lent) Done) (s : Res (World pure) Done) → Rel (lent-faithful (identifiers (c .sets)) l) Any r s
+-- related ends mean the same, within the bounds; the n words behind the context mean nothing
+ends-mean : (c : Call) (l : identifiers (c .sets) ≤ 512) (n : ℕ) (r : Res (World lent) Done) (s : Res (World pure) Done) → Rel (lent-faithful (identifiers (c .sets)) l) Any (besides (ended r ++ zeros n) r) s
     → length (after s .listed) ≤ 1120 → after s .entries ≤ 4294967295 → Told s → MeansEnd c (concluded c r) s
 unfolding lent-faithful
-ends-mean c l (ok a w) (ok b u) h few rare told =
+ends-mean c l n (ok a w) (ok b u) h few rare told =
     let held : Holds (w .rest .work .listed) (u .rest .work .listed) = h .2 .rest .work .listed few in
     record {
       refusal = refl;
@@ -114,11 +119,11 @@ ends-mean c l (ok a w) (ok b u) h few rare told =
       flag = h .2 .state .flag;
       values = h .2 .state .values;
       sets = h .2 .state .sets;
-      context = h .2 .rest .context;
+      context = sym (pad-means (record { long = refl; more = refl })) ∙ h .2 .rest .context;
     }
-ends-mean c l (ok a w) (refused k u) h few rare told = absurd h
-ends-mean c l (refused m w) (ok b u) h few rare told = absurd h
-ends-mean c l (refused m w) (refused k u) h few rare told = ap (λ (x : ℕ). refusedWith x c) (h .0)
+ends-mean c l n (ok a w) (refused k u) h few rare told = absurd h
+ends-mean c l n (refused m w) (ok b u) h few rare told = absurd h
+ends-mean c l n (refused m w) (refused k u) h few rare told = ap (λ (x : ℕ). refusedWith x c) (h .0)
 
 -- a call that earns none of 1 to 5 does what the definition does on plain tables
 pub call-is : (c : Call) → MeansPlain c (outcome c)
@@ -132,7 +137,8 @@ call-is c e =
     le-trans (listed-most {T = pure} (λ c. found-key (c .interned)) length (λ l e. let q = append-length l e in omega arith) (lentInstruction c) (plainWorld c) f refl) (omega arith) in
     let rare : after (applySignature (lentInstruction c) (plainWorld c)) .entries ≤ 4294967295 = le-trans (entries-most {T = pure} (λ c. found-key (c .interned)) (λ n. omega arith) (lentInstruction c) (plainWorld c)) (omega arith) in
     subst (λ (o : Outcome). MeansEnd c o (applySignature (lentInstruction c) (plainWorld c))) (sym (ite-eq (callClass c) 0 (concluded c (applySignature (lentInstruction c) (lentWorld c))) (refusedWith (callClass c) c) e))
-    (ends-mean c l (applySignature (lentInstruction c) (lentWorld c)) (applySignature (lentInstruction c) (plainWorld c)) (call-related c e l) few rare (call-told (lentInstruction c) (plainWorld c)))
+    (ends-mean c l (missing c e) (applySignature (lentInstruction c) (lentWorld c)) (applySignature (lentInstruction c) (plainWorld c))
+    (subst (λ (r : Res (World lent) Done). Rel (lent-faithful (identifiers (c .sets)) l) Any r (applySignature (lentInstruction c) (plainWorld c))) (whole-run c e) (call-related c e l)) few rare (call-told (lentInstruction c) (plainWorld c)))
 
 -- so what is known of a plain world and an instruction is known of every accepted call that is lent them: the worked cases among others
 pub carried : (c : Call) → callClass c ≡ 0 → (ins : Instruction) → lentInstruction c ≡ ins → (u : World pure) → plainWorld c ≡ u → MeansEnd c (outcome c) (applySignature ins u)

@@ -1,22 +1,23 @@
 -- The ways through the tests of a call, and what holds of lists that no class refuses. Assumes nothing.
 use Prim.Native.Nat.{ℕ, zero, suc, _+_, _-_, _*_, _/_, _%_, _≤_, _<_}
 use native.Mathlib.Omega.{arith}
-use mathlib.Core.Path.{_≡_, refl, sym, ap, ap₂, _∙_}
+use mathlib.Core.Path.{_≡_, refl, sym, ap, ap₂, _∙_, subst}
 use mathlib.Core.Bool.{Bool, true, false, not, _||_}
 use mathlib.Core.Logic.{⊎-elim}
 use mathlib.Core.List.{List}
 use mathlib.Core.Option.{none}
 use lib.Dec.{eqb, ltb}
 use lib.ListN.{length, getD, List·getD-eq-default}
-use borrow.Author.Tests.{eq-eqb, ne-eqb, eqb-true, ltb-false}
-use Rattle.base_tests.specs.Laws.Bool.{not-false, or-no-first, or-no-second}
+use borrow.Author.Tests.{lt-ltb, le-ltb, eq-eqb, ne-eqb, eqb-true, ltb-false}
+use Rattle.base_tests.specs.Laws.Bool.{not-false, or-first, or-second, or-neither, or-no-first, or-no-second}
 use Rattle.base_tests.specs.Laws.Choice.{ite-lt, ite-ge, ite-yes, ite-no}
 use Rattle.base_tests.specs.Laws.Order.{lt-or-ge, same-or-not}
 use Rattle.def_effects.specs.declared.Place.{Place}
 use Rattle.def_effects.specs.declared.Session.{Session}
 use Rattle.lent_tables.specs.Words.{index}
 use Rattle.lent_layout.specs.Layout as Layout
-use Rattle.lent_context.specs.Lent.{internedCount}
+use Rattle.lent_context.specs.Lent.{internedCount, effectsIn}
+use Rattle.laws_room.specs.Room.{needs}
 use Rattle.refuse_entries.specs.Words.{identifiers, wrongLengths, stateRefusal}
 use Rattle.refuse_entries.specs.Laws.State.{lengths-fit, refused-1}
 use Rattle.refuse_class.specs.Class.{lower}
@@ -26,30 +27,30 @@ use Rattle.refuse_words.specs.Laws.Class.{earns-none, lowest-0}
 use Rattle.refuse_instruction.specs.EffectClasses.{instructionClass}
 use Rattle.refuse_order.specs.Order.{orderClass}
 use Rattle.refuse_records.specs.Accepting.{countsWrong, effectsClass, tablesClass, contextClass}
-use Rattle.call_outcome.specs.Calls.{call, lengthsWrong, candidateCount, callClass}
+use Rattle.call_outcome.specs.Calls.{call, roomFor, contextWrong, wrongContext, lengthsWrong, candidateCount, callClass}
 use Rattle.call_outcome.specs.Attempts.{atMost}
 
 -- ---- lengths
 
--- five tests, of which each is a length
+-- the test of the context and four more
 abbrev five : Bool → Bool → Bool → Bool → Bool → Bool
-five a b c d e = not a || (not b || (not c || (not d || not e)))
+five a b c d e = a || (not b || (not c || (not d || not e)))
 
--- the lengths of six lists
-module _ (sets context candidates output scratch64 scratch32 : ℕ) where
-  -- a context of another length
+-- the lengths of five lists, and whether that of the context is wrong
+module _ (sets : ℕ) (context : Bool) (candidates output scratch64 scratch32 : ℕ) where
+  -- a context of a wrong length
   -- nothing else is looked at
-  pub length-context : (context ≡ 238021 → ⊥) → true ≡ lengthsWrong sets context candidates output scratch64 scratch32
+  pub length-context : context ≡ true → true ≡ lengthsWrong sets context candidates output scratch64 scratch32
   unfolding lengthsWrong
-  length-context n = sym (ap (λ (a : Bool). five a (eqb (candidates % 98) 0) (eqb output 109760) (eqb scratch32 24834) (eqb scratch64 (1024 + sets))) (ne-eqb context 238021 n))
+  length-context n = sym (ap (λ (a : Bool). five a (eqb (candidates % 98) 0) (eqb output 109760) (eqb scratch32 24834) (eqb scratch64 (1024 + sets))) n)
 
   -- the context is right
-  module _ (h : context ≡ 238021) where
+  module _ (h : context ≡ false) where
     -- no whole number of candidates
     -- records of 98 words
     pub length-candidates : (candidates % 98 ≡ 0 → ⊥) → true ≡ lengthsWrong sets context candidates output scratch64 scratch32
     unfolding lengthsWrong
-    length-candidates n = sym (ap₂ (λ (a b : Bool). five a b (eqb output 109760) (eqb scratch32 24834) (eqb scratch64 (1024 + sets))) (eq-eqb context 238021 h) (ne-eqb (candidates % 98) 0 n))
+    length-candidates n = sym (ap₂ (λ (a b : Bool). five a b (eqb output 109760) (eqb scratch32 24834) (eqb scratch64 (1024 + sets))) h (ne-eqb (candidates % 98) 0 n))
 
     -- the candidates are right
     module _ (g : candidates % 98 ≡ 0) where
@@ -58,7 +59,7 @@ module _ (sets context candidates output scratch64 scratch32 : ℕ) where
       unfolding lengthsWrong
       rest c e =
           ap (λ (x : Bool). not x || (not (eqb scratch32 24834) || not (eqb scratch64 (1024 + sets)))) e
-          ∙ sym (ap₂ (λ (a b : Bool). five a b (eqb output 109760) (eqb scratch32 24834) (eqb scratch64 (1024 + sets))) (eq-eqb context 238021 h) (eq-eqb (candidates % 98) 0 g))
+          ∙ sym (ap₂ (λ (a b : Bool). five a b (eqb output 109760) (eqb scratch32 24834) (eqb scratch64 (1024 + sets))) h (eq-eqb (candidates % 98) 0 g))
 
       -- an output list of another length
       -- 1,120 records
@@ -90,18 +91,15 @@ module _ (sets context candidates output scratch64 scratch32 : ℕ) where
 
   -- all lengths are right
   pub lengths-right : lengthsWrong sets context candidates output scratch64 scratch32 ≡ false
-      → (context ≡ 238021) × (candidates % 98 ≡ 0) × (output ≡ 109760) × (scratch32 ≡ 24834) × (scratch64 ≡ 1024 + sets)
+      → (context ≡ false) × (candidates % 98 ≡ 0) × (output ≡ 109760) × (scratch32 ≡ 24834) × (scratch64 ≡ 1024 + sets)
   unfolding lengthsWrong
-  lengths-right e = (right context 238021 e1, right (candidates % 98) 0 e2, right output 109760 e3, right scratch32 24834 e4, right scratch64 (1024 + sets) e5)
+  lengths-right e = (or-no-first context _ e, right (candidates % 98) 0 e2, right output 109760 e3, right scratch32 24834 e4, right scratch64 (1024 + sets) e5)
     where
       right : (m n : ℕ) → not (eqb m n) ≡ false → m ≡ n
       right m n h = eqb-true m n (not-false (eqb m n) h)
 
-      e1 : not (eqb context 238021) ≡ false
-      e1 = or-no-first (not (eqb context 238021)) _ e
-
       r1 : (not (eqb (candidates % 98) 0) || (not (eqb output 109760) || (not (eqb scratch32 24834) || not (eqb scratch64 (1024 + sets))))) ≡ false
-      r1 = or-no-second (not (eqb context 238021)) _ e
+      r1 = or-no-second context _ e
 
       e2 : not (eqb (candidates % 98) 0) ≡ false
       e2 = or-no-first (not (eqb (candidates % 98) 0)) _ r1
@@ -120,6 +118,53 @@ module _ (sets context candidates output scratch64 scratch32 : ℕ) where
 
       e5 : not (eqb scratch64 (1024 + sets)) ≡ false
       e5 = or-no-second (not (eqb scratch32 24834)) _ r3
+
+-- ---- the length of a context
+
+-- a context of a right length has all its tables, room for what is asked, and whole records
+pub record RightLength (room context : ℕ) : Type 0 where
+  pub room-there : 37317 + room * 98 ≤ context
+  pub most : context ≤ 238021
+  pub whole : (context - 37317) % 98 ≡ 0
+
+pub right-length : (room context : ℕ) → contextWrong room context ≡ false → RightLength room context
+unfolding contextWrong
+right-length room context e = record {
+  room-there = ltb-false context (37317 + room * 98) (or-no-first (ltb context (37317 + room * 98)) _ e);
+  most = ltb-false 238021 context (or-no-first (ltb 238021 context) _ r);
+  whole = eqb-true ((context - 37317) % 98) 0 (not-false (eqb ((context - 37317) % 98) 0) (or-no-second (ltb 238021 context) _ r));
+}
+  where
+    r : (ltb 238021 context || not (eqb ((context - 37317) % 98) 0)) ≡ false
+    r = or-no-second (ltb context (37317 + room * 98)) _ e
+
+-- a context of the largest length is right for any candidates
+pub full-right : (cs xs : List ℕ) → length cs ≡ 238021 → wrongContext cs xs ≡ false
+unfolding contextWrong roomFor
+full-right cs xs e =
+    or-neither (ltb (length cs) (37317 + roomFor cs xs * 98)) _ (le-ltb (length cs) (37317 + roomFor cs xs * 98) (let z = most-within-limit 2048 (internedCount cs + needs (effectsIn Layout.candidateTable xs 0 (candidateCount xs))) in omega arith))
+    (or-neither (ltb 238021 (length cs)) _ (le-ltb 238021 (length cs) (omega arith)) (ap not (eq-eqb ((length cs - 37317) % 98) 0 (ap (λ (n : ℕ). (n - 37317) % 98) e))))
+  where
+    most-within-limit : (limit n : ℕ) → atMost limit n ≤ limit
+    most-within-limit limit n = ⊎-elim
+        (λ h. subst (λ (x : ℕ). x ≤ limit) (sym (ite-lt limit n limit n h)) (omega arith))
+        (λ h. subst (λ (x : ℕ). x ≤ limit) (sym (ite-ge limit n limit n h)) h)
+        (lt-or-ge limit n)
+
+-- the three tests of the code
+pub context-short : (room context : ℕ) → context < 37317 + room * 98 → true ≡ contextWrong room context
+unfolding contextWrong
+context-short room context h = sym (or-first (ltb context (37317 + room * 98)) _ (lt-ltb context (37317 + room * 98) h))
+
+pub context-long : (room context : ℕ) → 37317 + room * 98 ≤ context → 238021 < context → true ≡ contextWrong room context
+unfolding contextWrong
+context-long room context h g =
+    sym (or-second (ltb context (37317 + room * 98)) _ (le-ltb context (37317 + room * 98) h) ∙ or-first (ltb 238021 context) _ (lt-ltb 238021 context g))
+
+pub context-whole : (room context : ℕ) → 37317 + room * 98 ≤ context → context ≤ 238021 → not (eqb ((context - 37317) % 98) 0) ≡ contextWrong room context
+unfolding contextWrong
+context-whole room context h g =
+    sym (or-second (ltb context (37317 + room * 98)) _ (le-ltb context (37317 + room * 98) h) ∙ or-second (ltb 238021 context) _ (le-ltb 238021 context g))
 
 -- a length within its limit, and one past it
 pub most-past : (limit n : ℕ) → limit < n → limit ≡ atMost limit n
@@ -150,7 +195,7 @@ identifiers-fit vs ss next access r e n = go (wrongLengths vs ss) refl
 module _ (vs ss : List ℕ) (flag : Bool) (cs : List ℕ) (s : Session) (xs : List ℕ) (p : Place) (own : ℕ) (os s64 s32 : List ℕ) where
   -- the lengths, the state, the context, the instruction
   abbrev lengths : Bool
-  lengths = lengthsWrong (length ss) (length cs) (length xs) (length os) (length s64) (length s32)
+  lengths = lengthsWrong (length ss) (wrongContext cs xs) (length xs) (length os) (length s64) (length s32)
 
   abbrev tables : ℕ
   tables = contextClass (identifiers ss) (getD cs Layout.functionCount 0) cs (s .next)
@@ -223,7 +268,7 @@ order-right n f cs next e = go (countsWrong n f cs) refl
 
 -- after the last interned effect of an accepted context every word is zero
 -- the words of its table, and past the end of the list
-pub zero-after : (n f : ℕ) (cs : List ℕ) (next : ℕ) → length cs ≡ 238021 → contextClass n f cs next ≡ 0 → (k : ℕ) → 37317 + internedCount cs * 98 ≤ k → getD cs k 0 ≡ 0
+pub zero-after : (n f : ℕ) (cs : List ℕ) (next : ℕ) → length cs ≤ 238021 → contextClass n f cs next ≡ 0 → (k : ℕ) → 37317 + internedCount cs * 98 ≤ k → getD cs k 0 ≡ 0
 unfolding contextClass tablesClass effectsClass strayAfter strayFrom countsWrong index
 zero-after n f cs next long e k l = go (countsWrong n f cs) refl
   where

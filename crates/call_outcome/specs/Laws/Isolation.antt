@@ -1,5 +1,5 @@
 -- Demand 3 of the call: two runs from accepted states that agree on the instruction's reach end alike. Assumes nothing.
-use Prim.Native.Nat.{ℕ, _*_, _/_}
+use Prim.Native.Nat.{ℕ, _*_, _/_, _≤_}
 use native.Mathlib.Omega.{arith}
 use mathlib.Core.Path.{_≡_, refl, sym, ap, ap₂, _∙_, subst}
 use mathlib.Core.Logic.{⊎-elim}
@@ -23,9 +23,9 @@ use Rattle.refuse_class.specs.Class.{lower}
 use Rattle.refuse_words.specs.Classes.{earns}
 use Rattle.refuse_instruction.specs.EffectClasses.{instructionClass}
 use Rattle.refuse_records.specs.Accepting.{contextClass}
-use Rattle.call_outcome.specs.Calls.{Call, Outcome, lengthsWrong, candidateCount, callClass, lentInstruction, lentWorld, refusedWith, endsIn, concluded, outcome}
+use Rattle.call_outcome.specs.Calls.{Call, Outcome, roomFor, wrongContext, lengthsWrong, candidateCount, callClass, lentInstruction, lentWorld, refusedWith, endsIn, concluded, outcome}
 use Rattle.call_outcome.specs.Isolation.{stateOf, reach, Twins, Alike, Isolation}
-use Rattle.call_outcome.specs.Laws.Class.{class-0, lengths-right}
+use Rattle.call_outcome.specs.Laws.Class.{class-0, lengths-right, right-length}
 
 -- two runs of the call
 -- lent the same instruction, equal context and session
@@ -43,9 +43,9 @@ module _ (c d : Call) (t : Twins c d) where
       (ap₂ (λ (n : ℕ) (x : List ℕ). instructionClass (n / 16) (getD x Layout.functionCount 0) x (c .candidates) (candidateCount (c .candidates)) (c .lvalue) (c .own)) (t .identifiers) (t .context)
       ∙ same-instruction)))
     where
-      lengths : earns 1 (lengthsWrong (length (c .sets)) (length (c .context)) (length (c .candidates)) (length (c .output)) (length (c .scratch64)) (length (c .scratch32)))
-          ≡ earns 1 (lengthsWrong (length (d .sets)) (length (d .context)) (length (d .candidates)) (length (d .output)) (length (d .scratch64)) (length (d .scratch32)))
-      lengths = λ j. earns 1 (lengthsWrong (t .identifiers j) (length (t .context j)) (length (t .candidates j)) (t .output j) (t .scratch64 j) (t .scratch32 j))
+      lengths : earns 1 (lengthsWrong (length (c .sets)) (wrongContext (c .context) (c .candidates)) (length (c .candidates)) (length (c .output)) (length (c .scratch64)) (length (c .scratch32)))
+          ≡ earns 1 (lengthsWrong (length (d .sets)) (wrongContext (d .context) (d .candidates)) (length (d .candidates)) (length (d .output)) (length (d .scratch64)) (length (d .scratch32)))
+      lengths = λ j. earns 1 (lengthsWrong (t .identifiers j) (wrongContext (t .context j) (t .candidates j)) (length (t .candidates j)) (t .output j) (t .scratch64 j) (t .scratch32 j))
 
       same-instruction : instructionClass (length (d .sets) / 16) (getD (d .context) Layout.functionCount 0) (d .context) (c .candidates) (candidateCount (c .candidates)) (c .lvalue) (c .own)
           ≡ instructionClass (length (d .sets) / 16) (getD (d .context) Layout.functionCount 0) (d .context) (d .candidates) (candidateCount (d .candidates)) (d .lvalue) (d .own)
@@ -97,9 +97,12 @@ module _ (c d : Call) (t : Twins c d) where
       same : lentInstruction c ≡ lentInstruction d
       same = λ j. Rattle.call_parts.specs.Instructions.instructionOf (t .candidates j) (candidateCount (t .candidates j)) (t .lvalue j) (t .own j)
 
-      long : length (c .context) ≡ 238021
-      long = lengths-right (length (c .sets)) (length (c .context)) (length (c .candidates)) (length (c .output)) (length (c .scratch64)) (length (c .scratch32))
-          (class-0 (c .values) (c .sets) (c .flag) (c .context) (c .session) (c .candidates) (c .lvalue) (c .own) (c .output) (c .scratch64) (c .scratch32) z .0) .0
+      long : 37317 ≤ length (c .context)
+      long =
+          let l = lengths-right (length (c .sets)) (wrongContext (c .context) (c .candidates)) (length (c .candidates)) (length (c .output)) (length (c .scratch64)) (length (c .scratch32))
+          (class-0 (c .values) (c .sets) (c .flag) (c .context) (c .session) (c .candidates) (c .lvalue) (c .own) (c .output) (c .scratch64) (c .scratch32) z .0) in
+          let r = right-length (roomFor (c .context) (c .candidates)) (length (c .context)) (l .0) .room-there in
+          omega arith
 
       fits : Sized (length (c .sets) / 16) (lentWorld c)
       fits =

@@ -29,9 +29,9 @@ use Rattle.lent_world.specs.Laws.LentLawful.{after}
 use Rattle.refuse_entries.specs.Words.{identifiers}
 use Rattle.refuse_entries.specs.Laws.Accepted.{accepted-lent}
 use Rattle.call_parts.specs.Instructions.{instructionOf}
-use Rattle.call_outcome.specs.Calls.{Call, Outcome, call, given, candidateCount, callClass, lentInstruction, startRun, lentWorld, refusedWith, concluded, outcome}
+use Rattle.call_outcome.specs.Calls.{Call, Outcome, call, given, roomFor, wrongContext, candidateCount, callClass, lentInstruction, startRun, lentWorld, refusedWith, concluded, outcome}
 use Rattle.call_outcome.specs.Attempts.{Ready}
-use Rattle.call_outcome.specs.Laws.Class.{lengths-right, class-0, zero-after}
+use Rattle.call_outcome.specs.Laws.Class.{lengths-right, right-length, class-0, zero-after}
 use Rattle.call_outcome.specs.Laws.Attempt.{applies}
 
 -- an instruction that no class refuses has no more than 64 candidates
@@ -56,14 +56,15 @@ module _ (vs ss : List ℕ) (flag : Bool) (cs : List ℕ) (s : Session) (xs : Li
   unfolding identifiers
   is-ready zs e z =
       let a = class-0 vs ss flag cs s xs p own os s64 s32 e in
-      let l = lengths-right (length ss) (length cs) (length xs) (length os) (length s64) (length s32) (a .0) in
+      let l = lengths-right (length ss) (wrongContext cs xs) (length xs) (length os) (length s64) (length s32) (a .0) in
+      let g = right-length (roomFor cs xs) (length cs) (l .0) in
       let h = accepted-lent vs ss (s .next) (s .access) (a .1) in record {
         count = length ss / 16;
         values = h .values-length;
         sets = h .sets-length;
         most = h .most;
-        context = l .0;
-        after = zero-after (identifiers ss) (getD cs Layout.functionCount 0) cs (s .next) (l .0) (a .2);
+        context = let z = g .room-there in omega arith;
+        after = zero-after (identifiers ss) (getD cs Layout.functionCount 0) cs (s .next) (g .most) (a .2);
         output = z ∙ ap zeros (l .2);
         candidates = few (identifiers ss) (getD cs Layout.functionCount 0) cs xs (candidateCount xs) p own (a .3);
         scratch64 = l .4;

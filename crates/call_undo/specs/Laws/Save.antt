@@ -112,8 +112,8 @@ module _ (vs ss : List ℕ) (n : ℕ) (ws : List ℕ) (hv : length vs ≡ 1024) 
 
 -- ---- a context put back
 
--- an instruction made c of a context of the right length, after whose last interned effect every word was zero
-module _ (c₀ c ws : List ℕ) (long : length c₀ ≡ 238021) (hw : length ws ≡ 24834) (kept : KeptFrom c₀ c) (zero-after : (k : ℕ) → 37317 + internedCount c₀ * 98 ≤ k → getD c₀ k 0 ≡ 0) where
+-- an instruction made c of a context with all its tables, after whose last interned effect every word was zero
+module _ (c₀ c ws : List ℕ) (long : 37317 ≤ length c₀) (hw : length ws ≡ 24834) (kept : KeptFrom c₀ c) (zero-after : (k : ℕ) → 37317 + internedCount c₀ * 98 ≤ k → getD c₀ k 0 ≡ 0) where
   -- what was saved
   abbrev pub saved : List ℕ
   saved = savedContext c₀ ws
@@ -129,7 +129,7 @@ module _ (c₀ c ws : List ℕ) (long : length c₀ ≡ 238021) (hw : length ws 
 
   -- without the effects appended since, the words that are not saved are as before
   -- those that an instruction leaves, and those that it appended
-  gone : (n : ℕ) → n ≡ internedCount c₀ → (k : ℕ) → k < 238021 → (k < 12483) ⊎ (37317 ≤ k) → getD (forgotten n (internedCount c) c) k 0 ≡ getD c₀ k 0
+  gone : (n : ℕ) → n ≡ internedCount c₀ → (k : ℕ) → k < length c₀ → (k < 12483) ⊎ (37317 ≤ k) → getD (forgotten n (internedCount c) c) k 0 ≡ getD c₀ k 0
   unfolding forgotten
   gone n e k l o = ⊎-elim before later o
     where
@@ -159,21 +159,18 @@ module _ (c₀ c ws : List ℕ) (long : length c₀ ≡ 238021) (hw : length ws 
   -- all words
   pub context-restored : restoredContext saved c ≡ c₀
   unfolding restoredContext forgotten
-  context-restored = ext-getD 0 (copied saved 0 12483 24834 d) c₀ (same ∙ sym z) word
+  context-restored = ext-getD 0 (copied saved 0 12483 24834 d) c₀ same word
     where
       d : List ℕ
       d = forgotten (getD saved 0 0) (internedCount c) c
 
-      z : length c₀ ≡ 238021
-      z = long
+      short : length d ≡ length c₀
+      short = copied-length [] 0 (37317 + getD saved 0 0 * 98) ((internedCount c - getD saved 0 0) * 98) c ∙ kept .long
 
-      short : length d ≡ 238021
-      short = copied-length [] 0 (37317 + getD saved 0 0 * 98) ((internedCount c - getD saved 0 0) * 98) c ∙ kept .long ∙ long
-
-      same : length (copied saved 0 12483 24834 d) ≡ 238021
+      same : length (copied saved 0 12483 24834 d) ≡ length c₀
       same = copied-length saved 0 12483 24834 d ∙ short
 
-      other : (k : ℕ) → k < 238021 → (k < 12483) ⊎ (37317 ≤ k) → getD (copied saved 0 12483 24834 d) k 0 ≡ getD c₀ k 0
+      other : (k : ℕ) → k < length c₀ → (k < 12483) ⊎ (37317 ≤ k) → getD (copied saved 0 12483 24834 d) k 0 ≡ getD c₀ k 0
       other k l o =
           copied-outside saved 0 12483 24834 d k (⊎-elim {C = (k < 12483) ⊎ (12483 + 24834 ≤ k)} (λ h. inl h) (λ h. inr (omega arith)) o)
           ∙ gone (getD saved 0 0) saved-count k l o

@@ -34,7 +34,7 @@ use Rattle.refuse_class.specs.Class.{lower}
 use Rattle.refuse_words.specs.Classes.{earns}
 use Rattle.refuse_instruction.specs.EffectClasses.{instructionClass}
 use Rattle.refuse_records.specs.Accepting.{contextClass}
-use Rattle.call_outcome.specs.Calls.{Call, Outcome, call, given, lengthsWrong, candidateCount, callClass, lentInstruction, lentWorld, refusedWith, concluded, outcome}
+use Rattle.call_outcome.specs.Calls.{Call, Outcome, call, given, wrongContext, lengthsWrong, candidateCount, callClass, lentInstruction, lentWorld, refusedWith, concluded, outcome}
 use Rattle.image_text.specs.Texts.{Cursor, cursor, putAll, lentListing, lentRefusal}
 use Rattle.image_text.specs.Laws.Text.{put-fits}
 use Rattle.laws_suffices.specs.Laws.Suffices.{nothing-lost}
@@ -96,7 +96,7 @@ module _ (vs ss : List ℕ) (flag : Bool) (cs : List ℕ) (s : Session) (xs : Li
   -- its class, with memory of given lengths
   class : ℕ → ℕ → ℕ → ℕ
   class a b d =
-      lower (earns 1 (lengthsWrong (length ss) (length cs) (length xs) a b d))
+      lower (earns 1 (lengthsWrong (length ss) (wrongContext cs xs) (length xs) a b d))
       (lower (stateRefusal vs ss (s .next) (s .access))
       (lower (contextClass (States.identifiers ss) (getD cs Layout.functionCount 0) cs (s .next))
       (instructionClass (States.identifiers ss) (getD cs Layout.functionCount 0) cs xs (candidateCount xs) p own)))

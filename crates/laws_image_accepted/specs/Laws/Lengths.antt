@@ -21,7 +21,8 @@ use Rattle.image_decode.specs.Decoded.{after, decodedValue, decodedValues, deco
 use Rattle.image_decode.specs.Laws.StateBack.{after-length, value-length}
 use Rattle.image_decode.specs.Laws.ContextBack.{function-length, identifier-length, header-length}
 use Rattle.image_job.specs.Reading.{sessionOf, jobOf, filled}
-use Rattle.call_outcome.specs.Calls.{Call, call, lengthsWrong, candidateCount}
+use Rattle.call_outcome.specs.Calls.{Call, call, wrongContext, lengthsWrong, candidateCount}
+use Rattle.call_outcome.specs.Laws.Class.{full-right}
 use Rattle.image_outcome.specs.Inferring.{jobCall, imageCall}
 use Rattle.laws_image_accepted.specs.Laws.Facts.{few-identifiers, few-candidates}
 
@@ -128,10 +129,10 @@ module _ (im : Image) where
 
     -- no list has the wrong length
     -- "1 a lent slice or image has the wrong length"
-    pub lengths-right : lengthsWrong (length lentSets) (length lentContext) (length lentCandidates) (length (zeros 109760)) (length (zeros (1024 + 16 * countOf im identifiers))) (length (zeros 24834)) ≡ false
+    pub lengths-right : lengthsWrong (length lentSets) (wrongContext lentContext lentCandidates) (length lentCandidates) (length (zeros 109760)) (length (zeros (1024 + 16 * countOf im identifiers))) (length (zeros 24834)) ≡ false
     unfolding lengthsWrong
     lengths-right =
-        right (length lentContext) 238021 _ context-length
+        or-neither (wrongContext lentContext lentCandidates) _ (full-right lentContext lentCandidates context-length)
         (right (length lentCandidates % 98) 0 _ (ap (λ (x : ℕ). x % 98) candidates-length ∙ (let z : 98 * countOf im candidates % 98 ≡ 0 = omega arith in z))
         (right (length (zeros 109760)) 109760 _ (zeros-length 109760)
         (right (length (zeros 24834)) 24834 _ (zeros-length 24834)

@@ -40,22 +40,22 @@ use Rattle.laws_room.specs.Laws.Both.{Pads, word-alike, field-alike, set
 abbrev pub wordsFor : ℕ → ℕ
 wordsFor room = Layout.interned .base + room * Layout.interned .width
 
+-- a context and the same with more words mean the same plain tables
+pub pad-means : {l n : ℕ} {c d : List ℕ} → Pads l n c d → abstract d ≡ abstract c
+pad-means {c = c} {d = d} p = λ j. record {
+  interned = interned-same c d (field-alike p Layout.interned) (word-alike p Layout.internedCount) j;
+  cached = cached-same c d (field-alike p Layout.cached) j;
+  links = links-same c d (field-alike p Layout.links) j;
+  functions = functions-same c d (field-alike p Layout.contexts) (field-alike p Layout.functions) j;
+  identifiers = identifiers-same c d (field-alike p Layout.identifiers) j;
+  transitive = transitive-same c d (word-alike p Layout.options) j;
+  diagnostics = diagnostics-same c d (field-alike p Layout.diagnostics) (word-alike p Layout.diagnosticCount) j;
+}
+
 module _ (room n : ℕ) where
   -- a context with room for so many effects, and the same with n words more
   abbrev pub Short : List ℕ → List ℕ → Type 0
   Short = Pads (wordsFor room) n
-
-  -- both mean the same plain tables
-  means : {c d : List ℕ} → Short c d → abstract d ≡ abstract c
-  means {c} {d} p = λ j. record {
-    interned = interned-same c d (field-alike p Layout.interned) (word-alike p Layout.internedCount) j;
-    cached = cached-same c d (field-alike p Layout.cached) j;
-    links = links-same c d (field-alike p Layout.links) j;
-    functions = functions-same c d (field-alike p Layout.contexts) (field-alike p Layout.functions) j;
-    identifiers = identifiers-same c d (field-alike p Layout.identifiers) j;
-    transitive = transitive-same c d (word-alike p Layout.options) j;
-    diagnostics = diagnostics-same c d (field-alike p Layout.diagnostics) (word-alike p Layout.diagnosticCount) j;
-  }
 
   -- the counts are words
   count-alike : {c d : List ℕ} → Short c d → internedCount d ≡ internedCount c
@@ -147,21 +147,21 @@ module _ (room n : ℕ) where
     Pad = Short;
     internedCount = count-alike;
     findEffect = found-alike;
-    keyAt = λ {c} {d} p v. key-is d v ∙ ap (λ (x : Context). pure .keyAt x v) (means p) ∙ sym (key-is c v);
-    findNumber = λ {c} {d} p k. number-is d k ∙ ap (λ (x : Context). pure .findNumber x k) (means p) ∙ sym (number-is c k);
-    linkOf = λ {c} {d} p v. link-is d v ∙ ap (λ (x : Context). pure .linkOf x v) (means p) ∙ sym (link-is c v);
-    contextOf = λ {c} {d} p f. places-is d f ∙ ap (λ (x : Context). pure .contextOf x f) (means p) ∙ sym (places-is c f);
-    mutatedInside = λ {c} {d} p f. inside-is d f ∙ ap (λ (x : Context). pure .mutatedInside x f) (means p) ∙ sym (inside-is c f);
-    hasTrackedSideEffect = λ {c} {d} p f. tracked-is d f ∙ ap (λ (x : Context). pure .hasTrackedSideEffect x f) (means p) ∙ sym (tracked-is c f);
-    isRef = λ {c} {d} p i. ref-is d i ∙ ap (λ (x : Context). pure .isRef x i) (means p) ∙ sym (ref-is c i);
-    isHoisted = λ {c} {d} p i. hoisted-is d i ∙ ap (λ (x : Context). pure .isHoisted x i) (means p) ∙ sym (hoisted-is c i);
-    accessSpan = λ {c} {d} p i. access-is d i ∙ ap (λ (x : Context). pure .accessSpan x i) (means p) ∙ sym (access-is c i);
-    nameOf = λ {c} {d} p i. name-is d i ∙ ap (λ (x : Context). pure .nameOf x i) (means p) ∙ sym (name-is c i);
-    isTransitive = λ {c} {d} p. transitive-is d ∙ ap (pure .isTransitive) (means p) ∙ sym (transitive-is c);
-    identityCount = λ {c} {d} p. identities-is d ∙ ap (pure .identityCount) (means p) ∙ sym (identities-is c);
+    keyAt = λ {c} {d} p v. key-is d v ∙ ap (λ (x : Context). pure .keyAt x v) (pad-means p) ∙ sym (key-is c v);
+    findNumber = λ {c} {d} p k. number-is d k ∙ ap (λ (x : Context). pure .findNumber x k) (pad-means p) ∙ sym (number-is c k);
+    linkOf = λ {c} {d} p v. link-is d v ∙ ap (λ (x : Context). pure .linkOf x v) (pad-means p) ∙ sym (link-is c v);
+    contextOf = λ {c} {d} p f. places-is d f ∙ ap (λ (x : Context). pure .contextOf x f) (pad-means p) ∙ sym (places-is c f);
+    mutatedInside = λ {c} {d} p f. inside-is d f ∙ ap (λ (x : Context). pure .mutatedInside x f) (pad-means p) ∙ sym (inside-is c f);
+    hasTrackedSideEffect = λ {c} {d} p f. tracked-is d f ∙ ap (λ (x : Context). pure .hasTrackedSideEffect x f) (pad-means p) ∙ sym (tracked-is c f);
+    isRef = λ {c} {d} p i. ref-is d i ∙ ap (λ (x : Context). pure .isRef x i) (pad-means p) ∙ sym (ref-is c i);
+    isHoisted = λ {c} {d} p i. hoisted-is d i ∙ ap (λ (x : Context). pure .isHoisted x i) (pad-means p) ∙ sym (hoisted-is c i);
+    accessSpan = λ {c} {d} p i. access-is d i ∙ ap (λ (x : Context). pure .accessSpan x i) (pad-means p) ∙ sym (access-is c i);
+    nameOf = λ {c} {d} p i. name-is d i ∙ ap (λ (x : Context). pure .nameOf x i) (pad-means p) ∙ sym (name-is c i);
+    isTransitive = λ {c} {d} p. transitive-is d ∙ ap (pure .isTransitive) (pad-means p) ∙ sym (transitive-is c);
+    identityCount = λ {c} {d} p. identities-is d ∙ ap (pure .identityCount) (pad-means p) ∙ sym (identities-is c);
     instanceCount = instances-alike;
-    findIdentity = λ {c} {d} p x. identity-is d x ∙ ap (λ (y : Context). pure .findIdentity y x) (means p) ∙ sym (identity-is c x);
-    findInstance = λ {c} {d} p m x. instance-is d m x ∙ ap (λ (y : Context). pure .findInstance y m x) (means p) ∙ sym (instance-is c m x);
+    findIdentity = λ {c} {d} p x. identity-is d x ∙ ap (λ (y : Context). pure .findIdentity y x) (pad-means p) ∙ sym (identity-is c x);
+    findInstance = λ {c} {d} p m x. instance-is d m x ∙ ap (λ (y : Context). pure .findInstance y m x) (pad-means p) ∙ sym (instance-is c m x);
     addEffect = effect-pads;
     putKey = key-pads;
     putLink = link-pads;
