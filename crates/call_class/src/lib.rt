@@ -3,13 +3,14 @@ ghost use mathlib.Core.Path.{_≡_};
 ghost use lib.ListN.{length};
 ghost use Prim.Native.Nat.{_/_};
 ghost use Rattle.refuse_instruction.specs.EffectClasses.{instructionClass};
-ghost use Rattle.call_outcome.specs.Calls.{lengthsWrong, callClass};
+ghost use Rattle.call_outcome.specs.Calls.{wrongContext, lengthsWrong, callClass};
 ghost use Rattle.lent_slices.specs.Lent.{old};
 ghost use Rattle.call_means.specs.Promise.{lentCall};
 ghost use Rattle.lent_layout.specs.Layout as Layout;
+use call_room::context_wrong;
+use call_room::room_for;
 use def_effects::Place;
 use def_effects::Session;
-use lent_layout::CONTEXT_WORDS;
 use lent_layout::EFFECT_WORDS;
 use lent_layout::FUNCTION_COUNT;
 use lent_layout::OUTPUT_WORDS;
@@ -21,7 +22,7 @@ use refuse_instruction::instruction_class;
 use refuse_state::state_refusal;
 
 // Whether a lent list has the wrong length, those of the state apart.
-// A context, records of candidates, 1,120 records of output, scratch for the state and for the words of a context that change.
+// A context with room for what the candidates can intern, records of candidates, 1,120 records of output, scratch for the state and for the words of a context that change.
 fn lengths_wrong(
     sets: &[u64],
     context: &[u32],
@@ -32,10 +33,11 @@ fn lengths_wrong(
 ) -> bool
     ensures { λ r. ⌜
         r
-        ≡ lengthsWrong (length (old sets)) (length (old context)) (length (old candidates))
-        (length (old output)) (length (old scratch64)) (length (old scratch32)) ⌝ }
+        ≡ lengthsWrong (length (old sets)) (wrongContext (old context) (old candidates))
+        (length (old candidates)) (length (old output)) (length (old scratch64))
+        (length (old scratch32)) ⌝ }
 {
-    if context.len() != CONTEXT_WORDS {
+    if context_wrong(context, room_for(context, candidates)) {
         return true;
     }
     if candidates.len() % EFFECT_WORDS != 0 {

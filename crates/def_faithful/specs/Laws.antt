@@ -4,4 +4,3 @@ pub mod Touching
 pub mod Steps
 pub mod PureFaithful
 pub mod Clipped
-pub mod Reach

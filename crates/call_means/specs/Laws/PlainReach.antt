@@ -55,6 +55,7 @@ module _ {T : Tables} (ins : Instruction) (session : Session) (c : T .Context) (
 
 -- one set of entries
 pub reach-plain : (c : Call) (n : Node) → (reach c n → plainReach c n) × (plainReach c n → reach c n)
-reach-plain c n =
-    (over (lentInstruction c) (c .session) (c .context) (abstract (c .context)) (key-is (c .context)) (link-is (c .context)) (places-is (c .context)) (stateOf c) (plainWorld c .state) refl n,
-    back (lentInstruction c) (c .session) (c .context) (abstract (c .context)) (key-is (c .context)) (link-is (c .context)) (places-is (c .context)) (stateOf c) (plainWorld c .state) refl n)
+reach-plain c n = (
+  over (lentInstruction c) (c .session) (c .context) (abstract (c .context)) (key-is (c .context)) (link-is (c .context)) (places-is (c .context)) (stateOf c) (plainWorld c .state) refl n,
+  back (lentInstruction c) (c .session) (c .context) (abstract (c .context)) (key-is (c .context)) (link-is (c .context)) (places-is (c .context)) (stateOf c) (plainWorld c .state) refl n,
+)

@@ -151,6 +151,10 @@ full-right cs xs e =
         (λ h. subst (λ (x : ℕ). x ≤ limit) (sym (ite-ge limit n limit n h)) h)
         (lt-or-ge limit n)
 
+-- the test as the code makes it
+pub context-tested : (cs xs : List ℕ) (room : ℕ) (r b : Bool) → room ≡ roomFor cs xs → r ≡ contextWrong room (length cs) → r ≡ b → wrongContext cs xs ≡ b
+context-tested cs xs room r b e h q = ap (λ (n : ℕ). contextWrong n (length cs)) (sym e) ∙ sym h ∙ q
+
 -- the three tests of the code
 pub context-short : (room context : ℕ) → context < 37317 + room * 98 → true ≡ contextWrong room context
 unfolding contextWrong
