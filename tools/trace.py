@@ -37,7 +37,7 @@ PROMISES = [
     ("the call for an instruction", "call_means", "Promise"),
     ("`infer`, from bytes to bytes", "image_outcome", "Promise"),
     ("the calls on a state", "state_calls", "Plain"),
-    ("the calls on two states", "state_merge_calls", "Promise"),
+    ("the calls on two states", "state_pairs", "Promise"),
 ]
 
 
