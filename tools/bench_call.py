@@ -1,7 +1,7 @@
 """Times the call for one instruction beside the Rust, and finds out how much stack the call needs.
 
 Needs `rt check bench_call` (builds target/bin/bench_call) and `oracle/build.sh` (builds target/oracle/oracle) before.
-Prints microseconds a call of both and their ratio, on nearly empty and on full tables, and kilobytes of stack.
+Prints microseconds a call of both and their ratio, on nearly empty, middling and full tables, and kilobytes of stack.
 """
 
 import os
@@ -21,10 +21,10 @@ NONE = 0xFFFFFFFF
 
 # A library job of docs/VECTORS.md, part 2, with one instruction.
 # Sections that a benchmark does not need are empty.
-def job(next_number, identifiers, values, pairs, places, diagnostics, interned, candidates):
-    head = [1, 0, 0, next_number, 0, 0, 0, 0, identifiers, len(values), len(pairs), len(places), 0, len(diagnostics), len(interned), 0, 0, 1]
-    words = head + [0] * (4 * identifiers)
-    for section in (values, pairs, places, diagnostics, interned):
+def job(next_number, identifiers, values, pairs, places, diagnostics, interned, candidates, functions=(), cached=(), links=()):
+    sections = (values, pairs, places, functions, diagnostics, interned, cached, links)
+    words = [1, 0, 0, next_number, 0, 0, 0, 0, identifiers, *map(len, sections), 1] + [0] * (4 * identifiers)
+    for section in sections:
         for record in section:
             words += record
     words += [1, 0, len(candidates)]
@@ -38,6 +38,27 @@ def job(next_number, identifiers, values, pairs, places, diagnostics, interned, 
 def nearly_empty():
     places = [[i, 0, 0, 0, 0] for i in range(2)]
     return job(1, 2, [], [], places, [], [], [[9, 0, 0, 1, 1, 0, 0, 0], [8, 0, 1, 0, 0, 0, 0, 0]])
+
+
+# Place j of the 136 interned effects of middling tables, by their keys: 34 each of Freeze, Capture, MaybeAlias, ImmutableCapture.
+# Sources 0 to 16; a Freeze with reason 0 or 1, the others into 18 or 19.
+def middle_effect(j):
+    code, source, turn = (0, 5, 7, 11)[j // 34], j % 34 // 2, j % 2
+    return [code, source, 0, 0, turn, 0, 0, 0] if code == 0 else [code, source, 18 + turn, 0, 0, 0, 0, 0]
+
+
+# Middling tables: 20 identifiers with 3 values each, those of 4 to 6 Frozen; 8 functions with 3 context places, each the function of a value;
+# a cached number for each value; 136 interned effects. Four candidates that are interned already; the MaybeAlias derives an ImmutableCapture.
+# The same numbers as in crates/bench_call.
+def middle():
+    places = [[i, 0, 0, 0, 0] for i in range(20)] + [[f + k, 3, 0, 0, 0] for f in range(8) for k in range(3)]
+    values = [[v, *((1, 2) if 4 <= (v - 1) % 20 <= 6 else (0, 2048))] for v in range(1, 61)]
+    pairs = [[i, i + 1 + 20 * k] for i in range(20) for k in range(3)]
+    functions = [[1, 20 + 3 * f, 3, 0, 0] for f in range(8)]
+    cached = [[9, 0, v % 20, 0, v // 20, 0, 0, 0, v] for v in range(1, 61)]
+    interned = [middle_effect(j) for j in sorted(range(136), key=lambda j: j * 37 % 136)]
+    candidates = [[5, 3, 18, 0, 0, 0, 0, 0], [11, 7, 19, 0, 0, 0, 0, 0], [7, 5, 18, 0, 0, 0, 0, 0], [0, 6, 0, 0, 1, 0, 0, 0]]
+    return job(61, 20, values, pairs, places, [], interned, candidates, functions, cached, [[f + 1, f] for f in range(8)])
 
 
 # Every table full, and an ImmutableCapture that is interned already.
@@ -113,7 +134,7 @@ def tables():
 def main():
     print("| tables | Rust | port | ratio |")
     print("|--|--|--|--|")
-    for name, words, times, kind, power in (("nearly empty", nearly_empty(), 100000, 1, 4), ("full", full(), 10000, 2, 2)):
+    for name, words, times, kind, power in (("nearly empty", nearly_empty(), 100000, 1, 4), ("middle", middle(), 100000, 4, 4), ("full", full(), 10000, 2, 2)):
         theirs, ours = rust(words, times), port(kind, power)
         print("| %s | %.2f µs | %.1f µs | %.0f |" % (name, theirs, ours, ours / theirs))
     print("a call refused with 11 after a walk 4,096 entries deep: %.0f µs" % port(3, 2))

@@ -34,12 +34,17 @@ def recorded_jobs():
     jobs = []
     for number, (given, answer) in enumerate(records):
         job = parse.job(given)
+        result = parse.job_answer(answer, len(job["instructions"]))
         try:
-            jobs.append(lent.of_job(job, parse.job_answer(answer, len(job["instructions"]))))
+            made = lent.of_job(job, result)
         except lent.NotLent as error:
             sys.exit("job %d cannot be lent: %s" % (number, error))
-        if jobs[-1].instructions and call_class(jobs[-1]):
-            sys.exit("job %d earns %d" % (number, call_class(jobs[-1])))
+        lent.lend_room(made, number, len(result["interned"]))
+        if lent.context_length(len(result["interned"])) > made.lengths[lent.CONTEXT_LENGTH]:
+            sys.exit("job %d interns more effects than its instructions need" % number)
+        if made.instructions and call_class(made):
+            sys.exit("job %d earns %d" % (number, call_class(made)))
+        jobs.append(made)
     return jobs
 
 

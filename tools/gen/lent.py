@@ -7,6 +7,8 @@ from names import *
 
 LONG, OUTPUT, SCRATCH = 238021, 1120 * 98, 24834
 VALUES, ROW, EFFECT, KEY = 1024, 16, 98, 28
+# Which length is the context's.
+CONTEXT_LENGTH = 2
 # Words of their own, and tables as (first word, count of records, words of a record).
 OPTIONS, IDENTIFIER_COUNT, FUNCTION_COUNT, INTERNED_COUNT, DIAGNOSTIC_COUNT = 0, 1, 2, 12483, 12484
 IDENTIFIERS, FUNCTIONS, CONTEXTS = (3, 512, 4), (2051, 64, 163), (12485, 64, 80)
@@ -16,6 +18,8 @@ EFFECT_ORDER, INTERNED = (35269, 2048, 1), (37317, 2048, 98)
 FIRST, SECOND, KIND, REASON, MUTATION, FUNCTION, IDENTITY, INSTANCE, CAPTURES = 1, 6, 11, 12, 13, 14, 15, 16, 17
 # Codes of keys that hold a source.
 WITH_SOURCE = (CREATE_FROM, KEY_ASSIGN_FROZEN, KEY_ASSIGN_COPY)
+# How many effects one of a code can derive, and they in turn, captures apart (`laws_room` `Room.antt`: `derives`).
+DERIVES = {**dict.fromkeys(MUTATIONS, 1), CAPTURE: 2, ALIAS: 2, MAYBE_ALIAS: 1, ASSIGN: 1, CREATE_FROM: 1}
 
 
 class NotLent(ValueError):
@@ -285,10 +289,48 @@ def instructions_of(job, answer):
     return out
 
 
-# The right lengths of values, sets, context, output list and both scratches, for n identifiers.
-# DECISIONS 13, `lent_context` `Layout.antt` and `call_undo`.
+# Right lengths of values, sets, context, output list and both scratches, for n identifiers.
+# DECISIONS 13, `lent_context` `Layout.antt` and `call_undo`; that of the context is the largest, which is always right.
 def right_lengths(n):
     return [VALUES, n * ROW, LONG, OUTPUT, VALUES + n * ROW, SCRATCH]
+
+
+# The most effects that the step of a candidate interns, by its record.
+# Room.antt: `need`; what is no code, and an Apply, reads as a Render, which derives nothing.
+def need(words):
+    return 1 + DERIVES.get(words[0], 0) + 4 * (words[CAPTURES] if words[0] == CREATE_FUNCTION else 0)
+
+
+# The most effects that an instruction interns.
+# Room.antt: `needs`; a candidate past the 64th reads as zeros.
+def needs(instruction):
+    count = instruction.length // EFFECT
+    found = [[instruction.candidates.get(k * EFFECT + w, 0) for w in range(EFFECT)] for k in range(min(count, MAX_CANDIDATES))]
+    return sum(map(need, found)) + max(0, count - MAX_CANDIDATES) * need([0] * EFFECT)
+
+
+# The length of a context with room for as many interned effects, and no more than for 2,048.
+# Whole records after its other tables.
+def context_length(room):
+    return at(INTERNED, min(room, MAX_INTERNED))
+
+
+# Room that suffices for each instruction of a job when it comes; for a job of one just what it needs.
+# A refused one interns nothing, and none leaves more than stand at the end.
+def enough_room(lent, last):
+    count = room = lent.context.get(INTERNED_COUNT, 0)
+    for i in lent.instructions:
+        room = max(room, count + needs(i))
+        if i.refusal == 0:
+            count = min(count + needs(i), last)
+    return room
+
+
+# The context's length of a recorded job, by its number in the list: with just the room that suffices.
+# Of each seven one has room for an effect more, and one the largest length.
+def lend_room(lent, number, last):
+    spare = {3: 1, 6: MAX_INTERNED}.get(number % 7, 0)
+    lent.lengths[CONTEXT_LENGTH] = context_length(enough_room(lent, last) + spare)
 
 
 # A recorded job with its answer as a lent one.

@@ -50,11 +50,19 @@ class Classes:
             self.found.add(4)
 
 
+# The least length of a context: room for the interned effects that it counts, and for those that the instruction can intern.
+# By the count as it stands, whatever it is; past the end of a context all is zero.
+def least_context(lent):
+    counted = lent.context.get(INTERNED_COUNT, 0) if INTERNED_COUNT < lent.lengths[CONTEXT_LENGTH] else 0
+    return context_length(counted + needs(lent.instructions[0]))
+
+
 # Whether a length is wrong.
-# Decided before anything is looked at.
-def lengths_wrong(lengths, candidates):
-    values, sets, context, output, scratch64, scratch32 = lengths
-    wrong = values != VALUES or sets % ROW or sets > 512 * ROW or context != LONG or candidates % EFFECT
+# Only the context's count and its candidates are looked at for it; a context ends with a whole record.
+def lengths_wrong(lent):
+    values, sets, context, output, scratch64, scratch32 = lent.lengths
+    wrong = values != VALUES or sets % ROW or sets > 512 * ROW or lent.instructions[0].length % EFFECT
+    wrong = wrong or context < least_context(lent) or context > LONG or (context - INTERNED[0]) % EFFECT
     return bool(wrong or output != OUTPUT or scratch64 != VALUES + sets or scratch32 != SCRATCH)
 
 
@@ -272,7 +280,7 @@ def test_instruction(c, lent, instruction, n):
 # The lowest that anything earns.
 def call_class(lent):
     instruction = lent.instructions[0]
-    if lengths_wrong(lent.lengths, instruction.length):
+    if lengths_wrong(lent):
         return 1
     c, n = Classes(), lent.identifiers()
     test_state(c, lent, n)

@@ -7,12 +7,12 @@ A damage gets a copy of a job with its first instruction alone, and says whether
 import random
 
 from lent import *
-from lent_class import call_class
+from lent_class import call_class, least_context
 from names import *
 
 FULL = 0xFFFFFFFF
 CANDIDATES = (0, 64, 98)
-VALUES_LENGTH, SETS_LENGTH, CONTEXT_LENGTH, OUTPUT_LENGTH, SCRATCH64_LENGTH, SCRATCH32_LENGTH = range(6)
+VALUES_LENGTH, SETS_LENGTH, _, OUTPUT_LENGTH, SCRATCH64_LENGTH, SCRATCH32_LENGTH = range(6)
 
 
 # ------------------------------------------------------------ what a job has
@@ -85,8 +85,52 @@ def some_record(lent, rng, table, test):
 
 # ------------------------------------------------------------ damages
 
+# The context gets room for what the instruction needs, where it has less.
+# So that a damage that adds to the need is seen in what it damages.
+def widen(lent):
+    lent.lengths[CONTEXT_LENGTH] = max(lent.lengths[CONTEXT_LENGTH], least_context(lent))
+
+
+# The context has just the room that is needed, after other damages; does not apply where that is the largest.
+# Whoever needs more than the definition says refuses it with 1.
+def narrow(*acts):
+    def act(lent, rng):
+        done = all(part(lent, rng) for part in acts)
+        lent.lengths[CONTEXT_LENGTH] = least_context(lent)
+        return done and lent.lengths[CONTEXT_LENGTH] < LONG
+    return act
+
+
+# The context is one record shorter than needed, after other damages.
+# Whoever needs less than the definition says does not see it.
+def short_of_one(*acts):
+    def act(lent, rng):
+        done = all(part(lent, rng) for part in acts)
+        lent.lengths[CONTEXT_LENGTH] = least_context(lent) - EFFECT
+        return done
+    return act
+
+
+# The context has just the room that was needed before other damages; applies where they add to it.
+# A word of its own, or a candidate, then asks for more than is lent.
+def outgrown(*acts):
+    def act(lent, rng):
+        least = lent.lengths[CONTEXT_LENGTH] = least_context(lent)
+        return all(part(lent, rng) for part in acts) and least_context(lent) > least
+    return act
+
+
+# The context has the largest length, with other damages.
+# It is always right.
+def largest(*acts):
+    def act(lent, rng):
+        lent.lengths[CONTEXT_LENGTH] = LONG
+        return all(part(lent, rng) for part in acts)
+    return act
+
+
 # A length becomes what is given from the old one.
-# The arrays of the program have room for a few more words.
+# The arrays of the program have room for a record more, and a few words.
 def length(which, change):
     def act(lent, rng):
         lent.lengths[which] = change(lent.lengths[which])
@@ -165,10 +209,10 @@ def word(k, number):
 
 
 # A word after the last record of a table becomes 1.
-# Any of its unused words.
+# Any of its unused words that are lent.
 def after(table):
     def act(lent, rng):
-        start, end = at(table, IN_USE[table](lent)[1]), at(table, table[1])
+        start, end = at(table, IN_USE[table](lent)[1]), min(at(table, table[1]), lent.lengths[CONTEXT_LENGTH])
         if start >= end:
             return False
         put(lent.context, rng.randrange(start, end), [1])
@@ -303,6 +347,7 @@ def disordered(first, second):
         if n + 2 > INTERNED[1]:
             return False
         put_interned(lent.context, effects + [[words.get(w, 0) for w in range(EFFECT)] for words in (first, second)])
+        widen(lent)
         if call_class(lent):
             return False
         put(lent.context, at(EFFECT_ORDER, 0), [{n: n + 1, n + 1: n}.get(k, k) for k in order_of(lent)])
@@ -388,6 +433,36 @@ def applied(which, garbage):
         put(lent.instructions[0].candidates, k, [APPLY] + [FULL] * (EFFECT - 1) if garbage else [APPLY])
         return True
     return act
+
+
+# There are 66 candidates, and all after the 64th have the words given.
+# "above its limit": they are not looked at.
+def too_many(words):
+    def act(lent, rng):
+        lent.instructions[0].length = 66 * EFFECT
+        for k in (64, 65):
+            put(lent.instructions[0].candidates, k * EFFECT, words + [FULL] * (EFFECT - len(words)))
+        return True
+    return act
+
+
+# A candidate becomes one of a code, and its other words anything.
+# What is no code has no captures.
+def unknown(number):
+    def act(lent, rng):
+        n = candidates(lent)
+        if n == 0:
+            return False
+        put(lent.instructions[0].candidates, at(CANDIDATES, rng.randrange(n)), [number] + [FULL] * (EFFECT - 1))
+        return True
+    return act
+
+
+# The last word that is lent of a context becomes 1, where no interned effect can have it.
+# There is a candidate, so that there is room for another effect.
+def last_word(lent, rng):
+    put(lent.context, lent.lengths[CONTEXT_LENGTH] - 1, [1])
+    return candidates(lent) > 0
 
 
 # Every candidate becomes an Apply.
@@ -483,8 +558,33 @@ DAMAGES = [
     ("513 rows", 1, rows(lambda n: 513 - n)),
     ("context one short", 1, length(CONTEXT_LENGTH, lambda n: n - 1)),
     ("context one long", 1, length(CONTEXT_LENGTH, lambda n: n + 1)),
-    ("context without its last effect", 1, length(CONTEXT_LENGTH, lambda n: n - EFFECT)),
+    ("context without its last effect", 1, lambda t, r: least_context(t) == t.lengths[CONTEXT_LENGTH] and length(CONTEXT_LENGTH, lambda n: n - EFFECT)(t, r)),
     ("no context", 1, length(CONTEXT_LENGTH, lambda n: 0)),
+    ("context one record short", 1, short_of_one()),
+    ("context one short of just enough room", 1, lambda t, r: narrow()(t, r) and length(CONTEXT_LENGTH, lambda n: n - 1)(t, r)),
+    ("the largest context, one short", 1, length(CONTEXT_LENGTH, lambda n: LONG - 1)),
+    ("the largest context, one long", 1, length(CONTEXT_LENGTH, lambda n: LONG + 1)),
+    ("the largest context, one record long", 1, length(CONTEXT_LENGTH, lambda n: LONG + EFFECT)),
+    ("context with half a record more", 1, length(CONTEXT_LENGTH, lambda n: n - EFFECT // 2 if n == LONG else n + EFFECT // 2)),
+    ("context without room for an effect", 1, lambda t, r: least_context(t) > INTERNED[0] and length(CONTEXT_LENGTH, lambda n: INTERNED[0])(t, r)),
+    ("context with a part of its order", 1, length(CONTEXT_LENGTH, lambda n: INTERNED[0] - 1)),
+    ("context whole records below its order's end", 1, length(CONTEXT_LENGTH, lambda n: INTERNED[0] - EFFECT)),
+    ("context up to its count of interned effects", 1, length(CONTEXT_LENGTH, lambda n: INTERNED_COUNT)),
+    ("context of one word", 1, length(CONTEXT_LENGTH, lambda n: 1)),
+    ("17 captures of a candidate, room for as many as before", 1, outgrown(field(CANDIDATES, CAPTURES, 17, code(CREATE_FUNCTION)))),
+    ("captures FFFFFFFF of a candidate, room for as many as before", 1, outgrown(field(CANDIDATES, CAPTURES, FULL, code(CREATE_FUNCTION)))),
+    ("captures 40000000 of a candidate, room for as many as before", 1, outgrown(field(CANDIDATES, CAPTURES, 1 << 30, code(CREATE_FUNCTION)))),
+    ("captures FFFFFFFF of a candidate, room for 2,047", 1, outgrown(field(CANDIDATES, CAPTURES, FULL, code(CREATE_FUNCTION)), length(CONTEXT_LENGTH, lambda n: LONG - EFFECT))),
+    ("a candidate that is a Freeze becomes a Capture, room for as many as before", 1, outgrown(field(CANDIDATES, 0, CAPTURE, code(FREEZE)))),
+    ("65 candidates, room for as many as before", 1, outgrown(candidates_length(lambda n: 65 * EFFECT))),
+    ("65 candidates, one record short", 1, short_of_one(candidates_length(lambda n: 65 * EFFECT))),
+    ("66 candidates, one record short", 1, short_of_one(candidates_length(lambda n: 66 * EFFECT))),
+    ("an interned effect counted that is none, room for as many as before", 1, outgrown(word(INTERNED_COUNT, lambda t: interned(t) + 1))),
+    ("interned effects FFFFFFFF, room for as many as before", 1, outgrown(word(INTERNED_COUNT, FULL))),
+    ("interned effects FFFFFFFF, room for 2,047", 1, outgrown(word(INTERNED_COUNT, FULL), length(CONTEXT_LENGTH, lambda n: LONG - EFFECT))),
+    ("2,047 interned effects, room for 2,047", 1, lambda t, r: candidates(t) > 0 and outgrown(word(INTERNED_COUNT, 2047), length(CONTEXT_LENGTH, lambda n: LONG - EFFECT))(t, r)),
+    ("2,048 interned effects, room for as many as before", 1, outgrown(word(INTERNED_COUNT, 2048))),
+    ("2,049 interned effects, room for as many as before", 1, outgrown(word(INTERNED_COUNT, 2049))),
     ("output one short", 1, length(OUTPUT_LENGTH, lambda n: n - 1)),
     ("output one long", 1, length(OUTPUT_LENGTH, lambda n: n + 1)),
     ("output one effect short", 1, length(OUTPUT_LENGTH, lambda n: n - EFFECT)),
@@ -506,6 +606,14 @@ DAMAGES = [
     ("functions FFFFFFFF", 2, word(FUNCTION_COUNT, FULL)),
     ("2,049 interned effects", 2, word(INTERNED_COUNT, 2049)),
     ("interned effects FFFFFFFF", 2, word(INTERNED_COUNT, FULL)),
+    ("2,049 interned effects, the largest context", 2, largest(word(INTERNED_COUNT, 2049))),
+    ("interned effects FFFFFFFF, the largest context", 2, largest(word(INTERNED_COUNT, FULL))),
+    ("captures FFFFFFFF of a candidate, the largest context", 2, largest(field(CANDIDATES, CAPTURES, FULL, code(CREATE_FUNCTION)))),
+    ("captures 40000000 of a candidate, the largest context", 2, largest(field(CANDIDATES, CAPTURES, 1 << 30, code(CREATE_FUNCTION)))),
+    ("17 captures of a candidate, just enough room", 2, narrow(field(CANDIDATES, CAPTURES, 17, code(CREATE_FUNCTION)))),
+    ("65 candidates, just enough room", 2, narrow(candidates_length(lambda n: 65 * EFFECT))),
+    ("66 candidates, the last two with captures FFFFFFFF, just enough room", 2, narrow(too_many([CREATE_FUNCTION]))),
+    ("66 candidates, the last two Captures, just enough room", 2, narrow(too_many([CAPTURE]))),
     ("257 diagnostics", 2, word(DIAGNOSTIC_COUNT, 257)),
     ("65 candidates", 2, candidates_length(lambda n: 65 * EFFECT)),
     ("17 context places", 2, field(FUNCTIONS, 1, 17)),
@@ -554,6 +662,8 @@ DAMAGES = [
     ("sentence 11", 3, field(DIAGNOSTICS, 3, 11, lambda r: r[2] == 0)),
     ("name 513 of a diagnostic", 3, field(DIAGNOSTICS, 4, 513)),
     ("an interned Apply", 3, field(INTERNED, 0, APPLY)),
+    ("a candidate of code 18 with anything in it, just enough room", 3, narrow(unknown(18))),
+    ("a candidate of code FFFFFFFF with anything in it, just enough room", 3, narrow(unknown(FULL))),
     ("a place of the order not in the list", 3, field(EFFECT_ORDER, 0, interned)),
     ("a place of the order FFFFFFFF", 3, field(EFFECT_ORDER, 0, FULL)),
     ("the first place of the order not in the list", 3, reordered(lambda order, rng: [len(order)] + order[1:], 1)),
@@ -585,7 +695,9 @@ DAMAGES = [
     ("an interned effect not counted, not in the order", 4, left_over),
     ("a diagnostic not counted", 4, lambda t, r: diagnostics(t) - 1 not in named(t) and uncounted(DIAGNOSTICS, DIAGNOSTIC_COUNT)(t, r)),
     ("a diagnostic counted that is none", 4, lambda t, r: N(t) > 0 and word(DIAGNOSTIC_COUNT, diagnostics(t) + 1)(t, r)),
-    ("the last word of the context", 4, word(LONG - 1, 1)),
+    ("the last word of the context", 4, last_word),
+    ("the last word of the largest context", 4, largest(last_word)),
+    ("the last word of the context, just enough room", 4, lambda t, r: narrow()(t, r) and last_word(t, r)),
     ("a word after the places mutated inside", 4, field(FUNCTIONS, 162, 1, lambda r: r[2] < MAX_MUTATED)),
     ("a word after the context places", 4, field(CONTEXTS, 79, 1, lambda r: not any(r[75:]))),
     ("a function of no link", 4, field(LINKS, 1, 1, lambda r: r[0] == 0)),
@@ -621,6 +733,8 @@ DAMAGES = [
     ("a candidate an Apply with anything in it", 5, applied(lambda n, rng: rng.randrange(n), True)),
     ("the last candidate an Apply with anything in it", 5, applied(lambda n, rng: n - 1, True)),
     ("every candidate an Apply", 5, all_applied),
+    ("a candidate an Apply with anything in it, just enough room", 5, narrow(applied(lambda n, rng: rng.randrange(n), True))),
+    ("every candidate an Apply, just enough room", 5, narrow(all_applied)),
 ] + of_parts() + of_effects("interned", INTERNED) + of_effects("candidate", CANDIDATES)
 
 # Two damages in places that do not meet: the lower class wins.
@@ -664,16 +778,20 @@ def refused(lent, number):
     instruction = lent.instructions[0]
     instruction.candidates = cut(instruction.candidates, instruction.length)
     instruction.refusal = number
-    lent.end = End(lent.flag, list(lent.session), dict(lent.values), dict(lent.sets), LONG, dict(lent.context), [])
+    limit = max(LONG, lent.lengths[CONTEXT_LENGTH])
+    lent.end = End(lent.flag, list(lent.session), dict(lent.values), dict(lent.sets), limit, dict(lent.context), [])
     return lent
 
 
-# One damaged job, or none where a damage does not apply to it.
+# One damaged job, or none where a damage does not apply to it; a context has the room for it, unless its length is the damage.
 # The stated class must be the one that the plain test finds.
 def damaged(lent, acts, expected, name, rng):
     out = base(lent)
-    if not all(act(out, rng) for act in acts):
-        return None
+    for act in acts:
+        if not act(out, rng):
+            return None
+        if expected > 1:
+            widen(out)
     found = call_class(out)
     if found != expected:
         raise ValueError("%s: stated %d, found %d" % (name, expected, found))

@@ -1,5 +1,5 @@
 // A benchmark of the call for one instruction. Arguments: what is lent (1 nearly empty tables, 2 full tables, 3 a walk that goes 4,096 entries deep
-// and is refused), and the power of ten of repetitions, or 9 for none. It prints refusal and count of the last call;
+// and is refused, 4 middling tables), and the power of ten of repetitions, or 9 for none. It prints refusal and count of the last call;
 // `tools/bench_call.py` times it, and finds out how much stack it needs.
 use call_apply::apply_signature;
 use call_outcome::Applied;
@@ -162,6 +162,158 @@ fn fill_sets(sets: &mut [u64], all: &[u64]) {
     }
 }
 
+// The value of identifier i of middling tables: Frozen {State} of 4, 5 and 6, else Mutable {Other}.
+// All values of its set have the same.
+fn middle_value(i: u32) -> AbstractValue {
+    match i {
+        4 | 5 | 6 => AbstractValue {
+            kind: ValueKind::Frozen,
+            reason: 2,
+        },
+        _ => mutable(),
+    }
+}
+
+// The three value numbers of identifier i of middling tables, v, v + 20 and v + 40, get their entries.
+fn middle_entries(values: &mut [u64], v: u32, a: AbstractValue) {
+    let first = wide32(v);
+    lent_values::put_value(values, first, a);
+    lent_values::put_value(values, first + 20, a);
+    lent_values::put_value(values, first + 40, a);
+}
+
+// They are the set of the identifier.
+fn middle_set(sets: &mut [u64], i: u32) {
+    let v = i % 20 + 1;
+    let mut row = [0u64; 16];
+    lent_sets::add_value(&mut row, v);
+    lent_sets::add_value(&mut row, v + 20);
+    lent_sets::add_value(&mut row, v + 40);
+    lent_set_writes::put_set(sets, i, &row);
+}
+
+// 60 values in the sets of 20 identifiers.
+fn middle_state(values: &mut [u64], sets: &mut [u64]) {
+    let mut i: u32 = 0;
+    while i < 20 {
+        middle_entries(values, i % 20 + 1, middle_value(i));
+        middle_set(sets, i);
+        i += 1;
+    }
+}
+
+// The code of interned effect j by its key, of middling tables.
+// 34 each of Freeze, Capture, MaybeAlias and ImmutableCapture.
+fn middle_code(j: u32) -> u32 {
+    match j / 34 {
+        0 => 0,
+        1 => 5,
+        2 => 7,
+        _ => 11,
+    }
+}
+
+// The record of that effect: from identifiers 0 to 16, two each; a Freeze with reason 0 or 1, the others into 18 or 19.
+fn middle_record(context: &mut [u32], at: usize, j: u32, code: u32) {
+    set32(context, at, code);
+    set32(context, at + 1, j % 34 / 2);
+    if code == 0 {
+        set32(context, at + 12, j % 2);
+        return;
+    }
+    set32(context, at + 6, 18 + j % 2);
+}
+
+// Interned effect j by its key has the number j * 37 % 136, so that numbers and order differ.
+fn middle_effect(context: &mut [u32], j: u32) {
+    let k = j % 136 * 37 % 136;
+    set32(context, 35269 + wide32(j), k);
+    middle_record(context, 37317 + wide32(k) * 98, j, middle_code(j));
+}
+
+// All 136 of them, and their order.
+fn middle_effects(context: &mut [u32]) {
+    let mut j: u32 = 0;
+    while j < 136 {
+        middle_effect(context, j);
+        j += 1;
+    }
+}
+
+// A context place: an identifier with the effect Capture.
+fn middle_place(context: &mut [u32], at: usize, i: u32) {
+    set32(context, at, i);
+    set32(context, at + 1, 3);
+}
+
+// Function f of middling tables: its effects are known, its context places are f, f + 1 and f + 2; it is the function of value f + 1.
+fn middle_function(context: &mut [u32], f: u32) {
+    let n = wide32(f % 8);
+    let i = f % 8;
+    set32(context, 2051 + n * 163, 1);
+    set32(context, 2052 + n * 163, 3);
+    middle_place(context, 12485 + n * 80, i);
+    middle_place(context, 12490 + n * 80, i + 1);
+    middle_place(context, 12495 + n * 80, i + 2);
+    set32(context, 17607 + n * 2, 1);
+    set32(context, 17608 + n * 2, i);
+}
+
+// All 8 of them.
+fn middle_functions(context: &mut [u32]) {
+    let mut f: u32 = 0;
+    while f < 8 {
+        middle_function(context, f);
+        f += 1;
+    }
+}
+
+// The cached key of number v of middling tables: Create into v % 20 as Mutable, with reason v / 20.
+// 60 keys.
+fn middle_key(context: &mut [u32], v: u32) {
+    let at = 18629 + wide32(v) * 28;
+    set32(context, at, 1);
+    set32(context, at + 1, 9);
+    set32(context, at + 4, 1);
+    set32(context, at + 5, v % 20);
+    set32(context, at + 7, v / 20);
+}
+
+// Those of the numbers 1 to 60.
+fn middle_keys(context: &mut [u32]) {
+    let mut v: u32 = 1;
+    while v < 61 {
+        middle_key(context, v);
+        v += 1;
+    }
+}
+
+// A middling context: 20 identifiers, 8 functions, 60 cached numbers, 136 interned effects.
+fn lend_middle(context: &mut [u32]) {
+    set32(context, 1, 20);
+    set32(context, 2, 8);
+    set32(context, 12483, 136);
+    middle_functions(context);
+    middle_keys(context);
+    middle_effects(context);
+}
+
+// Four candidates that are interned already: Capture 3 into 18, ImmutableCapture 7 into 19, MaybeAlias 5 into 18, Freeze 6 with State.
+// The MaybeAlias derives an ImmutableCapture, since 5 is Frozen, and that is interned too; the Freeze changes nothing.
+fn middle_candidates(candidates: &mut [u32]) {
+    set32(candidates, 0, 5);
+    set32(candidates, 1, 3);
+    set32(candidates, 6, 18);
+    set32(candidates, 98, 11);
+    set32(candidates, 99, 7);
+    set32(candidates, 104, 19);
+    set32(candidates, 196, 7);
+    set32(candidates, 197, 5);
+    set32(candidates, 202, 18);
+    set32(candidates, 295, 6);
+    set32(candidates, 306, 1);
+}
+
 // A full context, and an ImmutableCapture that is interned already: the call can be made again and again.
 // 512 identifiers, 2,048 interned effects, 256 diagnostics.
 fn lend_full(context: &mut [u32], candidates: &mut [u32]) {
@@ -250,10 +402,11 @@ fn repeat(
 }
 
 // Case 1 on tables of two identifiers; what the call answers.
+// The context has room for 8 interned effects; the first call needs 3, and the others, which find three, 6.
 fn measure_case_1(n: u32) -> u64 {
     let mut values = [0u64; 1024];
     let mut sets = [0u64; 32];
-    let mut context = [0u32; 238021];
+    let mut context = [0u32; 38101];
     let mut candidates = [0u32; 196];
     let mut output = [0u32; 109760];
     let mut scratch64 = [0u64; 1056];
@@ -297,8 +450,34 @@ fn measure_walk(n: u32) -> u64 {
     )
 }
 
+// Middling tables; what the call answers.
+// The context has room for 144 interned effects: 136, the 7 that the candidates need, and one more.
+fn measure_middle(n: u32) -> u64 {
+    let mut values = [0u64; 1024];
+    let mut sets = [0u64; 320];
+    let mut context = [0u32; 51429];
+    let mut candidates = [0u32; 392];
+    let mut output = [0u32; 109760];
+    let mut scratch64 = [0u64; 1344];
+    let mut scratch32 = [0u32; 24834];
+    middle_state(&mut values, &mut sets);
+    lend_middle(&mut context);
+    middle_candidates(&mut candidates);
+    repeat(
+        n,
+        61,
+        &mut values,
+        &mut sets,
+        &mut context,
+        &candidates,
+        &mut output,
+        &mut scratch64,
+        &mut scratch32,
+    )
+}
+
 // Full tables; what the call answers.
-// With 0 repetitions the tables are lent, and nothing is called.
+// The context has the largest length. With 0 repetitions the tables are lent, and nothing is called.
 fn measure_full(n: u32) -> u64 {
     let mut values = [0u64; 1024];
     let mut sets = [0u64; 8192];
@@ -331,6 +510,9 @@ fn measure(kind: u32, n: u32) -> u64 {
     }
     if kind == 2 {
         return measure_full(n);
+    }
+    if kind == 4 {
+        return measure_middle(n);
     }
     measure_walk(n)
 }

@@ -348,7 +348,7 @@ fn same_records(bytes: &[u8], c: Cursor, context: &[u32], limit: u32) -> Cursor 
 }
 
 // Whether a context is zero after n places of the order and after n interned effects.
-// The limit is where the order begins; or where the context ends, and nothing is left.
+// The limit is where the order begins; or no word that can be lent lies past it, and nothing is left. Past the end of a context all is zero.
 fn rest_zero(context: &[u32], limit: u32, n: u32) -> bool {
     if limit >= 238021 {
         return n == 0;
@@ -812,9 +812,10 @@ fn with_output(
     with_scratch64(bytes, size, values, sets, context, &mut output[..n])
 }
 
-// The context, 238,021 words.
+// The context: 37,317 words and as many records of 98 as the job has room for, 238,021 words at the most.
+// Its array has room for a record more than that, which a damaged job lends.
 fn with_context(bytes: &[u8], size: u32, values: &mut [u64], sets: &mut [u64]) -> bool {
-    let mut context = [0u32; 238048];
+    let mut context = [0u32; 238144];
     let n = most32(word(bytes, 2), &context);
     with_output(bytes, size, values, sets, &mut context[..n])
 }

@@ -35,7 +35,7 @@ use Rattle.def_faithful.specs.Laws.Steps.{Fine, call-means}
 use Rattle.lent_context.specs.Abstract.{abstract}
 use Rattle.lent_world.specs.Laws.LentFaithful.{Holds, lent-faithful}
 use Rattle.call_means.specs.Laws.Accepting.{candidates-fine, lvalue-named}
-use Rattle.call_means.specs.Laws.Padding.{missing, whole, whole-fit, whole-run}
+use Rattle.call_means.specs.Laws.Padding.{missing, whole, whole-fit, short-run, whole-run}
 use Rattle.laws_room.specs.Laws.Near.{ended, beside, besides}
 use Rattle.laws_room.specs.Laws.LentShort.{pad-means}
 use Rattle.lent_copies.specs.Copies.{zeros}
@@ -103,6 +103,11 @@ call-related c e l =
       context = pad-means (record { long = refl; more = refl });
     })
 
+-- the call itself ends so, but for the words that are missing
+pub call-ends : (c : Call) (e : callClass c ≡ 0) (l : identifiers (c .sets) ≤ 512)
+    → Rel (lent-faithful (identifiers (c .sets)) l) Any (besides (ended (short-run c e) ++ zeros (missing c e)) (short-run c e)) (applySignature (lentInstruction c) (plainWorld c))
+call-ends c e l = subst (λ (r : Res (World lent) Done). Rel (lent-faithful (identifiers (c .sets)) l) Any r (applySignature (lentInstruction c) (plainWorld c))) (whole-run c e) (call-related c e l)
+
 -- related ends mean the same, within the bounds; the n words behind the context mean nothing
 ends-mean : (c : Call) (l : identifiers (c .sets) ≤ 512) (n : ℕ) (r : Res (World lent) Done) (s : Res (World pure) Done) → Rel (lent-faithful (identifiers (c .sets)) l) Any (besides (ended r ++ zeros n) r) s
     → length (after s .listed) ≤ 1120 → after s .entries ≤ 4294967295 → Told s → MeansEnd c (concluded c r) s
@@ -138,7 +143,7 @@ call-is c e =
     let rare : after (applySignature (lentInstruction c) (plainWorld c)) .entries ≤ 4294967295 = le-trans (entries-most {T = pure} (λ c. found-key (c .interned)) (λ n. omega arith) (lentInstruction c) (plainWorld c)) (omega arith) in
     subst (λ (o : Outcome). MeansEnd c o (applySignature (lentInstruction c) (plainWorld c))) (sym (ite-eq (callClass c) 0 (concluded c (applySignature (lentInstruction c) (lentWorld c))) (refusedWith (callClass c) c) e))
     (ends-mean c l (missing c e) (applySignature (lentInstruction c) (lentWorld c)) (applySignature (lentInstruction c) (plainWorld c))
-    (subst (λ (r : Res (World lent) Done). Rel (lent-faithful (identifiers (c .sets)) l) Any r (applySignature (lentInstruction c) (plainWorld c))) (whole-run c e) (call-related c e l)) few rare (call-told (lentInstruction c) (plainWorld c)))
+    (call-ends c e l) few rare (call-told (lentInstruction c) (plainWorld c)))
 
 -- so what is known of a plain world and an instruction is known of every accepted call that is lent them: the worked cases among others
 pub carried : (c : Call) → callClass c ≡ 0 → (ins : Instruction) → lentInstruction c ≡ ins → (u : World pure) → plainWorld c ≡ u → MeansEnd c (outcome c) (applySignature ins u)

@@ -45,6 +45,7 @@ use Rattle.laws_image_accepted.specs.Laws.Later.{words-small, words-accepted, e
 use Rattle.lent_world.specs.World.{lent}
 use Rattle.lent_world.specs.Laws.LentLawful.{InRange}
 use Rattle.lent_world.specs.Laws.LentFaithful.{lent-faithful}
+use Rattle.laws_room.specs.Laws.Near.{besides}
 use Rattle.laws_image_accepted.specs.Laws.Context.{far-zero, none-interned, none-told, identifiers-after, functions-after}
 use Rattle.image_decode.specs.Laws.ContextBack.{contexts-back, insides-back, flags-back}
 use Rattle.image_decode.specs.Laws.WordsBack.{options-back, identifiers-back}
@@ -316,16 +317,16 @@ module _ (im : Image) (small : (i : ℕ) → word im i < 4294967296) (good : ref
       ap shown m ∙ ite-ne k 0 _ (refusalLine k) (λ e. subst (λ (x : ℕ). lib.Dec.T (ltb 5 x && ltb x 12)) e q) ∙ ap refusalLine (sym (h .0))
 
   -- it is refused with 6 to 11 or not at all, since the call over lent tables is
-  later-as : (l : Words.identifiers (lentSets im) ≤ 512) (r : Res (World lent) Done) (s : Res (World pure) Done) → Rel (lent-faithful (Words.identifiers (lentSets im)) l) Any r s → InRange r → Later s
-  later-as l (ok a w) (ok b u) h q = tt
-  later-as l (ok a w) (refused k u) h q = absurd h
-  later-as l (refused i w) (ok b u) h q = absurd h
-  later-as l (refused i w) (refused k u) h q = subst (λ (x : ℕ). lib.Dec.T (ltb 5 x && ltb x 12)) (h .0) q
+  later-as : (l : Words.identifiers (lentSets im) ≤ 512) (d : List ℕ) (r : Res (World lent) Done) (s : Res (World pure) Done) → Rel (lent-faithful (Words.identifiers (lentSets im)) l) Any (besides d r) s → InRange r → Later s
+  later-as l d (ok a w) (ok b u) h q = tt
+  later-as l d (ok a w) (refused k u) h q = absurd h
+  later-as l d (refused i w) (ok b u) h q = absurd h
+  later-as l d (refused i w) (refused k u) h q = subst (λ (x : ℕ). lib.Dec.T (ltb 5 x && ltb x 12)) (h .0) q
 
   later : Later (applySignature (lentInstruction (lentCall im)) (plainWorld (lentCall im)))
   later =
       let l : Words.identifiers (lentSets im) ≤ 512 = let a = few-identifiers im good in let b = sets-identifiers im good in omega arith in
-      later-as l (applySignature (lentInstruction (lentCall im)) (lentWorld (lentCall im))) (applySignature (lentInstruction (lentCall im)) (plainWorld (lentCall im))) (Meanings.call-related (lentCall im) accepted l) (ends-later im small good)
+      later-as l _ (applySignature (lentInstruction (lentCall im)) (lentWorld (lentCall im))) (applySignature (lentInstruction (lentCall im)) (plainWorld (lentCall im))) (Meanings.call-ends (lentCall im) accepted l) (ends-later im small good)
 
   pub words-is : shown (outcome (imageCall im)) ≡ inferWords im
   unfolding inferWords
