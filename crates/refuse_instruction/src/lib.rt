@@ -4,7 +4,7 @@ ghost use mathlib.Core.Path.{_≡_};
 ghost use lib.Dec.{eqb, leb};
 ghost use mathlib.Core.Bool.{not};
 ghost use Rattle.base_tests.specs.Tests.{ite};
-ghost use Rattle.refuse_words.specs.Classes.{limitOf, lowestBelow, recordClass};
+ghost use Rattle.refuse_words.specs.Classes.{limitOf, lowestBelow, recordClass, wordsBelow};
 ghost use Rattle.refuse_words.specs.Classes as Classes;
 ghost use Rattle.refuse_instruction.specs.EffectClasses.{uses, middleLimit, effectLimit, countClass, numbersClass, effectClass, placeClass, instructionClass};
 ghost use Rattle.lent_slices.specs.Lent.{old};
@@ -12,12 +12,14 @@ use def_effects::Place;
 use lent_diagnostics::instance_count;
 use lent_layout::CANDIDATES;
 use lent_layout::DIAGNOSTICS;
+use lent_layout::EFFECT_WORDS;
 use lent_slices::wide32;
 use lent_tables::Table;
 use lent_tables::field;
 use refuse_class::lower;
 use refuse_words::place_limit;
 use refuse_words::run_limit;
+use refuse_words::stray_from;
 use refuse_words::used_if;
 use refuse_words::word_class;
 ghost use Rattle.lent_layout.specs.Layout.{candidateTable};
@@ -155,7 +157,7 @@ fn effect_limit(
 
 // The class of the words of an effect's record, each by its limit.
 // Code and count of captures are those of the record.
-fn effect_words(
+fn all_words(
     t: Table,
     xs: &[u32],
     i: usize,
@@ -176,6 +178,57 @@ fn effect_words(
         w += 1;
     }
     worst
+}
+
+// The class of the first 18 words, those before the captures.
+fn head_words(
+    t: Table,
+    xs: &[u32],
+    i: usize,
+    identifiers: u32,
+    functions: u32,
+    diagnostics: u32,
+    code: u32,
+    n: u32,
+) -> u32
+    ensures { λ r. ⌜ r ≡ wordsBelow t (old xs) (effectLimit identifiers functions diagnostics code n) i 18 ⌝ }
+{
+    let mut worst: u32 = 0;
+    let mut w: usize = 0;
+    while w < 18 {
+        let limit = effect_limit(identifiers, functions, diagnostics, code, n, w);
+        worst = lower(worst, word_class(limit, field(t, xs, i, w)));
+        w += 1;
+    }
+    worst
+}
+
+// The class of the words of an effect's record. Only a CreateFunction has captures;
+// of any other effect the 80 words of captures have no use, and are tested at once.
+fn effect_words(
+    t: Table,
+    xs: &[u32],
+    i: usize,
+    identifiers: u32,
+    functions: u32,
+    diagnostics: u32,
+    code: u32,
+    n: u32,
+) -> u32
+    ensures { λ r. ⌜ r ≡ recordClass t (old xs) (effectLimit identifiers functions diagnostics code n) i ⌝ }
+{
+    if is_code(code, 13) != 0 {
+        return all_words(t, xs, i, identifiers, functions, diagnostics, code, n);
+    }
+    if t.width != 98 {
+        return all_words(t, xs, i, identifiers, functions, diagnostics, code, n);
+    }
+    if i >= wide32(t.count) {
+        return all_words(t, xs, i, identifiers, functions, diagnostics, code, n);
+    }
+    let head = head_words(t, xs, i, identifiers, functions, diagnostics, code, n);
+    let from = wide32(t.base) + i * EFFECT_WORDS + 18;
+    lower(head, stray_from(xs, from, 80))
 }
 
 // 2 where an effect with captures has more than sixteen.

@@ -1,66 +1,99 @@
-use borrow.Author.Needs.{needs}
-use mathlib.Core.Path.{_≡_}
-use Prim.Native.Nat.{_-_, _≤_}
 use native.Mathlib.Omega.{arith}
-use Rattle.refuse_words.specs.Classes.{wordsBelow}
-use Rattle.refuse_words.specs.Laws.Class.{words-none, words-more, words-end}
-use Rattle.refuse_instruction.specs.EffectClasses.{effectLimit}
+use mathlib.Core.Path.{refl}
+use Rattle.refuse_instruction.specs.Laws.Split.{no-captures, words-split, split-from}
+use borrow.Author.Needs.{needs}
 use Rattle.refuse_instruction.proofs.effect_words.Statement.{statement}
 use Rattle.refuse_instruction.proofs.effect_words.Tie as tie
+use Rattle.refuse_instruction.proofs.effect_words.Reads as reads
+use Rattle.refuse_instruction.proofs.effect_words.Lts as lts
+use Rattle.lent_slices.proofs.wide32.Reads as wide32-reads
+use Rattle.refuse_class.proofs.lower.Reads as lower-reads
+use Rattle.refuse_instruction.proofs.all_words.Reads as all-words-reads
+use Rattle.refuse_instruction.proofs.head_words.Reads as head-words-reads
+use Rattle.refuse_instruction.proofs.is_code.Reads as is-code-reads
+use Rattle.refuse_words.proofs.stray_from.Reads as stray-from-reads
 
-abbrev Inv-loop : tie.InvT-loop
-Inv-loop t xs i identifiers functions diagnostics code n width worst₀ w₀ worst w = (w ≤ width) × (worst ≡ wordsBelow t xs (effectLimit identifiers functions diagnostics code n) i w)
+-- src/lib.rt:220:8
+is-code-requires : tie.Need-is-code-requires
+is-code-requires c κs = search needs
 
-abbrev μ-loop : tie.MeasureT-loop
-μ-loop t xs i identifiers functions diagnostics code n width worst₀ w₀ worst w = width - w
+-- src/lib.rt:221:9
+all-words-requires : tie.Need-all-words-requires
+all-words-requires c κs = search needs
 
-wide32-requires : tie.Need-wide32-requires Inv-loop μ-loop
+-- src/lib.rt:221:9
+returns : tie.Need-returns
+returns c = c .all-words .ensures
+
+-- src/lib.rt:224:9
+all-words-requires-2 : tie.Need-all-words-requires-2
+all-words-requires-2 c κs = search needs
+
+-- src/lib.rt:224:9
+returns-2 : tie.Need-returns-2
+returns-2 c = c .all-words2 .ensures
+
+-- src/lib.rt:226:13
+wide32-requires : tie.Need-wide32-requires
 wide32-requires c κs = search needs
 
-loop-holds : tie.Need-loop-holds Inv-loop μ-loop
-loop-holds c = (omega arith, words-none _ _ _ _)
+-- src/lib.rt:227:9
+all-words-requires-3 : tie.Need-all-words-requires-3
+all-words-requires-3 c κs = search needs
 
-effect-limit-requires : tie.Need-effect-limit-requires Inv-loop μ-loop
-effect-limit-requires c κs = search needs
+-- src/lib.rt:227:9
+returns-3 : tie.Need-returns-3
+returns-3 c = c .all-words3 .ensures
 
-field-requires : tie.Need-field-requires Inv-loop μ-loop
-field-requires c κs = search needs
+-- src/lib.rt:229:9
+head-words-requires : tie.Need-head-words-requires
+head-words-requires c κs = search needs
 
-word-class-requires : tie.Need-word-class-requires Inv-loop μ-loop
-word-class-requires c κs = search needs
+-- src/lib.rt:230:16
+wide32-requires-2 : tie.Need-wide32-requires-2
+wide32-requires-2 c κs = search needs
 
-lower-requires : tie.Need-lower-requires Inv-loop μ-loop
+-- src/lib.rt:230:33
+mul-from : tie.Need-mul-from
+mul-from c = omega (arith, c .before .before .before .wide32 .ensures)
+
+-- src/lib.rt:230:16
+add-from : tie.Need-add-from
+add-from c = omega (arith, c .before .before .before .wide32 .ensures)
+
+-- src/lib.rt:230:16
+add-from-2 : tie.Need-add-from-2
+add-from-2 c = omega (arith, c .before .before .before .wide32 .ensures)
+
+-- src/lib.rt:231:17
+stray-from-requires : tie.Need-stray-from-requires
+stray-from-requires c κs = search needs
+
+-- src/lib.rt:231:5
+lower-requires : tie.Need-lower-requires
 lower-requires c κs = search needs
 
-add-w : tie.Need-add-w Inv-loop μ-loop
-add-w c = search needs
-
-loop-less : tie.Need-loop-less Inv-loop μ-loop
-loop-less c = search needs
-
-loop-again : tie.Need-loop-again Inv-loop μ-loop
-loop-again c =
-    let at-field = c .before .before in
-    let at-effect-limit = at-field .before in
-    let at-loop = at-effect-limit .before .before in
-    (omega arith, words-more _ _ _ _ _ _ _ _ _ _ (at-loop .loop .inv .1) (at-effect-limit .effect-limit .ensures) (at-field .field .ensures) (c .before .word-class .ensures) (c .lower .ensures))
-
-returns : tie.Need-returns Inv-loop μ-loop
-returns c = words-end _ _ _ _ _ _ (omega (arith, c .before .loop .inv .0, c .before .before .wide32 .ensures)) (omega (arith, c .before .loop .inv .0, c .before .before .wide32 .ensures)) (c .before .loop .inv .1)
+-- src/lib.rt:208:1
+returns-4 : tie.Need-returns-4
+returns-4 c = words-split (c .before .before .before .before .before .before .before .before .before .before .before .args .t) _ (c .before .before .before .before .before .before .before .before .before .before .before .args .i) _ _ _ _ _ (omega arith) (omega (arith, c .before .before .before .before .before .wide32 .ensures)) (no-captures _ _ (c .before .before .before .before .before .before .before .before .before .is-code .ensures) (omega arith)) _ _ _ _ (c .before .before .before .head-words .ensures) (split-from (c .before .before .before .before .before .before .before .before .before .before .before .args .t) (c .before .before .before .before .before .before .before .before .before .before .before .args .i) _ (c .before .before .wide322 .ensures) (omega arith)) (c .before .stray-from .ensures) (c .lower .ensures)
 
 pub effect-words-spec : {M : Type 1} → statement M
 effect-words-spec =
     tie.close
     (tie.spec
-    Inv-loop
-    μ-loop
+    is-code-requires
+    all-words-requires
+    returns
+    all-words-requires-2
+    returns-2
     wide32-requires
-    loop-holds
-    effect-limit-requires
-    field-requires
-    word-class-requires
+    all-words-requires-3
+    returns-3
+    head-words-requires
+    wide32-requires-2
+    mul-from
+    add-from
+    add-from-2
+    stray-from-requires
     lower-requires
-    add-w
-    loop-less
-    loop-again
-    returns)
+    returns-4)
