@@ -1,0 +1,30 @@
+-- `image_lines::put_effect_line` meets its contract: an effect that is listed has a line. Assumes nothing.
+use mathlib.Core.Path.{ap, _∙_}
+use Rattle.lent_effects.specs.Records.{headIn}
+use Rattle.image_pieces.specs.Laws.Ways.{effect-listed, effect-past}
+use borrow.Author.Needs.{needs}
+use Rattle.image_lines.proofs.put_effect_line.Statement.{statement}
+use Rattle.image_lines.proofs.put_effect_line.Tie as tie
+
+returns : tie.Need-returns
+returns c = effect-past _ _ _ _ (c .if1 .taken)
+
+wide32-requires : tie.Need-wide32-requires
+wide32-requires c κs = search needs
+
+effect-in-requires : tie.Need-effect-in-requires
+effect-in-requires c κs = search needs
+
+put-effect-requires : tie.Need-put-effect-requires
+put-effect-requires c κs = search needs
+
+same-length : tie.Need-same-length
+same-length c = search needs
+
+returns-2 : tie.Need-returns-2
+returns-2 c = effect-listed _ _ _ _ _ _ (c .before .before .before .before .before .before .if1 .left) (c .before .before .before .before .effect-in .ensures ∙ ap (headIn _ _) (c .before .before .before .before .before .wide32 .ensures)) (c .before .before .put-effect .ensures)
+
+pub put-effect-line-spec : {M : Type 1} → statement M
+put-effect-line-spec =
+    tie.close
+    (tie.spec returns wide32-requires effect-in-requires put-effect-requires same-length returns-2)
