@@ -2,7 +2,7 @@
 use mathlib.Core.Path.{ap, _∙_}
 use Rattle.lent_copies.specs.Copies.{zeros}
 use Rattle.image_outcome.specs.Inferring.{piecesOf}
-use Rattle.image_outcome.specs.Laws.Inferring.{leaves-written}
+use Rattle.image_outcome.specs.Laws.Pieces.{leaves-written}
 use Rattle.image_means.specs.Laws.Inferred.{inferred-is}
 use borrow.Author.Needs.{needs}
 use Rattle.image_infer.proofs.infer_image.Statement.{statement}
@@ -42,7 +42,14 @@ same-length-8 : tie.Need-same-length-8
 same-length-8 c = search needs
 
 returns : tie.Need-returns
-returns c = let e = c .before .before .before .before .before .before .settle .ensures ∙ c .before .before .before .before .before .before .before .before .before .before .before .before .before .before .before .before .before .before .before .before .before .before .before .before .before .before .before .before .before .before .before .before .before .before .before .before .before .before .before .before .before .before .run-image .ensures in (e, ap piecesOf e ∙ leaves-written _ _ _ _ _ _ _ _ _, c .before .before .before .before .before .before .before .before .before .before .before .before .before .before .before .before .before .before .before .before .clear-work .ensures .0 ∙ ap zeros (c .before .before .before .before .before .before .before .before .before .before .before .before .before .before .before .before .before .before .before .before .before .before .before .before .before .before .before .before .before .before .before .before .before .before .before .before .before .before .before .before .before .before .run-image .kept .1 .0), c .before .before .before .before .before .before .before .before .before .before .before .before .before .before .before .before .before .before .before .before .clear-work .ensures .1 ∙ ap zeros (c .before .before .before .before .before .before .before .before .before .before .before .before .before .before .before .before .before .before .before .before .before .before .before .before .before .before .before .before .before .before .before .before .before .before .before .before .before .before .before .before .before .before .run-image .kept .1 .1 .1 .1 .0), c .before .before .before .before .before .before .before .before .before .before .before .before .before .before .before .before .before .before .before .before .clear-work .ensures .2 ∙ ap zeros (c .before .before .before .before .before .before .before .before .before .before .before .before .before .before .before .before .before .before .before .before .before .before .before .before .before .before .before .before .before .before .before .before .before .before .before .before .before .before .before .before .before .before .run-image .kept .1 .1 .1 .1 .1 .0), c .before .before .before .before .before .before .before .before .before .before .before .before .before .before .before .before .before .before .before .before .clear-work .ensures .3 ∙ ap zeros (c .before .before .before .before .before .before .before .before .before .before .before .before .before .before .before .before .before .before .before .before .before .before .before .before .before .before .before .before .before .before .before .before .before .before .before .before .before .before .before .before .before .before .run-image .kept .1 .1 .1 .1 .1 .1 .1 .0), c .before .before .before .before .before .before .before .before .before .before .before .before .before .before .before .before .before .before .before .before .clear-work .ensures .4 ∙ ap zeros (c .before .before .before .before .before .before .before .before .before .before .before .before .before .before .before .before .before .before .before .before .before .before .before .before .before .before .before .before .before .before .before .before .before .before .before .before .before .before .before .before .before .before .run-image .kept .1 .1 .1 .1 .1 .1 .1 .1 .0), inferred-is _)
+returns c =
+    let at-settle = c .before .before .before .before .before .before in
+    let before-14 = at-settle .before .before .before .before .before .before .before .before in
+    let at-clear-work = before-14 .before .before .before .before .before .before in
+    let before-28 = at-clear-work .before .before .before .before .before .before .before .before in
+    let before-36 = before-28 .before .before .before .before .before .before .before .before in
+    let at-run-image = before-36 .before .before .before .before .before .before in
+    let e = at-settle .settle .ensures ∙ at-run-image .run-image .ensures in (e, ap piecesOf e ∙ leaves-written _ _ _ _ _ _ _ _ _, at-clear-work .clear-work .ensures .0 ∙ ap zeros (at-run-image .run-image .kept .1 .0), at-clear-work .clear-work .ensures .1 ∙ ap zeros (at-run-image .run-image .kept .1 .1 .1 .1 .0), at-clear-work .clear-work .ensures .2 ∙ ap zeros (at-run-image .run-image .kept .1 .1 .1 .1 .1 .0), at-clear-work .clear-work .ensures .3 ∙ ap zeros (at-run-image .run-image .kept .1 .1 .1 .1 .1 .1 .1 .0), at-clear-work .clear-work .ensures .4 ∙ ap zeros (at-run-image .run-image .kept .1 .1 .1 .1 .1 .1 .1 .1 .0), inferred-is _)
 
 pub infer-image-spec : {M : Type 1} → statement M
 infer-image-spec =

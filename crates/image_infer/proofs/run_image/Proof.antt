@@ -21,7 +21,11 @@ same-length-3 : tie.Need-same-length-3
 same-length-3 c = search needs
 
 returns : tie.Need-returns
-returns c = leaves-memory (c .before .before .before .before .before .before .before .before .before .before .before .before .before .before .before .args .bytes .now) _ (c .before .before .before .before .before .before .before .before .before .before .before .before .before .before .before .args .values .now) (c .before .before .before .before .before .before .before .before .before .before .before .before .before .before .before .args .sets .now) (c .before .before .before .before .before .before .before .before .before .before .before .before .before .before .before .args .context .now) (c .before .before .before .before .before .before .before .before .before .before .before .before .before .before .before .args .candidates .now) _ _ _ (c .before .before .before .before .before .before .before .before .before .before .before .before .before .before .before .args .output .now) _ refl (sym (c .before .if1 .taken) ∙ c .before .before .memory-wrong .ensures) (c .refused .ensures)
+returns c =
+    let at-memory-wrong = c .before .before in
+    let before-10 = at-memory-wrong .before .before .before .before .before .before .before .before in
+    let at-args = before-10 .before .before .before .before .before in
+    leaves-memory (at-args .args .bytes .now) _ (at-args .args .values .now) (at-args .args .sets .now) (at-args .args .context .now) (at-args .args .candidates .now) _ _ _ (at-args .args .output .now) _ refl (sym (c .before .if1 .taken) ∙ at-memory-wrong .memory-wrong .ensures) (c .refused .ensures)
 
 read-image-requires : tie.Need-read-image-requires
 read-image-requires c κs = search needs
@@ -54,13 +58,25 @@ same-length-11 : tie.Need-same-length-11
 same-length-11 c = search needs
 
 returns-2 : tie.Need-returns-2
-returns-2 c = leaves-refused (c .before .before .before .before .before .before .before .before .before .before .before .before .before .before .before .before .before .before .before .before .before .before .before .before .before .before .before .before .before .before .before .before .before .args .bytes .now) _ (c .before .before .before .before .before .before .before .before .before .before .before .before .before .before .before .before .before .before .before .before .before .before .before .before .before .before .before .before .before .before .before .before .before .args .values .now) (c .before .before .before .before .before .before .before .before .before .before .before .before .before .before .before .before .before .before .before .before .before .before .before .before .before .before .before .before .before .before .before .before .before .args .sets .now) (c .before .before .before .before .before .before .before .before .before .before .before .before .before .before .before .before .before .before .before .before .before .before .before .before .before .before .before .before .before .before .before .before .before .args .context .now) (c .before .before .before .before .before .before .before .before .before .before .before .before .before .before .before .before .before .before .before .before .before .before .before .before .before .before .before .before .before .before .before .before .before .args .candidates .now) _ _ _ _ (c .before .before .before .before .before .before .before .before .before .before .before .before .before .before .before .before .before .before .before .before .before .before .before .before .before .before .before .before .before .before .before .before .before .args .output .now) _ refl (sym (c .before .before .before .before .before .before .before .before .before .before .before .before .before .before .before .before .before .before .before .if1 .left) ∙ c .before .before .before .before .before .before .before .before .before .before .before .before .before .before .before .before .before .before .before .before .memory-wrong .ensures) (c .before .before .before .before .before .before .before .before .before .before .before .before .before .read-image .ensures .0) (c .before .if2 .taken) (c .refused2 .ensures)
+returns-2 c =
+    let before-8 = c .before .before .before .before .before .before .before .before in
+    let at-read-image = before-8 .before .before .before .before .before in
+    let at-if1 = at-read-image .before .before .before .before .before .before in
+    let at-memory-wrong = at-if1 .before in
+    let before-28 = at-memory-wrong .before .before .before .before .before .before .before .before in
+    let at-args = before-28 .before .before .before .before .before in
+    leaves-refused (at-args .args .bytes .now) _ (at-args .args .values .now) (at-args .args .sets .now) (at-args .args .context .now) (at-args .args .candidates .now) _ _ _ _ (at-args .args .output .now) _ refl (sym (at-if1 .if1 .left) ∙ at-memory-wrong .memory-wrong .ensures) (at-read-image .read-image .ensures .0) (c .before .if2 .taken) (c .refused2 .ensures)
 
 run-tables-requires : tie.Need-run-tables-requires
 run-tables-requires c κs = search needs
 
 same-length-12 : tie.Need-same-length-12
-same-length-12 c = c .before .before .before .before .before .before .before .before .before .before .before .before .before .before .before .before .before .before .before .before .before .before .before .before .before .before .before .before .before .before .before .before .read-image .kept .1 .0
+same-length-12 c =
+    let before-8 = c .before .before .before .before .before .before .before .before in
+    let before-16 = before-8 .before .before .before .before .before .before .before .before in
+    let before-24 = before-16 .before .before .before .before .before .before .before .before in
+    let at-read-image = before-24 .before .before .before .before .before .before .before .before in
+    at-read-image .read-image .kept .1 .0
 
 same-length-13 : tie.Need-same-length-13
 same-length-13 c = search needs
@@ -84,7 +100,17 @@ same-length-19 : tie.Need-same-length-19
 same-length-19 c = search needs
 
 returns-3 : tie.Need-returns-3
-returns-3 c = leaves-job (c .before .before .before .before .before .before .before .before .before .before .before .before .before .before .before .before .before .before .before .before .before .before .before .before .before .before .before .before .before .before .before .before .before .before .before .before .before .before .before .before .before .before .before .before .before .before .before .before .before .before .before .before .args .bytes .now) _ (c .before .before .before .before .before .before .before .before .before .before .before .before .before .before .before .before .before .before .before .before .before .before .before .before .before .before .before .before .before .before .before .before .before .before .before .before .before .before .before .before .before .before .before .before .before .before .before .before .before .before .before .before .args .values .now) (c .before .before .before .before .before .before .before .before .before .before .before .before .before .before .before .before .before .before .before .before .before .before .before .before .before .before .before .before .before .before .before .before .before .before .before .before .before .before .before .before .before .before .before .before .before .before .before .before .before .before .before .before .args .sets .now) (c .before .before .before .before .before .before .before .before .before .before .before .before .before .before .before .before .before .before .before .before .before .before .before .before .before .before .before .before .before .before .before .before .before .before .before .before .before .before .before .before .before .before .before .before .before .before .before .before .before .before .before .before .args .context .now) (c .before .before .before .before .before .before .before .before .before .before .before .before .before .before .before .before .before .before .before .before .before .before .before .before .before .before .before .before .before .before .before .before .before .before .before .before .before .before .before .before .before .before .before .before .before .before .before .before .before .before .before .before .args .candidates .now) _ _ _ _ (c .before .before .before .before .before .before .before .before .before .before .before .before .before .before .before .before .before .before .before .before .before .before .before .before .before .before .before .before .before .before .before .before .before .before .before .before .before .before .before .before .before .before .before .before .before .before .before .before .before .before .before .before .args .output .now) (c .before .before .before .before .before .before .before .before .before .before .before .before .before .before .before .before .before .before .before .before .before .before .before .before .before .before .before .before .before .before .before .before .before .before .before .before .before .before .before .before .before .before .before .before .before .before .before .before .before .before .before .before .args .scratch64 .now) (c .before .before .before .before .before .before .before .before .before .before .before .before .before .before .before .before .before .before .before .before .before .before .before .before .before .before .before .before .before .before .before .before .before .before .before .before .before .before .before .before .before .before .before .before .before .before .before .before .before .before .before .before .args .scratch32 .now) _ (sym (c .before .before .before .before .before .before .before .before .before .before .before .before .before .before .before .before .before .before .before .before .before .before .before .before .before .before .before .before .before .before .before .before .before .before .before .before .before .before .if1 .left) ∙ c .before .before .before .before .before .before .before .before .before .before .before .before .before .before .before .before .before .before .before .before .before .before .before .before .before .before .before .before .before .before .before .before .before .before .before .before .before .before .before .memory-wrong .ensures) refl refl refl (c .before .before .before .before .before .before .before .before .before .before .before .before .before .before .before .before .before .before .before .before .before .before .before .before .before .before .before .before .before .before .before .before .read-image .ensures .0) (c .before .before .before .before .before .before .before .before .before .before .before .before .before .before .before .before .before .before .before .before .if2 .left) (c .before .before .before .before .before .before .before .before .before .before .before .before .before .before .before .before .before .before .before .before .before .before .before .before .before .before .before .before .before .before .before .before .read-image .kept .1 .1 .1 .0) (c .before .before .before .before .before .before .before .before .before .before .before .before .before .before .before .before .before .before .before .before .before .before .before .before .before .before .before .before .before .before .before .before .read-image .kept .1 .1 .1 .1 .1 .0) (c .before .before .before .before .before .before .before .before .before .before .before .before .run-tables .ensures)
+returns-3 c =
+    let before-8 = c .before .before .before .before .before .before .before .before in
+    let at-run-tables = before-8 .before .before .before .before in
+    let at-if2 = at-run-tables .before .before .before .before .before .before .before .before in
+    let before-28 = at-if2 .before .before .before .before .before .before .before .before in
+    let at-read-image = before-28 .before .before .before .before in
+    let at-if1 = at-read-image .before .before .before .before .before .before in
+    let at-memory-wrong = at-if1 .before in
+    let before-47 = at-memory-wrong .before .before .before .before .before .before .before .before in
+    let at-args = before-47 .before .before .before .before .before in
+    leaves-job (at-args .args .bytes .now) _ (at-args .args .values .now) (at-args .args .sets .now) (at-args .args .context .now) (at-args .args .candidates .now) _ _ _ _ (at-args .args .output .now) (at-args .args .scratch64 .now) (at-args .args .scratch32 .now) _ (sym (at-if1 .if1 .left) ∙ at-memory-wrong .memory-wrong .ensures) refl refl refl (at-read-image .read-image .ensures .0) (at-if2 .if2 .left) (at-read-image .read-image .kept .1 .1 .1 .0) (at-read-image .read-image .kept .1 .1 .1 .1 .1 .0) (at-run-tables .run-tables .ensures)
 
 pub run-image-spec : {M : Type 1} → statement M
 run-image-spec =

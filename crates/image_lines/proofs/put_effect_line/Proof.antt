@@ -22,7 +22,12 @@ same-length : tie.Need-same-length
 same-length c = search needs
 
 returns-2 : tie.Need-returns-2
-returns-2 c = effect-listed _ _ _ _ _ _ (c .before .before .before .before .before .before .if1 .left) (c .before .before .before .before .effect-in .ensures ∙ ap (headIn _ _) (c .before .before .before .before .before .wide32 .ensures)) (c .before .before .put-effect .ensures)
+returns-2 c =
+    let at-put-effect = c .before .before in
+    let at-effect-in = at-put-effect .before .before in
+    let at-wide32 = at-effect-in .before in
+    let at-if1 = at-wide32 .before in
+    effect-listed _ _ _ _ _ _ (at-if1 .if1 .left) (at-effect-in .effect-in .ensures ∙ ap (headIn _ _) (at-wide32 .wide32 .ensures)) (at-put-effect .put-effect .ensures)
 
 pub put-effect-line-spec : {M : Type 1} → statement M
 put-effect-line-spec =

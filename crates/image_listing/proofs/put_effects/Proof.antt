@@ -31,13 +31,19 @@ loop-less : tie.Need-loop-less Inv-loop μ-loop
 loop-less c = search needs
 
 loop-again : tie.Need-loop-again Inv-loop μ-loop
-loop-again c = (c .before .before .put-effect-line .kept .0 ∙ c .before .before .before .before .before .loop .inv .0, lines-step _ _ _ _ _ _ (c .before .before .before .before .loop-test .taken) (c .before .before .put-effect-line .ensures) (c .before .before .before .before .before .loop .inv .1))
+loop-again c =
+    let at-put-effect-line = c .before .before in
+    let at-loop-test = at-put-effect-line .before .before in
+    let at-loop = at-loop-test .before in
+    (at-put-effect-line .put-effect-line .kept .0 ∙ at-loop .loop .inv .0, lines-step _ _ _ _ _ _ (at-loop-test .loop-test .taken) (at-put-effect-line .put-effect-line .ensures) (at-loop .loop .inv .1))
 
 same-length : tie.Need-same-length Inv-loop μ-loop
 same-length c = c .before .loop .inv .0
 
 returns : tie.Need-returns Inv-loop μ-loop
-returns c = λ h. record { bytes = lines-end _ _ _ _ _ (c .loop-test .left) (c .before .loop .inv .1); suffices = effects-suffice _ _ _ _ (λ j. omega (arith, c .before .before .shared-slice-known .given j)) h }
+returns c =
+    let at-shared-slice-known = c .before .before in
+    λ h. record { bytes = lines-end _ _ _ _ _ (c .loop-test .left) (c .before .loop .inv .1); suffices = effects-suffice _ _ _ _ (λ j. omega (arith, at-shared-slice-known .shared-slice-known .given j)) h }
 
 pub put-effects-spec : {M : Type 1} → statement M
 put-effects-spec =

@@ -1,6 +1,5 @@
 -- `image_listing::put_listed_piece` meets its contract: one law for each of its six ways. Assumes nothing.
 use mathlib.Core.Path.{refl}
-use native.Mathlib.Omega.{arith}
 use Rattle.image_pieces.specs.Laws.Ways.{as-text, no-text, listed-head, listed-set, listed-end, listed-past, writes-effects, writes-values}
 use borrow.Author.Needs.{needs}
 use Rattle.image_listing.proofs.put_listed_piece.Statement.{statement}
@@ -31,7 +30,11 @@ same-length-2 : tie.Need-same-length-2
 same-length-2 c = search needs
 
 returns-2 : tie.Need-returns-2
-returns-2 c = writes-effects _ _ _ _ _ _ _ _ _ (c .before .before .before .before .before .if1 .left) (c .before .before .before .before .if2 .taken) refl refl (c .before .before .put-effects .ensures)
+returns-2 c =
+    let at-put-effects = c .before .before in
+    let at-if2 = at-put-effects .before .before in
+    let at-if1 = at-if2 .before in
+    writes-effects _ _ _ _ _ _ _ _ _ (at-if1 .if1 .left) (at-if2 .if2 .taken) refl refl (at-put-effects .put-effects .ensures)
 
 mul-from-2 : tie.Need-mul-from-2
 mul-from-2 c = search needs

@@ -14,7 +14,11 @@ same-length : tie.Need-same-length
 same-length c = search needs
 
 returns-2 : tie.Need-returns-2
-returns-2 c = puts-refused _ _ _ _ _ _ _ _ (c .before .before .before .before .before .before .if1 .left) (c .before .before .before .before .if2 .taken) (c .before .before .put-refused-piece .ensures)
+returns-2 c =
+    let at-put-refused-piece = c .before .before in
+    let at-if2 = at-put-refused-piece .before .before in
+    let at-if1 = at-if2 .before .before in
+    puts-refused _ _ _ _ _ _ _ _ (at-if1 .if1 .left) (at-if2 .if2 .taken) (at-put-refused-piece .put-refused-piece .ensures)
 
 put-listed-piece-requires : tie.Need-put-listed-piece-requires
 put-listed-piece-requires c κs = search needs

@@ -31,7 +31,11 @@ loop-less : tie.Need-loop-less Inv-loop μ-loop
 loop-less c = search needs
 
 loop-again : tie.Need-loop-again Inv-loop μ-loop
-loop-again c = (c .before .before .put-value-line .kept .0 ∙ c .before .before .before .before .before .loop .inv .0, lines-step _ _ _ _ _ _ (c .before .before .before .before .loop-test .taken) (c .before .before .put-value-line .ensures) (c .before .before .before .before .before .loop .inv .1))
+loop-again c =
+    let at-put-value-line = c .before .before in
+    let at-loop-test = at-put-value-line .before .before in
+    let at-loop = at-loop-test .before in
+    (at-put-value-line .put-value-line .kept .0 ∙ at-loop .loop .inv .0, lines-step _ _ _ _ _ _ (at-loop-test .loop-test .taken) (at-put-value-line .put-value-line .ensures) (at-loop .loop .inv .1))
 
 same-length : tie.Need-same-length Inv-loop μ-loop
 same-length c = c .before .loop .inv .0

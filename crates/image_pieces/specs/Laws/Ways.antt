@@ -4,9 +4,7 @@ use native.Mathlib.Omega.{arith}
 use mathlib.Core.Path.{_≡_, refl, sym, ap, _∙_}
 use mathlib.Core.List.{List, [], _∷_, _++_}
 use mathlib.Core.Option.{Option, some}
-use lib.Dec.{eqb, ltb}
 use lib.ListN.{length, drop}
-use Rattle.base_tests.specs.Tests.{ite}
 use Rattle.base_tests.specs.Laws.Choice.{ite-lt, ite-ge, ite-eq, ite-ne}
 use Rattle.lent_values.specs.Cells.{valueAt}
 use Rattle.lent_sets.specs.Rows.{setAt}
@@ -56,42 +54,30 @@ module _ (s : Shown) (vs ss os : List ℕ) (k : ℕ) where
   unfolding listedPiece
   listed-head h = sym (ite-eq k 0 _ _ h)
 
-  -- from 1 on
-  after-head : (k ≡ 0 → ⊥) → (ite (ltb k 17) (effectRun os (s .count) (70 * (k - 1))) (ite (ltb k 28) (valueRun vs (93 * (k - 17) + 1)) (ite (ltb k 540) (setLine (k - 28) (setAt ss (k - 28))) (ite (eqb k 540) (line (ascii "U") (undefinedIdentifier (s .access) ∷ [])) [])))) ≡ listedPiece s vs ss os k
-  unfolding listedPiece
-  after-head h = sym (ite-ne k 0 _ _ h)
-
-  -- from 17 on
-  after-effects : 17 ≤ k → (ite (ltb k 28) (valueRun vs (93 * (k - 17) + 1)) (ite (ltb k 540) (setLine (k - 28) (setAt ss (k - 28))) (ite (eqb k 540) (line (ascii "U") (undefinedIdentifier (s .access) ∷ [])) []))) ≡ listedPiece s vs ss os k
-  after-effects h = sym (ite-ge k 17 _ _ h) ∙ after-head (λ z. omega arith)
-
-  -- from 28 on
-  after-values : 28 ≤ k → (ite (ltb k 540) (setLine (k - 28) (setAt ss (k - 28))) (ite (eqb k 540) (line (ascii "U") (undefinedIdentifier (s .access) ∷ [])) [])) ≡ listedPiece s vs ss os k
-  after-values h = sym (ite-ge k 28 _ _ h) ∙ after-effects (omega arith)
-
-  -- from 540 on
-  after-sets : 540 ≤ k → (ite (eqb k 540) (line (ascii "U") (undefinedIdentifier (s .access) ∷ [])) []) ≡ listedPiece s vs ss os k
-  after-sets h = sym (ite-ge k 540 _ _ h) ∙ after-values (omega arith)
-
   -- effects
   pub listed-effects : (k ≡ 0 → ⊥) → k < 17 → effectRun os (s .count) (70 * (k - 1)) ≡ listedPiece s vs ss os k
-  listed-effects h l = sym (ite-lt k 17 _ _ l) ∙ after-head h
+  unfolding listedPiece
+  listed-effects h l = sym (ite-ne k 0 _ _ h ∙ ite-lt k 17 _ _ l)
 
   -- values
   pub listed-values : 17 ≤ k → k < 28 → valueRun vs (93 * (k - 17) + 1) ≡ listedPiece s vs ss os k
-  listed-values h l = sym (ite-lt k 28 _ _ l) ∙ after-effects h
+  unfolding listedPiece
+  listed-values h l = sym (ite-ne k 0 _ _ (λ z. omega arith) ∙ ite-ge k 17 _ _ h ∙ ite-lt k 28 _ _ l)
 
   -- an identifier
   pub listed-set : 28 ≤ k → k < 540 → setLine (k - 28) (setAt ss (k - 28)) ≡ listedPiece s vs ss os k
-  listed-set h l = sym (ite-lt k 540 _ _ l) ∙ after-values h
+  unfolding listedPiece
+  listed-set h l = sym (ite-ne k 0 _ _ (λ z. omega arith) ∙ ite-ge k 17 _ _ (omega arith) ∙ ite-ge k 28 _ _ h ∙ ite-lt k 540 _ _ l)
 
   -- the last line
   pub listed-end : k ≡ 540 → line (ascii "U") (undefinedIdentifier (s .access) ∷ []) ≡ listedPiece s vs ss os k
-  listed-end h = sym (ite-eq k 540 _ _ h) ∙ after-sets (omega arith)
+  unfolding listedPiece
+  listed-end h = sym (ite-ne k 0 _ _ (λ z. omega arith) ∙ ite-ge k 17 _ _ (omega arith) ∙ ite-ge k 28 _ _ (omega arith) ∙ ite-ge k 540 _ _ (omega arith) ∙ ite-eq k 540 _ _ h)
 
   -- there is no other
   pub listed-past : 540 ≤ k → (k ≡ 540 → ⊥) → [] ≡ listedPiece s vs ss os k
-  listed-past h n = sym (ite-ne k 540 _ _ n) ∙ after-sets h
+  unfolding listedPiece
+  listed-past h n = sym (ite-ne k 0 _ _ (λ z. omega arith) ∙ ite-ge k 17 _ _ (omega arith) ∙ ite-ge k 28 _ _ (omega arith) ∙ ite-ge k 540 _ _ h ∙ ite-ne k 540 _ _ n)
 
   -- the runs, as the loops count them
   -- one way through `put_listed_piece` each

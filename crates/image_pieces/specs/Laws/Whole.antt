@@ -6,8 +6,6 @@ use mathlib.Core.Path.{_≡_, refl, sym, ap, ap₂, _∙_}
 use mathlib.Core.Logic.{⊎-elim}
 use mathlib.Core.List.{List, [], _∷_, _++_, append-assoc, append-nil}
 use mathlib.Core.Option.{some}
-use lib.ListN.{length}
-use Rattle.base_tests.specs.Tests.{ite}
 use Rattle.base_tests.specs.Laws.Order.{lt-or-ge}
 use Rattle.base_tests.specs.Laws.Choice.{ite-lt, ite-ge, ite-eq, ite-ne}
 use Rattle.lent_values.specs.Cells.{valueAt}
@@ -15,7 +13,7 @@ use Rattle.lent_sets.specs.Rows.{setAt}
 use Rattle.lent_effects.specs.Records.{effectIn}
 use Rattle.lent_context.specs.Lent.{effectsIn}
 use Rattle.lent_layout.specs.Layout.{output}
-use Rattle.def_image.specs.Listing.{ascii, line, linesFrom, effectRow, effectLines, valueLine, setLine, undefinedIdentifier, shownLines, refusalLine}
+use Rattle.def_image.specs.Listing.{ascii, line, linesFrom, effectRow, effectLines, valueLine, setLine, shownLines, refusalLine}
 use Rattle.image_text.specs.Texts.{lentListing}
 use Rattle.image_text.specs.Laws.Loops.{effects-length}
 use Rattle.image_pieces.specs.declared.Shown.{Shown}

@@ -49,13 +49,17 @@ slice-aggregate-apply-signature : tie.Need-slice-aggregate-apply-signature
 slice-aggregate-apply-signature c = sym (length-take-le _ _ (c .before .before .before .before .before .before .if1 .left))
 
 slice-aggregate-apply-signature-2 : tie.Need-slice-aggregate-apply-signature-2
-slice-aggregate-apply-signature-2 c = sym (length-take-le _ _ (c .before .before .before .before .before .before .before .if2 .left))
+slice-aggregate-apply-signature-2 c =
+    let at-if2 = c .before .before .before .before .before .before .before in
+    sym (length-take-le _ _ (at-if2 .if2 .left))
 
 slice-relend-prefix-apply-signature-2 : tie.Need-slice-relend-prefix-apply-signature-2
 slice-relend-prefix-apply-signature-2 c = search needs
 
 slice-aggregate-apply-signature-3 : tie.Need-slice-aggregate-apply-signature-3
-slice-aggregate-apply-signature-3 c = sym (length-take-le _ _ (c .before .before .before .before .before .before .before .before .if3 .left))
+slice-aggregate-apply-signature-3 c =
+    let at-if3 = c .before .before .before .before .before .before .before .before in
+    sym (length-take-le _ _ (at-if3 .if3 .left))
 
 apply-signature-requires : tie.Need-apply-signature-requires
 apply-signature-requires c κs = search needs
@@ -85,7 +89,16 @@ same-length-6 : tie.Need-same-length-6
 same-length-6 c = search needs
 
 returns-4 : tie.Need-returns-4
-returns-4 c = λ h a b. runs-job _ _ _ _ _ _ _ _ _ _ _ _ _ _ _ _ _ _ _ _ (ap (λ (x : ℕ). 16 * x) (c .before .before .before .before .before .before .before .before .before .before .before .before .before .before .before .before .before .before .before .before .before .before .before .before .before .before .before .before .before .before .before .wide .ensures)) (ap (λ (x : ℕ). Layout.effectWords * x) (c .before .before .before .before .before .before .before .before .before .before .before .before .before .before .before .before .before .before .before .before .before .before .before .before .before .before .before .before .before .before .wide2 .ensures)) refl (c .before .before .before .before .before .before .before .before .before .before .before .before .before .before .before .before .before .before .before .before .before .before .before .before .before .before .before .before .before .if1 .left) (c .before .before .before .before .before .before .before .before .before .before .before .before .before .before .before .before .before .before .before .before .before .before .before .before .before .before .before .if3 .left) a b (c .before .before .before .before .before .before .before .before .before .before .before .before .before .before .before .before .before .apply-signature .ensures .0) (c .before .before .before .before .before .before .before .before .before .before .before .before .before .before .before .before .before .apply-signature .kept .1 .0) (c .before .before .before .clear-from .ensures) (c .shown-of .ensures)
+returns-4 c =
+    let at-clear-from = c .before .before .before in
+    let before-11 = at-clear-from .before .before .before .before .before .before .before .before in
+    let at-apply-signature = before-11 .before .before .before .before .before .before in
+    let before-25 = at-apply-signature .before .before .before .before .before .before .before .before in
+    let at-if3 = before-25 .before .before in
+    let at-if1 = at-if3 .before .before in
+    let at-wide2 = at-if1 .before in
+    let at-wide = at-wide2 .before in
+    λ h a b. runs-job _ _ _ _ _ _ _ _ _ _ _ _ _ _ _ _ _ _ _ _ (ap (λ (x : ℕ). 16 * x) (at-wide .wide .ensures)) (ap (λ (x : ℕ). Layout.effectWords * x) (at-wide2 .wide2 .ensures)) refl (at-if1 .if1 .left) (at-if3 .if3 .left) a b (at-apply-signature .apply-signature .ensures .0) (at-apply-signature .apply-signature .kept .1 .0) (at-clear-from .clear-from .ensures) (c .shown-of .ensures)
 
 pub run-tables-spec : {M : Type 1} → statement M
 run-tables-spec =

@@ -26,7 +26,12 @@ same-length-3 : tie.Need-same-length-3
 same-length-3 c = search needs
 
 returns-2 : tie.Need-returns-2
-returns-2 c = settled-zero _ _ _ _ _ _ _ (c .before .before .before .before .before .before .before .before .before .before .before .before .if1 .left) (c .before .before .before .before .before .before .before .before .before .before .clear64 .ensures) (c .before .before .before .before .before .before .clear642 .ensures) (c .before .before .clear32 .ensures)
+returns-2 c =
+    let at-clear32 = c .before .before in
+    let at-clear642 = at-clear32 .before .before .before .before in
+    let at-clear64 = at-clear642 .before .before .before .before in
+    let at-if1 = at-clear64 .before .before in
+    settled-zero _ _ _ _ _ _ _ (at-if1 .if1 .left) (at-clear64 .clear64 .ensures) (at-clear642 .clear642 .ensures) (at-clear32 .clear32 .ensures)
 
 pub settle-spec : {M : Type 1} → statement M
 settle-spec =

@@ -13,11 +13,11 @@ use Rattle.lent_sets.specs.Laws.Row.{Walk, walk-start, walk-step, walk-end, non
 use Rattle.def_effects.specs.declared.Place.{Place}
 use Rattle.lent_effects.specs.declared.AliasingEffect.{AliasingEffect as Head}
 use Rattle.lent_effects.specs.declared.AliasingEffect.the-variants as Head
-use Rattle.lent_effects.specs.Records.{headIn, effectIn, effectWith}
+use Rattle.lent_effects.specs.Records.{effectWith}
 use Rattle.lent_context.specs.Lent.{effectsIn}
 use Rattle.def_image.specs.Listing.{ascii, newline, shown, shownAll, line, linesFrom, effectRow, mutationReason, row, place, setLine, orAbsent}
 use Rattle.image_text.specs.Texts.{Cursor, putAll, column, columns, headLine}
-use Rattle.image_text.specs.Laws.Text.{then-put, put-append}
+use Rattle.image_text.specs.Laws.Text.{put-append}
 use Rattle.image_text.specs.Laws.Lines.{line-word, line-column}
 use Rattle.lent_layout.specs.Layout.{output}
 

@@ -34,10 +34,25 @@ noted-requires : tie.Need-noted-requires Inv-loop μ-loop
 noted-requires c κs = search needs
 
 loop-less : tie.Need-loop-less Inv-loop μ-loop
-loop-less c = c .before .before .before .before .noted .ensures (c .before .before .before .before .before .before .before .before .before .before .before .before .before .before .before .before .before .before .before .before .before .before .before .before .before .before .before .before .before .before .before .before .before .before .before .before .before .before .before .before .before .if1 .taken)
+loop-less c =
+    let at-noted = c .before .before .before .before in
+    let before-12 = at-noted .before .before .before .before .before .before .before .before in
+    let before-20 = before-12 .before .before .before .before .before .before .before .before in
+    let before-28 = before-20 .before .before .before .before .before .before .before .before in
+    let before-36 = before-28 .before .before .before .before .before .before .before .before in
+    let at-if1 = before-36 .before .before .before .before .before in
+    at-noted .noted .ensures (at-if1 .if1 .taken)
 
 loop-again : tie.Need-loop-again Inv-loop μ-loop
-loop-again c = (c .before .before .before .before .before .before .before .before .before .before .before .before .before .before .before .before .before .before .before .before .before .before .before .before .before .before .before .before .before .before .before .before .before .before .before .before .before .before .read-image .kept .1 .0 ∙ c .before .before .before .before .before .before .before .before .before .before .before .before .before .before .before .before .before .before .before .before .before .before .before .before .before .before .before .before .before .before .before .before .before .before .before .before .before .before .before .before .before .before .before .loop .inv .0, c .before .before .before .before .before .before .before .before .before .before .before .before .before .before .before .before .before .before .before .before .before .before .before .before .before .before .infer-image .kept .1 .0 ∙ c .before .before .before .before .before .before .before .before .before .before .before .before .before .before .before .before .before .before .before .before .before .before .before .before .before .before .before .before .before .before .before .before .before .before .before .before .before .before .before .before .before .before .before .loop .inv .1, c .before .before .before .before .before .before .before .before .before .before .before .before .before .before .before .before .before .before .before .before .before .before .before .before .before .before .infer-image .kept .1 .1 .0 ∙ c .before .before .before .before .before .before .before .before .before .before .before .before .before .before .before .before .before .before .before .before .before .before .before .before .before .before .before .before .before .before .before .before .before .before .before .before .before .before .before .before .before .before .before .loop .inv .2, c .before .before .before .before .before .before .before .before .before .before .before .before .before .before .before .before .before .before .before .before .before .before .before .before .before .before .infer-image .kept .1 .1 .1 .0 ∙ c .before .before .before .before .before .before .before .before .before .before .before .before .before .before .before .before .before .before .before .before .before .before .before .before .before .before .before .before .before .before .before .before .before .before .before .before .before .before .before .before .before .before .before .loop .inv .3, c .before .before .before .before .before .before .before .before .before .before .before .before .before .before .before .before .before .before .before .before .before .before .before .before .before .before .infer-image .kept .1 .1 .1 .1 .0 ∙ c .before .before .before .before .before .before .before .before .before .before .before .before .before .before .before .before .before .before .before .before .before .before .before .before .before .before .before .before .before .before .before .before .before .before .before .before .before .before .before .before .before .before .before .loop .inv .4, c .before .before .before .before .before .before .before .before .before .before .before .before .before .before .before .before .before .before .before .before .before .before .before .before .before .before .infer-image .kept .1 .1 .1 .1 .1 .0 ∙ c .before .before .before .before .before .before .before .before .before .before .before .before .before .before .before .before .before .before .before .before .before .before .before .before .before .before .before .before .before .before .before .before .before .before .before .before .before .before .before .before .before .before .before .loop .inv .5, c .before .before .before .before .before .before .before .before .before .before .before .before .before .before .before .before .before .before .before .before .before .before .before .before .before .before .infer-image .kept .1 .1 .1 .1 .1 .1 .0 ∙ c .before .before .before .before .before .before .before .before .before .before .before .before .before .before .before .before .before .before .before .before .before .before .before .before .before .before .before .before .before .before .before .before .before .before .before .before .before .before .before .before .before .before .before .loop .inv .6, c .before .before .before .before .before .before .before .before .before .before .before .before .before .before .before .before .before .before .before .before .before .before .before .before .before .before .infer-image .kept .1 .1 .1 .1 .1 .1 .1 .0 ∙ c .before .before .before .before .before .before .before .before .before .before .before .before .before .before .before .before .before .before .before .before .before .before .before .before .before .before .before .before .before .before .before .before .before .before .before .before .before .before .before .before .before .before .before .loop .inv .7, c .before .before .before .before .before .before .before .before .before .before .before .before .before .before .before .before .before .before .before .before .before .before .before .before .before .before .infer-image .kept .1 .1 .1 .1 .1 .1 .1 .1 .0 ∙ c .before .before .before .before .before .before .before .before .before .before .before .before .before .before .before .before .before .before .before .before .before .before .before .before .before .before .before .before .before .before .before .before .before .before .before .before .before .before .before .before .before .before .before .loop .inv .8, c .before .before .before .before .noted .kept .1 .1 .1 .1 .1 .1 .1 .0 ∙ c .before .before .before .before .before .before .before .before .before .before .before .before .before .before .before .before .before .before .before .before .before .before .before .before .before .before .before .before .before .before .before .before .before .before .before .before .before .before .before .before .before .before .before .loop .inv .9, c .before .before .before .before .noted .kept .1 .1 .1 .1 .1 .1 .1 .1 .0 ∙ c .before .before .before .before .before .before .before .before .before .before .before .before .before .before .before .before .before .before .before .before .before .before .before .before .before .before .before .before .before .before .before .before .before .before .before .before .before .before .before .before .before .before .before .loop .inv .10)
+loop-again c =
+    let at-noted = c .before .before .before .before in
+    let before-12 = at-noted .before .before .before .before .before .before .before .before in
+    let before-20 = before-12 .before .before .before .before .before .before .before .before in
+    let at-infer-image = before-20 .before .before .before .before .before .before in
+    let before-34 = at-infer-image .before .before .before .before .before .before .before .before in
+    let at-read-image = before-34 .before .before .before .before in
+    let at-loop = at-read-image .before .before .before .before .before in
+    (at-read-image .read-image .kept .1 .0 ∙ at-loop .loop .inv .0, at-infer-image .infer-image .kept .1 .0 ∙ at-loop .loop .inv .1, at-infer-image .infer-image .kept .1 .1 .0 ∙ at-loop .loop .inv .2, at-infer-image .infer-image .kept .1 .1 .1 .0 ∙ at-loop .loop .inv .3, at-infer-image .infer-image .kept .1 .1 .1 .1 .0 ∙ at-loop .loop .inv .4, at-infer-image .infer-image .kept .1 .1 .1 .1 .1 .0 ∙ at-loop .loop .inv .5, at-infer-image .infer-image .kept .1 .1 .1 .1 .1 .1 .0 ∙ at-loop .loop .inv .6, at-infer-image .infer-image .kept .1 .1 .1 .1 .1 .1 .1 .0 ∙ at-loop .loop .inv .7, at-infer-image .infer-image .kept .1 .1 .1 .1 .1 .1 .1 .1 .0 ∙ at-loop .loop .inv .8, at-noted .noted .kept .1 .1 .1 .1 .1 .1 .1 .0 ∙ at-loop .loop .inv .9, at-noted .noted .kept .1 .1 .1 .1 .1 .1 .1 .1 .0 ∙ at-loop .loop .inv .10)
 
 close-list-requires : tie.Need-close-list-requires Inv-loop μ-loop
 close-list-requires c κs = search needs

@@ -31,7 +31,11 @@ loop-less : tie.Need-loop-less Inv-loop μ-loop
 loop-less c = search needs
 
 loop-again : tie.Need-loop-again Inv-loop μ-loop
-loop-again c = (c .before .before .before .before .before .before .before .put-piece .kept .1 .1 .1 .1 .1 .0 ∙ c .before .before .before .before .before .before .before .before .before .before .loop .inv .0, c .before .before .same-buffer .kept .1 .1 .1 .0 ∙ c .before .before .before .before .before .before .before .before .before .before .loop .inv .1)
+loop-again c =
+    let at-same-buffer = c .before .before in
+    let at-put-piece = at-same-buffer .before .before .before .before .before in
+    let at-loop = at-put-piece .before .before .before in
+    (at-put-piece .put-piece .kept .1 .1 .1 .1 .1 .0 ∙ at-loop .loop .inv .0, at-same-buffer .same-buffer .kept .1 .1 .1 .0 ∙ at-loop .loop .inv .1)
 
 same-length : tie.Need-same-length Inv-loop μ-loop
 same-length c = c .before .loop .inv .0
