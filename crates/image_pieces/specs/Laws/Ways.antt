@@ -4,7 +4,8 @@ use native.Mathlib.Omega.{arith}
 use mathlib.Core.Path.{_≡_, refl, sym, ap, _∙_}
 use mathlib.Core.List.{List, [], _∷_, _++_}
 use mathlib.Core.Option.{Option, some}
-use lib.ListN.{length, drop}
+use lib.ListN.{length, take, drop}
+use lib.Seq.{take-append-seam}
 use Rattle.base_tests.specs.Laws.Choice.{ite-lt, ite-ge, ite-eq, ite-ne}
 use Rattle.lent_values.specs.Cells.{valueAt}
 use Rattle.lent_sets.specs.Rows.{setAt}
@@ -120,6 +121,14 @@ puts-whole text bs us r l w =
 pub puts-short : (text bs : List ℕ) → length bs < pieceBytes → cursor 0 bs ≡ puts text bs
 unfolding puts
 puts-short text bs l = sym (ite-lt (length bs) pieceBytes _ _ l)
+
+-- so after the call the first bytes of a buffer that is long enough, as many as it answers, are the text
+-- what a program writes out
+pub puts-shows : (text bs us : List ℕ) (r : ℕ) → pieceBytes ≤ length bs → cursor r us ≡ puts text bs → take r us ≡ text
+unfolding puts
+puts-shows text bs us r l e =
+    ap (λ (c : Cursor). take (c .at) (c .bytes)) (e ∙ ite-ge (length bs) pieceBytes (cursor 0 bs) (cursor (length text) (text ++ drop (length text) bs)) l)
+    ∙ take-append-seam text (drop (length text) bs)
 
 module _ (s : Shown) (vs ss os : List ℕ) (k : ℕ) (bs us : List ℕ) (r : ℕ) where
   -- a refusal

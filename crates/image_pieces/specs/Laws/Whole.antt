@@ -42,7 +42,7 @@ lines-split f (suc a) b k =
     ∙ sym (append-assoc (f k) (linesFrom a (suc k) f) (linesFrom b (k + suc a) f))
 
 -- lines that are equal one by one
-lines-same : (f g : ℕ → List ℕ) (n k j : ℕ) → ((i : ℕ) → i < n → f (k + i) ≡ g (j + i)) → linesFrom n k f ≡ linesFrom n j g
+pub lines-same : (f g : ℕ → List ℕ) (n k j : ℕ) → ((i : ℕ) → i < n → f (k + i) ≡ g (j + i)) → linesFrom n k f ≡ linesFrom n j g
 unfolding linesFrom
 lines-same f g zero k j h = refl
 lines-same f g (suc n) k j h =
