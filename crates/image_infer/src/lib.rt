@@ -1,4 +1,4 @@
-// From the bytes of a job image to what is shown of it: all that the program `infer` does between reading and writing (document 01, 'The job image and its program').
+// From the bytes of a job image to what is shown of it: all that the program `infer` does between reading and listing (document 01, 'The job image and its program').
 // A host that wants more than a listing calls `image_read::read_image` and `call_apply::apply_signature` itself.
 ghost use mathlib.Core.Path.{_≡_};
 ghost use Rattle.lent_copies.specs.Cleared.{Cleared};
