@@ -42,7 +42,7 @@ KIT = ["check", "bytes", "os", "io", "libc"]
 # to infer each crate waits for the one before, and would leave a processor idle.
 AFTER = {
     "image_class4": ["effect_apply"],
-    "image_listing": ["effect_plain"],
+    "image_lines": ["effect_plain"],
     "bench_state": ["call_attempt"],
     "test_cases": ["call_attempt"],
     "test_state": ["image_run"],

@@ -1,18 +1,20 @@
-// From the bytes of a job image to the bytes of its listing: all that the program `infer` does between reading and writing (document 01, 'The job image and its program').
+// From the bytes of a job image to what is shown of it: all that the program `infer` does between reading and listing (document 01, 'The job image and its program').
 // A host that wants more than a listing calls `image_read::read_image` and `call_apply::apply_signature` itself.
-ghost use lib.ListN.{length};
+ghost use mathlib.Core.Path.{_≡_};
 ghost use Rattle.lent_copies.specs.Cleared.{Cleared};
-ghost use Rattle.image_outcome.specs.Promise.{WritesInto, writtenFor, MeansPlain};
-use image_listing::put_refusal;
+ghost use Rattle.image_outcome.specs.Inferring.{settled, piecesOf};
+ghost use Rattle.image_outcome.specs.Promise.{leftBy, leavesFor, writtenFor, MeansPlain};
+use image_pieces::Shown;
 use image_read::read_image;
-use image_run::clear_lists;
-use image_run::clear_tables;
+use image_run::clear_work;
 use image_run::memory_wrong;
+use image_run::refused;
 use image_run::run_tables;
+use image_run::settle;
 
-// The image is read and its job runs; the listing of what comes of it is written into the buffer, or the number with which it is refused.
-// What stands in the tables afterwards is cleared by the caller.
-fn list_image(
+// The image is read and its job runs; what is shown of what comes of it, or the number with which it is refused.
+// After a refusal the caller clears what stands in the tables.
+fn run_image(
     bytes: &[u8],
     words: &mut [u32],
     values: &mut [u64],
@@ -22,18 +24,17 @@ fn list_image(
     output: &mut [u32],
     scratch64: &mut [u64],
     scratch32: &mut [u32],
-    buffer: &mut [u8],
-) -> usize
+) -> Shown
     ensures { λ r. ⌜
-        WritesInto buffer r
-        (writtenFor bytes words values sets context candidates output scratch64 scratch32 buffer) ⌝ }
+        settled (leftBy r values sets output)
+        ≡ leavesFor bytes words values sets context candidates output scratch64 scratch32 ⌝ }
 {
-    if memory_wrong(output, scratch64, scratch32, buffer) {
-        return put_refusal(buffer, 1);
+    if memory_wrong(output, scratch64, scratch32) {
+        return refused(1);
     }
     let job = read_image(bytes, words, values, sets, context, candidates);
     if job.refusal != 0 {
-        return put_refusal(buffer, job.refusal);
+        return refused(job.refusal);
     }
     run_tables(
         values,
@@ -44,13 +45,13 @@ fn list_image(
         output,
         scratch64,
         scratch32,
-        buffer,
     )
 }
 
-// From the bytes of an image to the bytes of its listing, from the first byte of the buffer on; the answer is how long the listing is.
-// Any bytes and any lists with any numbers in them may be lent. All but the buffer are scratch: "Scratch is zero after each call."
-pub fn infer(
+// From the bytes of an image to what is shown of it: the answer, and the values, sets and output list that it leaves.
+// `image_listing::put_piece` reads these; its pieces, one after the other, are the listing that the definition infers of the bytes.
+// Any bytes and any lists with any numbers in them may be lent. All else is scratch, "zero after each call"; after a refusal everything is zero.
+pub fn infer_image(
     bytes: &[u8],
     words: &mut [u32],
     values: &mut [u64],
@@ -60,22 +61,20 @@ pub fn infer(
     output: &mut [u32],
     scratch64: &mut [u64],
     scratch32: &mut [u32],
-    buffer: &mut [u8],
-) -> usize
+) -> Shown
     ensures { λ r. ⌜
-        WritesInto buffer r
-        (writtenFor bytes words values sets context candidates output scratch64 scratch32 buffer)
+        (leftBy r values sets output
+        ≡ leavesFor bytes words values sets context candidates output scratch64 scratch32)
+        × (piecesOf (leftBy r values sets output)
+        ≡ writtenFor bytes words values sets context candidates output scratch64 scratch32)
         × Cleared words
-        × Cleared values
-        × Cleared sets
         × Cleared context
         × Cleared candidates
-        × Cleared output
         × Cleared scratch64
         × Cleared scratch32
         × MeansPlain bytes ⌝ }
 {
-    let length = list_image(
+    let shown = run_image(
         bytes,
         words,
         values,
@@ -85,9 +84,8 @@ pub fn infer(
         output,
         scratch64,
         scratch32,
-        buffer,
     );
-    clear_tables(values, sets, context, candidates);
-    clear_lists(words, output, scratch64, scratch32);
-    length
+    clear_work(words, context, candidates, scratch64, scratch32);
+    settle(shown, values, sets, output);
+    shown
 }

@@ -1,78 +1,61 @@
-// The job of the tables that an image filled: the call for its instruction, and the listing of what came of it.
+// The job of the tables that an image filled: the call for its instruction, and what is shown of what came of it.
 // What was lent is cleared here too.
 ghost use mathlib.Core.Path.{_≡_};
-ghost use Prim.Native.Nat.{_≤_};
-ghost use lib.ListN.{length};
-ghost use mathlib.Core.Bool.{false};
+ghost use Prim.Native.Nat.{_-_, _≤_};
+ghost use mathlib.Core.List.{_++_};
+ghost use lib.ListN.{length, take};
 ghost use Rattle.call_outcome.specs.Calls.{outcome};
 ghost use Rattle.image_job.specs.Reading.{tables};
-ghost use Rattle.image_outcome.specs.Inferring.{Fits, jobCall, shown, memoryWrong};
-ghost use Rattle.lent_slices.specs.Lent.{old};
+ghost use Rattle.image_outcome.specs.Inferring.{Fits, jobCall, memoryWrong, refusedAs, answered, keeps, settled, left};
+ghost use Rattle.image_outcome.specs.Promise.{leftBy};
+ghost use Rattle.lent_slices.specs.Lent.{old, new};
+ghost use Rattle.lent_copies.specs.Copies.{zeros};
 ghost use Rattle.lent_copies.specs.Cleared.{Cleared};
-ghost use Rattle.call_means.specs.Promise.{lentCall};
-ghost use Rattle.image_outcome.specs.Promise.{WritesInto};
 ghost use Rattle.lent_layout.specs.Layout as Layout;
 use call_apply::apply_signature;
+use call_outcome::Applied;
 use image_job::Job;
-use image_listing::put_listing;
-use image_listing::put_refusal;
+use image_pieces::Shown;
+use lent_copies::clear_scratch;
 use lent_copies::clear32;
 use lent_copies::clear64;
 use lent_layout::EFFECT_WORDS;
 use lent_layout::OUTPUT_WORDS;
 use lent_layout::SAVED_WORDS;
 
-// The call for an instruction, and its listing in the buffer; the answer is how long the listing is.
-// "A refusal prints only `REFUSED n`."
-fn run_job(
-    values: &mut [u64],
-    sets: &mut [u64],
-    context: &mut [u32],
-    job: Job,
-    candidates: &[u32],
-    output: &mut [u32],
-    scratch64: &mut [u64],
-    scratch32: &mut [u32],
-    buffer: &mut [u8],
-) -> usize
-    ensures { λ r. ⌜
-        (job .session .entries ≤ 4294967295
-        → WritesInto buffer r
-        (shown
-        (outcome
-        (lentCall values sets false context (job .session)
-        candidates (job .lvalue) (job .own) output
-        scratch64 scratch32)))) ⌝ }
+// ---- what is shown
+
+// What is shown of a refusal.
+// "With a number come zero effects and count."
+pub fn refused(n: u32) -> Shown
+    ensures { λ r. ⌜ r ≡ refusedAs n ⌝ }
 {
-    let session = job.session;
-    let lvalue = job.lvalue;
-    let applied = apply_signature(
-        values,
-        sets,
-        false,
-        context,
-        session,
-        candidates,
-        lvalue,
-        job.own,
-        output,
-        scratch64,
-        scratch32,
-    );
+    Shown {
+        refusal: n,
+        count: 0,
+        entries: 0,
+        access: 0,
+    }
+}
+
+// What is shown of what the call for an instruction answered.
+// "OK: effects, walk entries."; "U: first undefined identifier."
+fn shown_of(applied: Applied) -> Shown
+    ensures { λ r. ⌜ r ≡ answered applied ⌝ }
+{
     if applied.refusal != 0 {
-        return put_refusal(buffer, applied.refusal);
+        return refused(applied.refusal);
     }
     let after = applied.session;
-    put_listing(
-        buffer,
-        output,
-        applied.count,
-        applied.entries,
-        values,
-        sets,
-        after.access,
-    )
+    Shown {
+        refusal: 0,
+        count: applied.count,
+        entries: applied.entries,
+        access: after.access,
+    }
 }
+
+// ---- the job
 
 // A number as wide as an index.
 // It always fits, so a caller has no cast to prove.
@@ -82,8 +65,20 @@ fn wide(x: u32) -> usize
     x as usize
 }
 
+// The words from number m on become zero.
+// The rows of identifiers that are not in the list.
+fn clear_from(xs: &mut [u64], m: usize)
+    ensures { λ _. ⌜
+        (m ≤ length (old xs) → new xs ≡ take m (old xs) ++ zeros (length (old xs) - m)) ⌝ }
+{
+    if m > xs.len() {
+        return;
+    }
+    clear64(&mut xs[m..]);
+}
+
 // The job of the tables that were read: the call is lent the rows of the identifiers and the records of the candidates, and as much scratch as it asks for.
-// Tables that hold an accepted image have room for it.
+// Tables that hold an accepted image have room for it. The other rows are zero afterwards.
 pub fn run_tables(
     values: &mut [u64],
     sets: &mut [u64],
@@ -93,51 +88,57 @@ pub fn run_tables(
     output: &mut [u32],
     scratch64: &mut [u64],
     scratch32: &mut [u32],
-    buffer: &mut [u8],
-) -> usize
+) -> Shown
     ensures { λ r. ⌜
         (Fits (old sets) (old candidates) (old scratch64) job
         → length (old output) ≡ Layout.outputWords
         → length (old scratch32) ≡ Layout.savedWords
-        → WritesInto buffer r
-        (shown
+        → leftBy r values sets output
+        ≡ keeps (length (old sets))
         (outcome
         (jobCall job
         (tables (old values) (old sets) (old context)
-        (old candidates)))))) ⌝ }
+        (old candidates))))) ⌝ }
 {
     let m = 16 * wide(job.identifiers);
     let n = EFFECT_WORDS * wide(job.candidates);
     let e = 1024 + m;
     if m > sets.len() {
-        return 0;
+        return refused(1);
     }
     if n > candidates.len() {
-        return 0;
+        return refused(1);
     }
     if e > scratch64.len() {
-        return 0;
+        return refused(1);
     }
-    run_job(
+    let session = job.session;
+    let lvalue = job.lvalue;
+    let applied = apply_signature(
         values,
         &mut sets[..m],
+        false,
         context,
-        job,
+        session,
         &candidates[..n],
+        lvalue,
+        job.own,
         output,
         &mut scratch64[..e],
         scratch32,
-        buffer,
-    )
+    );
+    clear_from(sets, m);
+    shown_of(applied)
 }
 
-// Whether the memory for the call and for the listing has the wrong length.
+// ---- memory
+
+// Whether the memory for the call has the wrong length.
 // The tables are tested where the image is read.
-pub fn memory_wrong(output: &[u32], scratch64: &[u64], scratch32: &[u32], buffer: &[u8]) -> bool
+pub fn memory_wrong(output: &[u32], scratch64: &[u64], scratch32: &[u32]) -> bool
     ensures { λ r. ⌜
         r
-        ≡ memoryWrong (length (old output)) (length (old scratch64)) (length (old scratch32))
-        (length (old buffer)) ⌝ }
+        ≡ memoryWrong (length (old output)) (length (old scratch64)) (length (old scratch32)) ⌝ }
 {
     if output.len() != OUTPUT_WORDS {
         return true;
@@ -145,40 +146,45 @@ pub fn memory_wrong(output: &[u32], scratch64: &[u64], scratch32: &[u32], buffer
     if scratch64.len() != 9216 {
         return true;
     }
-    if scratch32.len() != SAVED_WORDS {
-        return true;
-    }
-    buffer.len() != 2900000
+    scratch32.len() != SAVED_WORDS
 }
 
-// The tables that an image filled become zero.
-// They are scratch of the call above.
-pub fn clear_tables(
-    values: &mut [u64],
-    sets: &mut [u64],
-    context: &mut [u32],
-    candidates: &mut [u32],
-)
-    ensures { λ _. ⌜ Cleared values × Cleared sets × Cleared context × Cleared candidates ⌝ }
+// What was read of an image becomes zero.
+// The state stays: what is shown of it is read there.
+fn clear_read(words: &mut [u32], context: &mut [u32], candidates: &mut [u32])
+    ensures { λ _. ⌜ Cleared words × Cleared context × Cleared candidates ⌝ }
 {
-    clear64(values);
-    clear64(sets);
+    clear32(words);
     clear32(context);
     clear32(candidates);
 }
 
-// The output list and what else was lent become zero.
-// They are scratch of the call above.
-pub fn clear_lists(
+// All that nothing is shown of becomes zero.
+// "Scratch is zero after each call."
+pub fn clear_work(
     words: &mut [u32],
-    output: &mut [u32],
+    context: &mut [u32],
+    candidates: &mut [u32],
     scratch64: &mut [u64],
     scratch32: &mut [u32],
 )
-    ensures { λ _. ⌜ Cleared words × Cleared output × Cleared scratch64 × Cleared scratch32 ⌝ }
+    ensures { λ _. ⌜
+        Cleared words × Cleared context × Cleared candidates × Cleared scratch64 × Cleared scratch32 ⌝ }
 {
-    clear32(words);
+    clear_read(words, context, candidates);
+    clear_scratch(scratch64, scratch32);
+}
+
+// After a refusal the rest becomes zero too.
+// "With a number come zero effects and count."
+pub fn settle(shown: Shown, values: &mut [u64], sets: &mut [u64], output: &mut [u32])
+    ensures { λ _. ⌜
+        leftBy shown values sets output ≡ settled (left shown (old values) (old sets) (old output)) ⌝ }
+{
+    if shown.refusal == 0 {
+        return;
+    }
+    clear64(values);
+    clear64(sets);
     clear32(output);
-    clear64(scratch64);
-    clear32(scratch32);
 }

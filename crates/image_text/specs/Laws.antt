@@ -1,7 +1,6 @@
 pub mod Text
 pub mod Decimals
-pub mod Pieces
+pub mod Columns
 pub mod Lines
 pub mod Loops
 pub mod Lengths
-pub mod Suffices

@@ -10,7 +10,7 @@ use Rattle.lent_sets.specs.Rows.{setAt}
 use Rattle.lent_context.specs.Lent.{effectsIn}
 use Rattle.lent_effects.specs.declared.AliasingEffect.{AliasingEffect as Head}
 use Rattle.lent_effects.specs.Records.{effectWith}
-use Rattle.def_image.specs.Listing.{ascii, blank, shown, line, linesFrom, effectLines, effectRow, valueLine, setLine, shownLines, refusalLine}
+use Rattle.def_image.specs.Listing.{ascii, blank, shown, line, effectRow, shownLines}
 use Rattle.lent_layout.specs.Layout.{output}
 
 -- where the next byte goes, and the buffer
@@ -50,27 +50,7 @@ columns (x ∷ xs) = column x ++ columns xs
 unfoldable pub headLine : Head → List ℕ
 headLine h = line (ascii "E") (effectRow (effectWith h []))
 
--- the lines of the effects of an output list, by its count
--- in the order in which they were listed
-unfoldable pub listedLines : List ℕ → ℕ → List ℕ
-listedLines os count = effectLines (effectsIn output os 0 count)
-
--- the lines of the values of a lent table
--- 1 to 1,023; one without an entry has none
-unfoldable pub valueLines : List ℕ → List ℕ
-valueLines vs = linesFrom 1023 1 (λ v. valueLine v (valueAt vs v))
-
--- the lines of the rows of a lent table
--- 512 identifiers; one that is not defined has none
-unfoldable pub setLines : List ℕ → List ℕ
-setLines ss = linesFrom 512 0 (λ i. setLine i (setAt ss i))
-
 -- the listing of what a call leaves in the lent tables: the output list and its count, the entries, values, sets and the access
 -- the definition's own text, at the lent tables
 unfoldable pub lentListing : List ℕ → ℕ → ℕ → List ℕ → List ℕ → ℕ → List ℕ
 lentListing os count entries vs ss access = shownLines (effectsIn output os 0 count) entries (valueAt vs) (setAt ss) access
-
--- what is written of a refusal
--- "A refusal prints only `REFUSED n`."
-unfoldable pub lentRefusal : ℕ → List ℕ
-lentRefusal n = refusalLine n

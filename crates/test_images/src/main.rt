@@ -1,8 +1,9 @@
-// Replays recorded images through `image_infer::infer`, and compares each listing with the recorded one, byte for byte.
+// Replays recorded images through `image_infer::infer_image`, and compares each listing, piece by piece, with the recorded one, byte for byte.
 // The lists are docs/VECTORS.md's, part 4; their names are the arguments. Prints of each list the first records that failed, then how many were replayed.
 ghost use Prim.Native.Nat.{_≤_, _<_, _*_};
 ghost use lib.ListN.{length};
 ghost use Rattle.lent_slices.specs.Lent.{new};
+use image_pieces::Shown;
 use lent_slices::wide32;
 use libc::STDOUT_FILENO;
 
@@ -28,11 +29,12 @@ struct Image {
     length: usize,
 }
 
-// How a record went: whether it stood whole in the list, and whether the listing is the recorded one.
-// After a record that is not whole nothing more can be read.
+// How a record goes: whether it stood whole in the list, whether the listing is the recorded one as far as it was compared,
+// and how many bytes of the recorded one are left. After a record that is not whole nothing more can be read.
 struct Seen {
     whole: bool,
     same: bool,
+    left: usize,
 }
 
 // How a list goes: its file, the records left, those replayed and those that failed.
@@ -98,6 +100,17 @@ fn read_word(fd: i32) -> Taken {
     }
 }
 
+// The next byte of a file.
+// What stands after the last piece of a listing.
+fn read_byte(fd: i32) -> Taken {
+    let mut bytes = [0u8; 1];
+    let n = io::read_full(fd, &mut bytes);
+    Taken {
+        whole: n == 1,
+        word: wide8(byte(&bytes, 0)),
+    }
+}
+
 // The head of the next text: the count of its words, and its length, which has to fill as many words but one.
 // Any other count is refused, since the records after it would be read from a wrong place.
 fn read_head(fd: i32) -> Text
@@ -150,46 +163,148 @@ fn read_image(fd: i32, image: &mut [u8]) -> Image
 
 // ---- comparing a listing
 
-// The next word of a recorded listing is compared with word k of the one that was made.
-fn same_word(fd: i32, shown: &[u8], k: u32, before: Seen) -> Seen {
-    let next = read_word(fd);
+// Whether a list begins with a text, byte for byte.
+fn begins(recorded: &[u8], shown: &[u8]) -> bool {
+    let mut k: usize = 0;
+    while k < shown.len() {
+        if byte(shown, k) != byte(recorded, k) {
+            return false;
+        }
+        k += 1;
+    }
+    true
+}
+
+// The next bytes of a recorded listing are compared with a piece.
+// A piece that is longer than what is left is a difference, and nothing is read.
+fn same_piece(fd: i32, shown: &[u8], recorded: &mut [u8], before: Seen) -> Seen {
+    let n = shown.len();
+    if n > before.left {
+        return Seen {
+            whole: before.whole,
+            same: false,
+            left: before.left,
+        };
+    }
+    if n > recorded.len() {
+        return Seen {
+            whole: false,
+            same: false,
+            left: before.left,
+        };
+    }
+    let got = io::read_full(fd, &mut recorded[..n]);
+    let same = begins(recorded, shown);
     Seen {
-        whole: next.whole,
-        same: before.same && next.word == word(shown, k),
+        whole: before.whole && got == n,
+        same: before.same && same,
+        left: before.left - n,
     }
 }
 
-// A listing is compared with the recorded one, which comes next in the file: length and bytes.
-// It is read to its end also after a difference, since the next record follows.
-fn same_listing(fd: i32, shown: &[u8]) -> Seen {
-    let head = read_head(fd);
-    let mut seen = Seen {
-        whole: head.whole,
-        same: wide32(head.length) == shown.len(),
-    };
-    let mut k: u32 = 0;
-    while k < head.words {
-        if !seen.whole {
-            return seen;
+// The same of the first n bytes of the buffer.
+// A piece never runs past the buffer, so the test always passes; no contract here asks for it.
+fn same_buffer(fd: i32, buffer: &[u8], n: usize, recorded: &mut [u8], before: Seen) -> Seen {
+    if n <= buffer.len() {
+        return same_piece(fd, &buffer[..n], recorded, before);
+    }
+    Seen {
+        whole: false,
+        same: false,
+        left: before.left,
+    }
+}
+
+// Whether a file has so many bytes more.
+// They are read, since the next record follows.
+fn skipped(fd: i32, n: usize) -> bool {
+    let mut k: usize = 0;
+    while k < n {
+        if !read_byte(fd).whole {
+            return false;
         }
-        seen = same_word(fd, shown, k, seen);
+        k += 1;
+    }
+    true
+}
+
+// What no piece was compared with: a recorded listing that goes on after the last piece is another one.
+// It is read to its end, since the next record follows.
+fn same_rest(fd: i32, before: Seen) -> Seen {
+    if before.left == 0 {
+        return before;
+    }
+    let there = skipped(fd, before.left);
+    Seen {
+        whole: before.whole && there,
+        same: false,
+        left: 0,
+    }
+}
+
+// The bytes that fill the last word of a recorded listing are zero.
+fn same_fill(fd: i32, n: usize, before: Seen) -> Seen {
+    let mut seen = before;
+    let mut k: usize = 0;
+    while k < n {
+        let next = read_byte(fd);
+        seen = Seen {
+            whole: seen.whole && next.whole,
+            same: seen.same && next.word == 0,
+            left: seen.left,
+        };
         k += 1;
     }
     seen
 }
 
-// The same of the first n bytes of the buffer, after an image that was whole.
-// A listing never runs past the buffer, so the second test always passes; no contract here asks for it.
-fn same_buffer(fd: i32, whole: bool, buffer: &[u8], n: usize) -> Seen {
-    if whole {
-        if n <= buffer.len() {
-            return same_listing(fd, &buffer[..n]);
-        }
+// All pieces, one after the other, are compared with what comes next in the file.
+fn same_pieces(
+    fd: i32,
+    shown: Shown,
+    values: &[u64],
+    sets: &[u64],
+    output: &[u32],
+    buffer: &mut [u8],
+    recorded: &mut [u8],
+    before: Seen,
+) -> Seen {
+    let count = image_listing::piece_count();
+    let mut seen = before;
+    let mut k: u32 = 0;
+    while k < count {
+        let n = image_listing::put_piece(shown, k, values, sets, output, buffer);
+        seen = same_buffer(fd, buffer, n, recorded, seen);
+        k += 1;
     }
-    Seen {
-        whole: false,
-        same: false,
+    seen
+}
+
+// A listing is compared with the recorded one, which comes next in the file: length and bytes.
+// It is read to its end also after a difference, since the next record follows.
+fn same_listing(
+    fd: i32,
+    shown: Shown,
+    values: &[u64],
+    sets: &[u64],
+    output: &[u32],
+    buffer: &mut [u8],
+    recorded: &mut [u8],
+) -> Seen {
+    let head = read_head(fd);
+    let length = wide32(head.length);
+    let fill = wide32(head.words) * 4 - length;
+    let start = Seen {
+        whole: head.whole,
+        same: true,
+        left: length,
+    };
+    if !head.whole {
+        return start;
     }
+    let seen = same_pieces(fd, shown, values, sets, output, buffer, recorded, start);
+    let rest = same_rest(fd, seen);
+    same_fill(fd, fill, rest)
 }
 
 // ---- what is printed
@@ -299,12 +414,30 @@ fn after(i: usize, run: Run, seen: Seen) -> Run
     counted(run, seen.same)
 }
 
-// How a list goes after an image and the first n bytes of the buffer, its listing.
+// How a list goes after an image that stood whole in it and what came of it.
 // The recorded listing comes next in the file.
-fn noted(i: usize, run: Run, whole: bool, buffer: &[u8], n: usize) -> Run
+fn noted(
+    i: usize,
+    run: Run,
+    whole: bool,
+    shown: Shown,
+    values: &[u64],
+    sets: &[u64],
+    output: &[u32],
+    buffer: &mut [u8],
+    recorded: &mut [u8],
+) -> Run
     ensures { λ r. ⌜ (0 < run .left → r .left < run .left) ⌝ }
 {
-    let seen = same_buffer(run.fd, whole, buffer, n);
+    if !whole {
+        let none = Seen {
+            whole: false,
+            same: false,
+            left: 0,
+        };
+        return after(i, run, none);
+    }
+    let seen = same_listing(run.fd, shown, values, sets, output, buffer, recorded);
     after(i, run, seen)
 }
 
@@ -367,8 +500,8 @@ fn close_list(i: usize, run: Run) {
     libc::close(last.fd);
 }
 
-// The list that an argument names, record by record: an image is read, put through `infer`, and its listing compared.
-// All memory serves every record: after each it is zero again but for image and buffer, whose first bytes the next record takes.
+// The list that an argument names, record by record: an image is read, put through `infer_image`, and the pieces of its listing compared.
+// All memory serves every record, with whatever the record before left in it.
 fn replay_list(
     i: usize,
     image: &mut [u8],
@@ -381,12 +514,13 @@ fn replay_list(
     scratch64: &mut [u64],
     scratch32: &mut [u32],
     buffer: &mut [u8],
+    recorded: &mut [u8],
 ) {
     let mut run = open_list(i);
     while run.left > 0 {
         let text = read_image(run.fd, image);
         let k = text.length;
-        let n = image_infer::infer(
+        let shown = image_infer::infer_image(
             &image[..k],
             words,
             values,
@@ -396,9 +530,18 @@ fn replay_list(
             output,
             scratch64,
             scratch32,
-            buffer,
         );
-        run = noted(i, run, text.whole, buffer, n);
+        run = noted(
+            i,
+            run,
+            text.whole,
+            shown,
+            values,
+            sets,
+            output,
+            buffer,
+            recorded,
+        );
     }
     close_list(i, run);
 }
@@ -410,12 +553,13 @@ fn replay_file(i: usize) {
     let mut words = [0u32; 16384];
     let mut values = [0u64; 1024];
     let mut sets = [0u64; 8192];
-    let mut context = [0u32; 238021];
-    let mut candidates = [0u32; 6272];
-    let mut output = [0u32; 109760];
+    let mut context = [0u32; lent_layout::CONTEXT_WORDS];
+    let mut candidates = [0u32; lent_layout::CANDIDATE_WORDS];
+    let mut output = [0u32; lent_layout::OUTPUT_WORDS];
     let mut scratch64 = [0u64; 9216];
-    let mut scratch32 = [0u32; 24834];
-    let mut buffer = [0u8; 2900000];
+    let mut scratch32 = [0u32; lent_layout::SAVED_WORDS];
+    let mut buffer = [0u8; image_pieces::PIECE_BYTES];
+    let mut recorded = [0u8; image_pieces::PIECE_BYTES];
     replay_list(
         i,
         &mut image,
@@ -428,6 +572,7 @@ fn replay_file(i: usize) {
         &mut scratch64,
         &mut scratch32,
         &mut buffer,
+        &mut recorded,
     );
 }
 

@@ -1,12 +1,12 @@
--- Laws by which the functions from bytes to a listing meet their definitions: one for each way through. Assumes nothing.
-use Prim.Native.Nat.{ℕ, _+_, _≤_}
+-- Laws by which the functions from the bytes of an image to what is shown of it meet their definitions, one for each way through. Assumes nothing.
+use Prim.Native.Nat.{ℕ, _+_, _-_, _≤_}
 use native.Mathlib.Omega.{arith}
 use mathlib.Core.Path.{_≡_, refl, sym, ap, ap₂, _∙_}
 use mathlib.Core.Bool.{Bool, true, false, not, _||_}
-use mathlib.Core.List.{List, [], _++_}
+use mathlib.Core.List.{List, [], _++_, append-nil}
 use lib.Dec.{eqb, ltb}
-use lib.ListN.{length, take, drop, getD}
-use lib.Seq.{length-take-le}
+use lib.ListN.{length, take, drop, getD, length-drop, drop-of-length-le}
+use lib.Seq.{length-take-le, length-front, take-at}
 use borrow.Author.Tests.{eqb-true, ltb-false, not-false}
 use mathlib.Core.Logic.{⊎-elim}
 use Rattle.base_tests.specs.Laws.Order.{same-or-not}
@@ -18,7 +18,6 @@ use Rattle.base_tests.specs.Laws.Choice.{ite-eq, ite-ne}
 use Rattle.lent_copies.specs.Copies.{zeros}
 use Rattle.def_image.specs.Layout.{Image, wrongLength, wordsOf, countOf, identifiers, candidates, functions}
 use Rattle.def_image.specs.Refusals.{earnsTwo, wrongHeader, wrongEdition, tooManyRecords, refusalOfWords, refusalOf}
-use Rattle.def_image.specs.Listing.{refusalLine}
 use Rattle.image_job.specs.declared.Job.{Job}
 use Rattle.call_outcome.specs.declared.Applied.{Applied}
 use Rattle.def_effects.specs.declared.Place.{Place}
@@ -34,54 +33,37 @@ use Rattle.refuse_class.specs.Class.{lower}
 use Rattle.refuse_words.specs.Classes.{earns}
 use Rattle.refuse_instruction.specs.EffectClasses.{instructionClass}
 use Rattle.refuse_records.specs.Accepting.{contextClass}
-use Rattle.call_outcome.specs.Calls.{Call, Outcome, call, given, wrongContext, lengthsWrong, candidateCount, callClass, lentInstruction, lentWorld, refusedWith, concluded, outcome}
-use Rattle.image_text.specs.Texts.{Cursor, cursor, putAll, lentListing, lentRefusal}
-use Rattle.image_text.specs.Laws.Text.{put-fits}
-use Rattle.laws_suffices.specs.Laws.Suffices.{nothing-lost}
+use Rattle.call_outcome.specs.Calls.{Call, Outcome, call, given, wrongContext, lengthsWrong, candidateCount, callClass, lentInstruction, lentWorld, concluded, outcome}
+use Rattle.image_pieces.specs.declared.Shown.{Shown}
 use Rattle.image_job.specs.Laws.Reading.{wrong-here, right-here}
 use Rattle.image_job.specs.Reading.{Tables, tables, Read, jobOf, filled, noJob, lentWrong, readClass, readImage}
-use Rattle.image_outcome.specs.Inferring.{empty, setWords, candidateWords, jobCall, imageCall, shown, inferred, memoryWrong, written, Fits, Writes}
+use Rattle.image_outcome.specs.Inferring.{empty, setWords, candidateWords, jobCall, imageCall, memoryWrong, anyWrong, Left, left, refusedAs, answered, keeps, settled, nothing, leaves, Fits}
 
 -- ---- what is shown of a call
 
--- what is shown where a refusal has a number
-refused-shown : (a : Applied) (vs ss cs os s64 s32 : List ℕ) (c : Call) → given a vs ss cs os s64 s32 ≡ outcome c → (a .refusal ≡ 0 → ⊥) → lentRefusal (a .refusal) ≡ shown (outcome c)
-unfolding shown lentRefusal
-refused-shown a vs ss cs os s64 s32 c h n =
-    sym (ite-ne (a .refusal) 0 (lentListing os (a .count) (a .entries) vs ss (a .session .access)) (refusalLine (a .refusal)) n) ∙ ap shown h
+-- what is shown of a call that is refused
+-- one way through `shown_of`
+pub answered-refused : (a : Applied) (r : Shown) → (a .refusal ≡ 0 → ⊥) → r ≡ refusedAs (a .refusal) → r ≡ answered a
+unfolding answered
+answered-refused a r h e = e ∙ sym (ite-ne (a .refusal) 0 _ _ h)
 
--- what is shown where there is none
-listing-shown : (a : Applied) (vs ss cs os s64 s32 : List ℕ) (c : Call) → given a vs ss cs os s64 s32 ≡ outcome c → a .refusal ≡ 0 → lentListing os (a .count) (a .entries) vs ss (a .session .access) ≡ shown (outcome c)
-unfolding shown
-listing-shown a vs ss cs os s64 s32 c h n =
-    sym (ite-eq (a .refusal) 0 (lentListing os (a .count) (a .entries) vs ss (a .session .access)) (refusalLine (a .refusal)) n) ∙ ap shown h
+-- and of one that is not
+pub answered-ran : (a : Applied) → a .refusal ≡ 0 → record { refusal = 0; count = a .count; entries = a .entries; access = a .session .access } ≡ answered a
+unfolding answered
+answered-ran a h = sym (ite-eq (a .refusal) 0 _ _ h)
 
--- a text that is another is written as that one
-as-text : {s t : List ℕ} {d e : Cursor} → s ≡ t → Writes s d e → Writes t d e
-as-text {s} {t} {d} {e} h w = record { bytes = w .bytes ∙ ap (λ (l : List ℕ). putAll l d) h; suffices = let k = ap length h in let m = w .suffices in omega arith }
+module _ (s : Shown) (vs ss os : List ℕ) where
+  -- nothing is cleared
+  -- one way through `settle`
+  pub settled-same : s .refusal ≡ 0 → left s vs ss os ≡ settled (left s vs ss os)
+  unfolding settled
+  settled-same h = sym (ite-eq (s .refusal) 0 _ _ h)
 
--- no call answers with more than 1,120 effects
-count-most : (c : Call) → c .session .entries ≤ 4294967295 → outcome c .applied .count ≤ 1120
-unfolding outcome
-count-most c h =
-    ⊎-elim
-    (λ z. nothing-lost c z h)
-    (λ z. let k = ap (λ (x : Outcome). x .applied .count) (ite-ne (callClass c) 0 (concluded c (applySignature (lentInstruction c) (lentWorld c))) (refusedWith (callClass c) c) z) in omega arith)
-    (same-or-not (callClass c) 0)
-
--- a refused call: its number
--- one way through `run_job`
-pub shows-refused : (a : Applied) (vs ss cs os s64 s32 : List ℕ) (c : Call) (d e : Cursor) → given a vs ss cs os s64 s32 ≡ outcome c → (a .refusal ≡ 0 → ⊥) → (e ≡ putAll (lentRefusal (a .refusal)) d) × (length (lentRefusal (a .refusal)) ≤ 2900000) → Writes (shown (outcome c)) d e
-shows-refused a vs ss cs os s64 s32 c d e h n p = as-text (refused-shown a vs ss cs os s64 s32 c h n) (record { bytes = p .0; suffices = p .1 })
-
--- a call that ends: its listing
-pub shows-listing : (a : Applied) (vs ss cs os s64 s32 : List ℕ) (c : Call) (d e : Cursor) → given a vs ss cs os s64 s32 ≡ outcome c → a .refusal ≡ 0 → c .session .entries ≤ 4294967295
-    → (e ≡ putAll (lentListing os (a .count) (a .entries) vs ss (a .session .access)) d) × (a .count ≤ 1120 → length (lentListing os (a .count) (a .entries) vs ss (a .session .access)) ≤ 2900000)
-    → Writes (shown (outcome c)) d e
-shows-listing a vs ss cs os s64 s32 c d e h n l p =
-    let m = count-most c l in
-    let k = ap (λ (x : Outcome). x .applied .count) h in
-    as-text (listing-shown a vs ss cs os s64 s32 c h n) (record { bytes = p .0; suffices = p .1 (omega arith) })
+  -- everything is
+  pub settled-zero : (us ts ps : List ℕ) → (s .refusal ≡ 0 → ⊥) → us ≡ zeros (length vs) → ts ≡ zeros (length ss) → ps ≡ zeros (length os) → left s us ts ps ≡ settled (left s vs ss os)
+  unfolding settled
+  settled-zero us ts ps h a b c =
+      ap₂ (λ (x y : List ℕ). left s x y ps) a b ∙ ap (left s (zeros (length vs)) (zeros (length ss))) c ∙ sym (ite-ne (s .refusal) 0 _ _ h)
 
 -- ---- the memory of a call
 
@@ -148,57 +130,80 @@ module _ (vs ss : List ℕ) (flag : Bool) (cs : List ℕ) (s : Session) (xs : Li
 -- ---- a job over the tables that were read
 
 -- the rows, the records and the scratch that the call is lent are those of the job
--- the way through `run_tables`
-pub runs-job : (vs ss cs xs : List ℕ) (j : Job) (os s64 s32 : List ℕ) (m n e : ℕ) (d c : Cursor) → m ≡ setWords j → n ≡ candidateWords j → e ≡ 1024 + m → e ≤ length s64 → length os ≡ 109760 → length s32 ≡ 24834
-    → Writes (shown (outcome (call vs (take m ss) false cs (j .session) (take n xs) (j .lvalue) (j .own) os (take e s64) s32))) c d
-    → Writes (shown (outcome (jobCall j (tables vs ss cs xs)))) c d
+-- so it comes to what the job's call comes to
+job-call : (vs ss cs xs : List ℕ) (j : Job) (os s64 s32 : List ℕ) (m n e : ℕ) → m ≡ setWords j → n ≡ candidateWords j → e ≡ 1024 + m → e ≤ length s64 → length os ≡ Layout.outputWords → length s32 ≡ Layout.savedWords
+    → outcome (call vs (take m ss) false cs (j .session) (take n xs) (j .lvalue) (j .own) os (take e s64) s32) ≡ outcome (jobCall j (tables vs ss cs xs))
 unfolding jobCall
-runs-job vs ss cs xs j os s64 s32 m n e d c hm hn he l ho hs h =
-    as-text
-    (ap₂ (λ (a b : ℕ). shown (outcome (call vs (take a ss) false cs (j .session) (take b xs) (j .lvalue) (j .own) os (take e s64) s32))) hm hn
-    ∙ ap shown
-    (memory-same vs (take (setWords j) ss) false cs (j .session) (take (candidateWords j) xs) (j .lvalue) (j .own) os (zeros 109760) (take e s64) (zeros (1024 + setWords j)) s32 (zeros 24834)
-    (ho ∙ sym (zeros-length 109760))
+job-call vs ss cs xs j os s64 s32 m n e hm hn he l ho hs =
+    ap₂ (λ (a b : ℕ). outcome (call vs (take a ss) false cs (j .session) (take b xs) (j .lvalue) (j .own) os (take e s64) s32)) hm hn
+    ∙ memory-same vs (take (setWords j) ss) false cs (j .session) (take (candidateWords j) xs) (j .lvalue) (j .own) os (zeros Layout.outputWords) (take e s64) (zeros (1024 + setWords j)) s32 (zeros Layout.savedWords)
+    (ho ∙ sym (zeros-length Layout.outputWords))
     (length-take-le e s64 l ∙ he ∙ ap (λ (a : ℕ). 1024 + a) hm ∙ sym (zeros-length (1024 + setWords j)))
-    (hs ∙ sym (zeros-length 24834))))
-    h
+    (hs ∙ sym (zeros-length Layout.savedWords))
+
+-- a part that reaches to the end of a list becomes zero
+-- the way through `clear_from`
+pub part-cleared : (xs ys : List ℕ) (m : ℕ) → m ≤ length xs → ys ≡ zeros (length (take (length xs - m) (drop m xs))) → take m xs ++ (ys ++ drop (length xs - m) (drop m xs)) ≡ take m xs ++ zeros (length xs - m)
+part-cleared xs ys m l e =
+    let d = length-drop m xs in
+    let n : length (drop m xs) ≤ length xs - m = omega arith in
+    let k : length xs - m ≤ length (drop m xs) = omega arith in
+    ap (λ (z : List ℕ). take m xs ++ z)
+    (ap₂ (λ (x y : List ℕ). x ++ y) e (drop-of-length-le (drop m xs) n)
+    ∙ append-nil (zeros (length (take (length xs - m) (drop m xs))))
+    ∙ ap zeros (length-take-le (length xs - m) (drop m xs) k))
+
+-- rows written before others, and these cleared: the rows, then zeros
+rest-cleared : (ss us : List ℕ) (m : ℕ) → length us ≡ length (take m ss) → m ≤ length ss → take m (us ++ drop m ss) ++ zeros (length (us ++ drop m ss) - m) ≡ us ++ zeros (length ss - length us)
+rest-cleared ss us m k l =
+    let n : length us ≡ m = k ∙ length-take-le m ss l in
+    ap₂ (λ (x y : List ℕ). x ++ y) (take-at us (drop m ss) m n)
+    (ap zeros (ap₂ (λ (a b : ℕ). a - b) (length-front ss us m k) (sym n)))
+
+-- what is left after the call, and after the rest of the rows is cleared
+-- the way through `run_tables`
+pub runs-job : (vs ss cs xs : List ℕ) (j : Job) (os s64 s32 : List ℕ) (m n e : ℕ) (a : Applied) (r : Shown) (ws us ds ps t64 t32 ts : List ℕ) → m ≡ setWords j → n ≡ candidateWords j → e ≡ 1024 + m → m ≤ length ss → e ≤ length s64 → length os ≡ Layout.outputWords → length s32 ≡ Layout.savedWords
+    → given a ws us ds ps t64 t32 ≡ outcome (call vs (take m ss) false cs (j .session) (take n xs) (j .lvalue) (j .own) os (take e s64) s32)
+    → length us ≡ length (take m ss)
+    → (m ≤ length (us ++ drop m ss) → ts ≡ take m (us ++ drop m ss) ++ zeros (length (us ++ drop m ss) - m))
+    → r ≡ answered a
+    → left r ws ts ps ≡ keeps (length ss) (outcome (jobCall j (tables vs ss cs xs)))
+unfolding keeps
+runs-job vs ss cs xs j os s64 s32 m n e a r ws us ds ps t64 t32 ts hm hn he lm le ho hs h k c q =
+    let f = length-front ss us m k in
+    ap₂ (λ (x : Shown) (y : List ℕ). left x ws y ps) q (c (omega arith) ∙ rest-cleared ss us m k lm)
+    ∙ ap (keeps (length ss)) (h ∙ job-call vs ss cs xs j os s64 s32 m n e hm hn he le ho hs)
 
 -- ---- lengths
 
--- the four lengths, tested one after the other
+-- the three lengths, tested one after the other
 -- one law for each way through `memory_wrong`
-module _ (o p q b : ℕ) where
+module _ (o p q : ℕ) where
   -- the output list has another length
   -- nothing else is looked at
-  pub wrong-output : (o ≡ 109760 → ⊥) → true ≡ memoryWrong o p q b
+  pub wrong-output : (o ≡ Layout.outputWords → ⊥) → true ≡ memoryWrong o p q
   unfolding memoryWrong
-  wrong-output h = wrong-here o 109760 _ h
+  wrong-output h = wrong-here o Layout.outputWords _ h
 
   -- scratch for a state has
-  pub wrong-64 : o ≡ 109760 → (p ≡ 9216 → ⊥) → true ≡ memoryWrong o p q b
+  pub wrong-64 : o ≡ Layout.outputWords → (p ≡ 9216 → ⊥) → true ≡ memoryWrong o p q
   unfolding memoryWrong
-  wrong-64 g h = wrong-here p 9216 _ h ∙ right-here o 109760 _ g
+  wrong-64 g h = wrong-here p 9216 _ h ∙ right-here o Layout.outputWords _ g
 
-  -- scratch for a context has
-  pub wrong-32 : o ≡ 109760 → p ≡ 9216 → (q ≡ 24834 → ⊥) → true ≡ memoryWrong o p q b
-  unfolding memoryWrong
-  wrong-32 f g h = wrong-here q 24834 _ h ∙ right-here p 9216 _ g ∙ right-here o 109760 _ f
-
-  -- the buffer decides
+  -- scratch for a context decides
   -- all else is right
-  pub wrong-buffer : o ≡ 109760 → p ≡ 9216 → q ≡ 24834 → not (eqb b 2900000) ≡ memoryWrong o p q b
+  pub wrong-32 : o ≡ Layout.outputWords → p ≡ 9216 → not (eqb q Layout.savedWords) ≡ memoryWrong o p q
   unfolding memoryWrong
-  wrong-buffer e f g = right-here q 24834 _ g ∙ right-here p 9216 _ f ∙ right-here o 109760 _ e
+  wrong-32 e f = right-here p 9216 _ f ∙ right-here o Layout.outputWords _ e
 
   -- memory of the right lengths
-  pub memory-right : memoryWrong o p q b ≡ false → (o ≡ 109760) × (p ≡ 9216) × (q ≡ 24834)
+  pub memory-right : memoryWrong o p q ≡ false → (o ≡ Layout.outputWords) × (p ≡ 9216) × (q ≡ Layout.savedWords)
   unfolding memoryWrong
   memory-right h =
-      let g = or-no-second (not (eqb o 109760)) _ h in
-      let f = or-no-second (not (eqb p 9216)) _ g in (
-        eqb-true o 109760 (not-false _ (or-no-first (not (eqb o 109760)) _ h)),
+      let g = or-no-second (not (eqb o Layout.outputWords)) _ h in (
+        eqb-true o Layout.outputWords (not-false _ (or-no-first (not (eqb o Layout.outputWords)) _ h)),
         eqb-true p 9216 (not-false _ (or-no-first (not (eqb p 9216)) _ g)),
-        eqb-true q 24834 (not-false _ (or-no-first (not (eqb q 24834)) _ f)),
+        eqb-true q Layout.savedWords (not-false _ (or-no-second (not (eqb p 9216)) _ g)),
       )
 
 -- tables of the right lengths
@@ -242,33 +247,52 @@ few bs h =
       ltb-false 64 (countOf im candidates) (or-no-second (ltb 64 (countOf im functions)) _ most),
     )
 
--- ---- from bytes to a listing
+-- ---- from bytes to what is left
 
--- what was lent, what was read of it, and what was written
--- one law for each way through `list_image`
-module _ (bs : List ℕ) (w : ℕ) (vs ss cs xs : List ℕ) (o p q b : ℕ) where
+-- what was lent, what was read of it, and what is left
+-- one law for each way through `run_image`
+module _ (bs : List ℕ) (w : ℕ) (vs ss cs xs : List ℕ) (o p q : ℕ) where
   -- the tables as they are lent
   abbrev t : Tables
   t = tables vs ss cs xs
 
-  -- what is to be written
-  abbrev text : List ℕ
-  text = written bs w (length vs) (length ss) (length cs) (length xs) o p q b
+  -- what is to be left
+  abbrev end : Left
+  end = leaves bs w (length vs) (length ss) (length cs) (length xs) o p q
+
+  -- a refusal, in the tables as they are lent
+  abbrev empties : ℕ → Left
+  empties n = nothing n (length vs) (length ss) o
 
   -- whether a table has the wrong length
   abbrev wrong : Bool
   wrong = lentWrong w (length vs) (length ss) (length cs) (length xs)
 
+  -- what is left where all lengths are right and the image is accepted
+  abbrev ran : Left
+  ran = settled (keeps (length ss) (outcome (imageCall (wordsOf bs))))
+
   -- memory of the wrong length
   -- "1 a lent slice or image has the wrong length"
-  pub lists-memory : (d e : Cursor) → true ≡ memoryWrong o p q b → (e ≡ putAll (lentRefusal 1) d) × (length (lentRefusal 1) ≤ 2900000) → Writes text d e
-  unfolding written lentRefusal
-  lists-memory d e h g = as-text (ap (λ (x : Bool). ite (x || wrong) (refusalLine 1) (inferred bs)) h) (record { bytes = g .0; suffices = g .1 })
+  end-memory : true ≡ memoryWrong o p q → empties 1 ≡ end
+  unfolding leaves anyWrong
+  end-memory h = ap (λ (x : Bool). ite (x || wrong) (empties 1) (ite (eqb (refusalOf bs) 0) ran (empties (refusalOf bs)))) h
 
   -- memory of the right lengths: the tables and the image decide
-  text-read : false ≡ memoryWrong o p q b → text ≡ ite wrong (refusalLine 1) (inferred bs)
-  unfolding written
-  text-read h = ap (λ (x : Bool). ite (x || wrong) (refusalLine 1) (inferred bs)) (sym h)
+  end-read : false ≡ memoryWrong o p q → ite wrong (empties 1) (ite (eqb (refusalOf bs) 0) ran (empties (refusalOf bs))) ≡ end
+  unfolding leaves anyWrong
+  end-read h = ap (λ (x : Bool). ite (x || wrong) (empties 1) (ite (eqb (refusalOf bs) 0) ran (empties (refusalOf bs)))) h
+
+  -- what a refusal leaves is cleared: nothing but its number
+  cleared : (n : ℕ) (os : List ℕ) (r : Shown) → r ≡ refusedAs n → (n ≡ 0 → ⊥) → o ≡ length os → settled (left r vs ss os) ≡ empties n
+  unfolding settled
+  cleared n os r e z h =
+      ap (λ (x : Shown). settled (left x vs ss os)) e
+      ∙ ite-ne n 0 _ _ z
+      ∙ ap (λ (k : ℕ). nothing n (length vs) (length ss) k) (sym h)
+
+  pub leaves-memory : (os : List ℕ) (r : Shown) → o ≡ length os → true ≡ memoryWrong o p q → r ≡ refusedAs 1 → settled (left r vs ss os) ≡ end
+  leaves-memory os r h m e = cleared 1 os r e (λ z. omega arith) h ∙ end-memory m
 
   -- the number of what was read, where it is refused
   read-number : (r : Read) → r ≡ readImage bs w t → (r .job .refusal ≡ 0 → ⊥) → r .job .refusal ≡ readClass bs w t
@@ -279,7 +303,16 @@ module _ (bs : List ℕ) (w : ℕ) (vs ss cs xs : List ℕ) (o p q b : ℕ) wher
       (λ z. ap (λ (x : Read). x .job .refusal) (h ∙ ite-ne (readClass bs w t) 0 _ _ z))
       (same-or-not (readClass bs w t) 0)
 
-  -- and where it is not, no class was earned
+  -- and then the tables are as they were
+  read-same : (r : Read) → r ≡ readImage bs w t → (r .job .refusal ≡ 0 → ⊥) → r .tables ≡ t
+  unfolding readImage noJob jobOf
+  read-same r h n =
+      ⊎-elim
+      (λ z. absurd (n (ap (λ (x : Read). x .job .refusal) (h ∙ ite-eq (readClass bs w t) 0 _ _ z))))
+      (λ z. ap (λ (x : Read). x .tables) (h ∙ ite-ne (readClass bs w t) 0 _ _ z))
+      (same-or-not (readClass bs w t) 0)
+
+  -- where it is not refused, no class was earned
   read-class : (r : Read) → r ≡ readImage bs w t → r .job .refusal ≡ 0 → readClass bs w t ≡ 0
   unfolding readImage noJob jobOf
   read-class r h n =
@@ -288,20 +321,23 @@ module _ (bs : List ℕ) (w : ℕ) (vs ss cs xs : List ℕ) (o p q b : ℕ) wher
       (λ z. sym (ap (λ (x : Read). x .job .refusal) (h ∙ ite-ne (readClass bs w t) 0 _ _ z)) ∙ n)
       (same-or-not (readClass bs w t) 0)
 
-  -- the listing of a refused image
+  -- what a refused image leaves
   -- a wrong length of a table, or the image's own class
-  by-number : (n : ℕ) → n ≡ readClass bs w t → (n ≡ 0 → ⊥) → refusalLine n ≡ ite wrong (refusalLine 1) (inferred bs)
-  unfolding readClass inferred
+  by-number : (n : ℕ) → n ≡ readClass bs w t → (n ≡ 0 → ⊥) → empties n ≡ ite wrong (empties 1) (ite (eqb (refusalOf bs) 0) ran (empties (refusalOf bs)))
+  unfolding readClass
   by-number n e z = go wrong e
     where
-      go : (x : Bool) → n ≡ ite x 1 (refusalOf bs) → refusalLine n ≡ ite x (refusalLine 1) (ite (eqb (refusalOf bs) 0) (shown (outcome (imageCall (wordsOf bs)))) (refusalLine (refusalOf bs)))
-      go true h = ap refusalLine h
-      go false h = ap refusalLine h ∙ sym (ite-ne (refusalOf bs) 0 _ _ (λ y. z (h ∙ y)))
+      go : (x : Bool) → n ≡ ite x 1 (refusalOf bs) → empties n ≡ ite x (empties 1) (ite (eqb (refusalOf bs) 0) ran (empties (refusalOf bs)))
+      go true h = ap empties h
+      go false h = ap empties h ∙ sym (ite-ne (refusalOf bs) 0 _ _ (λ y. z (h ∙ y)))
 
   -- a refused image: its number
-  pub lists-refused : (r : Read) (d e : Cursor) → false ≡ memoryWrong o p q b → r ≡ readImage bs w t → (r .job .refusal ≡ 0 → ⊥) → (e ≡ putAll (lentRefusal (r .job .refusal)) d) × (length (lentRefusal (r .job .refusal)) ≤ 2900000) → Writes text d e
-  unfolding lentRefusal
-  lists-refused r d e m h n g = as-text (by-number (r .job .refusal) (read-number r h n) n ∙ sym (text-read m)) (record { bytes = g .0; suffices = g .1 })
+  pub leaves-refused : (r : Read) (os : List ℕ) (s : Shown) → o ≡ length os → false ≡ memoryWrong o p q → r ≡ readImage bs w t → (r .job .refusal ≡ 0 → ⊥) → s ≡ refusedAs (r .job .refusal) → settled (left s (r .tables .values) (r .tables .sets) os) ≡ end
+  leaves-refused r os s ho m h n e =
+      ap (λ (x : Tables). settled (left s (x .values) (x .sets) os)) (read-same r h n)
+      ∙ cleared (r .job .refusal) os s e n ho
+      ∙ by-number (r .job .refusal) (read-number r h n) n
+      ∙ end-read m
 
   -- an accepted image, with tables of the right lengths
   accepted : readClass bs w t ≡ 0 → (wrong ≡ false) × (refusalOf bs ≡ 0)
@@ -328,39 +364,31 @@ module _ (bs : List ℕ) (w : ℕ) (vs ss cs xs : List ℕ) (o p q b : ℕ) wher
   unfolding readImage
   read-whole r h n = h ∙ ite-eq (readClass bs w t) 0 _ _ n
 
-  -- the listing of an accepted image
-  text-job : false ≡ memoryWrong o p q b → wrong ≡ false → refusalOf bs ≡ 0 → text ≡ shown (outcome (imageCall (wordsOf bs)))
-  unfolding inferred
-  text-job m h g = text-read m ∙ ap (λ (x : Bool). ite x (refusalLine 1) (inferred bs)) h ∙ ite-eq (refusalOf bs) 0 _ _ g
+  -- what an accepted image leaves
+  end-job : false ≡ memoryWrong o p q → wrong ≡ false → refusalOf bs ≡ 0 → ran ≡ end
+  end-job m h g =
+      sym (ite-eq (refusalOf bs) 0 _ _ g)
+      ∙ sym (ap (λ (x : Bool). ite x (empties 1) (ite (eqb (refusalOf bs) 0) ran (empties (refusalOf bs)))) h)
+      ∙ end-read m
 
-  -- an accepted image: its call, and what is shown of it
-  pub lists-job : (r : Read) (os s64 s32 : List ℕ) (d e : Cursor) → false ≡ memoryWrong o p q b → o ≡ length os → p ≡ length s64 → q ≡ length s32 → r ≡ readImage bs w t → r .job .refusal ≡ 0
+  -- an accepted image: its call, and what that leaves
+  pub leaves-job : (r : Read) (os s64 s32 : List ℕ) (x : Left) → false ≡ memoryWrong o p q → o ≡ length os → p ≡ length s64 → q ≡ length s32 → r ≡ readImage bs w t → r .job .refusal ≡ 0
       → length (r .tables .sets) ≡ length ss → length (r .tables .candidates) ≡ length xs
-      → (Fits (r .tables .sets) (r .tables .candidates) s64 (r .job) → length os ≡ 109760 → length s32 ≡ 24834 → Writes (shown (outcome (jobCall (r .job) (r .tables)))) d e)
-      → Writes text d e
+      → (Fits (r .tables .sets) (r .tables .candidates) s64 (r .job) → length os ≡ Layout.outputWords → length s32 ≡ Layout.savedWords → x ≡ keeps (length (r .tables .sets)) (outcome (jobCall (r .job) (r .tables))))
+      → settled x ≡ end
   unfolding jobOf
-  lists-job r os s64 s32 d e m ho hp hq h n ls lx f =
+  leaves-job r os s64 s32 x m ho hp hq h n ls lx f =
       let c = read-class r h n in
       let a = accepted c in
       let k = few bs (a .1) in
       let l = lent-right w (length vs) (length ss) (length cs) (length xs) (a .0) in
-      let u = memory-right o p q b (sym m) in
+      let u = memory-right o p q (sym m) in
       let g = read-whole r h c in
       let i = ap (λ (x : Read). x .job .identifiers) g in
       let j = ap (λ (x : Read). x .job .candidates) g in
-      as-text
-      (ap (λ (x : Read). shown (outcome (jobCall (x .job) (x .tables)))) g
-      ∙ ap (λ (x : Tables). shown (outcome (jobCall (jobOf (wordsOf bs)) x))) (filled-empty (wordsOf bs) (a .0))
-      ∙ sym (text-job m (a .0) (a .1)))
-      (f (record { rows = omega (arith, l .1); records = omega (arith, l .3); scratch = omega (arith, u .1); entries = omega (arith, ap (λ (x : Read). x .job .session .entries) g) }) (sym ho ∙ u .0) (sym hq ∙ u .2))
-
--- ---- a buffer of the right length
-
--- it holds the whole text from its first byte on, and the answer is how long the text is
--- what `Writes` says of such a buffer
-pub written-whole : (text bs us : List ℕ) (r : ℕ) → length bs ≡ 2900000 → Writes text (cursor 0 bs) (cursor r us) → (r ≡ length text) × (us ≡ text ++ drop (length text) bs)
-written-whole text bs us r l w =
-    let s = w .suffices in
-    let z : 0 + length text ≡ length text = omega arith in
-    let e = w .bytes ∙ put-fits text 0 bs (omega arith) ∙ ap (λ (m : ℕ). cursor m (text ++ drop m bs)) z in
-    (ap (λ (c : Cursor). c .at) e, ap (λ (c : Cursor). c .bytes) e)
+      ap settled
+      (f (record { rows = omega (arith, l .1); records = omega (arith, l .3); scratch = omega (arith, u .1) }) (sym ho ∙ u .0) (sym hq ∙ u .2)
+      ∙ ap (λ (k : ℕ). keeps k (outcome (jobCall (r .job) (r .tables)))) ls
+      ∙ ap (λ (x : Read). keeps (length ss) (outcome (jobCall (x .job) (x .tables)))) g
+      ∙ ap (λ (x : Tables). keeps (length ss) (outcome (jobCall (jobOf (wordsOf bs)) x))) (filled-empty (wordsOf bs) (a .0)))
+      ∙ end-job m (a .0) (a .1)

@@ -1,6 +1,6 @@
 use native.Mathlib.Omega.{arith}
 use mathlib.Core.Path.{refl}
-use Rattle.image_text.specs.Laws.Pieces.{decimal-one, decimal-next}
+use Rattle.image_text.specs.Laws.Columns.{decimal-one, decimal-next}
 use borrow.Author.Needs.{needs}
 use Prim.Native.Nat.{ℕ, _<_}
 use borrow.Fn.Kinds.{In}

@@ -1,4 +1,4 @@
-use Rattle.image_text.specs.Laws.Pieces.{absent-is}
+use Rattle.image_text.specs.Laws.Columns.{absent-is}
 use borrow.Author.Needs.{needs}
 use Rattle.image_text.proofs.put_absent.Statement.{statement}
 use Rattle.image_text.proofs.put_absent.Tie as tie

@@ -1,4 +1,4 @@
-use Rattle.image_text.specs.Laws.Pieces.{column-absent, column-present}
+use Rattle.image_text.specs.Laws.Columns.{column-absent, column-present}
 use borrow.Author.Needs.{needs}
 use Rattle.image_text.proofs.put_column.Statement.{statement}
 use Rattle.image_text.proofs.put_column.Tie as tie

@@ -1,4 +1,4 @@
-use Rattle.image_text.specs.Laws.Pieces.{number-is}
+use Rattle.image_text.specs.Laws.Columns.{number-is}
 use borrow.Author.Needs.{needs}
 use Rattle.image_text.proofs.put_number.Statement.{statement}
 use Rattle.image_text.proofs.put_number.Tie as tie

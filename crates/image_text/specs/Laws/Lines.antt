@@ -9,8 +9,8 @@ use Rattle.def_kinds.specs.Kinds as Kinds
 use Rattle.lent_values.specs.declared.Entry.{Entry}
 use Rattle.lent_values.specs.declared.Entry.the-variants.{Absent, Present}
 use Rattle.lent_values.specs.Cells as Cells
-use Rattle.def_image.specs.Listing.{ascii, newline, shownAll, line, row, valueLine, undefinedIdentifier, mutationReason}
-use Rattle.image_text.specs.Texts.{Cursor, putAll, column, lentRefusal}
+use Rattle.def_image.specs.Listing.{ascii, newline, shownAll, line, row, valueLine, undefinedIdentifier, mutationReason, refusalLine}
+use Rattle.image_text.specs.Texts.{Cursor, putAll, column}
 use Rattle.image_text.specs.Laws.Text.{then-put}
 
 -- the end of a line
@@ -95,8 +95,8 @@ refused-is c c1 c2 c3 c4 c5 c6 e p1 p2 p3 p4 p5 p6 p7 =
 
 -- "A refusal prints only `REFUSED n`."
 -- the way of `put_refusal`
-pub refusal-is : (n : ℕ) (c c0 c1 e : Cursor) → c0 ≡ putAll (ascii "REFUSED") c → c1 ≡ putAll (column (some n)) c0 → e ≡ putAll (newline ∷ []) c1 → e ≡ putAll (lentRefusal n) c
-unfolding lentRefusal Rattle.def_image.specs.Listing.refusalLine
+pub refusal-is : (n : ℕ) (c c0 c1 e : Cursor) → c0 ≡ putAll (ascii "REFUSED") c → c1 ≡ putAll (column (some n)) c0 → e ≡ putAll (newline ∷ []) c1 → e ≡ putAll (refusalLine n) c
+unfolding refusalLine
 refusal-is n c c0 c1 e p0 p1 p2 = line-word (ascii "REFUSED") (some n ∷ []) c c0 e p0 (line-column (some n) [] c0 c1 e p1 (line-end c1 e p2))
 
 -- a Create's kind by its code

@@ -1,4 +1,4 @@
--- Laws of the loops that write lines, one for each way through them, and of the whole listing. Assumes nothing.
+-- Laws of the loops that write lines, one for each way through them. Assumes nothing.
 use Prim.Native.Nat.{ℕ, zero, suc, _+_, _-_, _≤_, _<_}
 use native.Mathlib.Omega.{arith}
 use mathlib.Core.Path.{_≡_, refl, sym, ap, _∙_}
@@ -13,11 +13,11 @@ use Rattle.lent_sets.specs.Laws.Row.{Walk, walk-start, walk-step, walk-end, non
 use Rattle.def_effects.specs.declared.Place.{Place}
 use Rattle.lent_effects.specs.declared.AliasingEffect.{AliasingEffect as Head}
 use Rattle.lent_effects.specs.declared.AliasingEffect.the-variants as Head
-use Rattle.lent_effects.specs.Records.{headIn, effectIn, effectWith}
+use Rattle.lent_effects.specs.Records.{effectWith}
 use Rattle.lent_context.specs.Lent.{effectsIn}
-use Rattle.def_image.specs.Listing.{ascii, newline, shown, shownAll, line, linesFrom, effectRow, effectLines, mutationReason, row, place, setLine, orAbsent, shownLines, undefinedIdentifier}
-use Rattle.image_text.specs.Texts.{Cursor, putAll, column, columns, headLine, listedLines, valueLines, setLines, lentListing}
-use Rattle.image_text.specs.Laws.Text.{then-put, put-append}
+use Rattle.def_image.specs.Listing.{ascii, newline, shown, shownAll, line, linesFrom, effectRow, mutationReason, row, place, setLine, orAbsent}
+use Rattle.image_text.specs.Texts.{Cursor, putAll, column, columns, headLine}
+use Rattle.image_text.specs.Laws.Text.{put-append}
 use Rattle.image_text.specs.Laws.Lines.{line-word, line-column}
 use Rattle.lent_layout.specs.Layout.{output}
 
@@ -78,27 +78,6 @@ pub mutate-is : (e : Head) (p : Place) (r : ℕ) (o : Option ℕ) (c d : Cursor)
 unfolding effectWith
 mutate-is e p r o c d q m y =
     effect-is e (Head.Mutate p r) (row 1 (place p) none none o none) c d q (ap (λ (x : Option ℕ). row 1 (place p) none none x none) m) y
-
--- the line of one effect more
-pub effects-step : (os : List ℕ) (n k : ℕ) (h : Head) (z c d : Cursor) → k < n → h ≡ headIn output os k → d ≡ putAll (headLine h) c → putAll (effectLines (effectsIn output os k (n - k))) c ≡ z → putAll (effectLines (effectsIn output os (k + 1) (n - (k + 1)))) d ≡ z
-unfolding effectLines effectsIn effectIn headLine
-effects-step os n k h z c d l q p e =
-    let m : n - k ≡ suc (n - (k + 1)) = omega arith in
-    let s : suc k ≡ k + 1 = omega arith in
-    let r = effectLines (effectsIn output os (suc k) (n - (k + 1))) in
-    ap (λ (x : ℕ). putAll (effectLines (effectsIn output os x (n - (k + 1)))) d) (sym s)
-    ∙ ap (putAll r) (p ∙ ap (λ (y : Head). putAll (headLine y) c) q ∙ sym (ap (λ (y : List (Option ℕ)). putAll (line (ascii "E") y) c) (not-shown (headIn output os k) _)))
-    ∙ sym (put-append (line (ascii "E") (effectRow (effectIn output os k))) r c)
-    ∙ sym (ap (λ (x : ℕ). putAll (effectLines (effectsIn output os k x)) c) m) ∙ e
-
--- no effect is left
--- that loop's end
-pub effects-end : (os : List ℕ) (n k : ℕ) (d c : Cursor) → n ≤ k → putAll (effectLines (effectsIn output os k (n - k))) c ≡ putAll (effectLines (effectsIn output os 0 (n - 0))) d → c ≡ putAll (listedLines os n) d
-unfolding effectLines effectsIn putAll listedLines
-effects-end os n k d c h e =
-    let m : n - k ≡ 0 = omega arith in
-    let z : n - 0 ≡ n = omega arith in
-    sym (ap (λ (x : ℕ). putAll (effectLines (effectsIn output os k x)) c) m) ∙ e ∙ ap (λ (x : ℕ). putAll (effectLines (effectsIn output os 0 x)) d) z
 
 -- as many effects as the count says
 pub effects-length : (os : List ℕ) (k n : ℕ) → length (effectsIn output os k n) ≡ n
@@ -170,13 +149,3 @@ unfolding setLine ascii
 set-is i none c c0 c1 c2 e h p0 p1 p2 p3 = absurd (let z : _≡_ {A = ℕ} 0 1 = cc in omega arith)
 set-is i (some s) c c0 c1 c2 e h p0 p1 p2 p3 =
     line-word (ascii "P") (some i ∷ orAbsent (members s)) c c0 e p0 (line-column (some i) (orAbsent (members s)) c0 c1 e p1 (shown-columns (orAbsent (members s)) c1 c2 e p2 p3))
-
--- ---- the whole
-
--- the first line, the effects, the values, the sets and the last line
--- the way of `put_listing`
-pub listing-is : (os : List ℕ) (n m : ℕ) (vs ss : List ℕ) (a : ℕ) (c c0 c1 c2 c3 e : Cursor) → c0 ≡ putAll (line (ascii "OK") (some n ∷ some m ∷ [])) c → c1 ≡ putAll (listedLines os n) c0 → c2 ≡ putAll (valueLines vs) c1 → c3 ≡ putAll (setLines ss) c2 → e ≡ putAll (line (ascii "U") (undefinedIdentifier a ∷ [])) c3 → e ≡ putAll (lentListing os n m vs ss a) c
-unfolding lentListing shownLines listedLines valueLines setLines
-listing-is os n m vs ss a c c0 c1 c2 c3 e p0 p1 p2 p3 p4 =
-    then-put _ _ c c0 e (p0 ∙ sym (ap (λ (x : ℕ). putAll (line (ascii "OK") (some x ∷ some m ∷ [])) c) (effects-length os 0 n)))
-    (then-put _ _ c0 c1 e p1 (then-put _ _ c1 c2 e p2 (then-put _ _ c2 c3 e p3 p4)))

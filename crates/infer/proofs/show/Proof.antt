@@ -1,4 +1,4 @@
--- `infer::show` is safe: the listing lies within the buffer. Assumes nothing.
+-- `infer::show` is safe: a piece lies within the buffer. Assumes nothing.
 use mathlib.Core.Path.{sym}
 use lib.Seq.{length-take-le}
 use borrow.Author.Needs.{needs}

@@ -1,0 +1,3 @@
+pub mod Suffices
+pub mod Ways
+pub mod Whole
