@@ -134,7 +134,7 @@ def tables():
 def main():
     print("| tables | Rust | port | ratio |")
     print("|--|--|--|--|")
-    for name, words, times, kind, power in (("nearly empty", nearly_empty(), 100000, 1, 4), ("middle", middle(), 100000, 4, 4), ("full", full(), 10000, 2, 2)):
+    for name, words, times, kind, power in (("nearly empty", nearly_empty(), 100000, 1, 4), ("middle", middle(), 100000, 4, 4), ("full", full(), 10000, 2, 3)):
         theirs, ours = rust(words, times), port(kind, power)
         print("| %s | %.2f µs | %.1f µs | %.0f |" % (name, theirs, ours, ours / theirs))
     print("a call refused with 11 after a walk 4,096 entries deep: %.0f µs" % port(3, 2))

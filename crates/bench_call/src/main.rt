@@ -174,15 +174,25 @@ fn middle_value(i: u32) -> AbstractValue {
     }
 }
 
-// The three value numbers of identifier i of middling tables, v, v + 20 and v + 40, get their entries.
-fn middle_entries(values: &mut [u64], v: u32, a: AbstractValue) {
-    let first = wide32(v);
-    lent_values::put_value(values, first, a);
-    lent_values::put_value(values, first + 20, a);
-    lent_values::put_value(values, first + 40, a);
+// The three values of identifier i of middling tables, v, v + 20 and v + 40, get their entries.
+fn middle_entries(values: &mut [u64], i: u32) {
+    let v = wide32(i % 20 + 1);
+    let a = middle_value(i);
+    lent_values::put_value(values, v, a);
+    lent_values::put_value(values, v + 20, a);
+    lent_values::put_value(values, v + 40, a);
 }
 
-// They are the set of the identifier.
+// All 60 of them.
+fn middle_values(values: &mut [u64]) {
+    let mut i: u32 = 0;
+    while i < 20 {
+        middle_entries(values, i);
+        i += 1;
+    }
+}
+
+// They are the set of their identifier.
 fn middle_set(sets: &mut [u64], i: u32) {
     let v = i % 20 + 1;
     let mut row = [0u64; 16];
@@ -192,11 +202,10 @@ fn middle_set(sets: &mut [u64], i: u32) {
     lent_set_writes::put_set(sets, i, &row);
 }
 
-// 60 values in the sets of 20 identifiers.
-fn middle_state(values: &mut [u64], sets: &mut [u64]) {
+// The sets of 20 identifiers.
+fn middle_sets(sets: &mut [u64]) {
     let mut i: u32 = 0;
     while i < 20 {
-        middle_entries(values, i % 20 + 1, middle_value(i));
         middle_set(sets, i);
         i += 1;
     }
@@ -205,7 +214,8 @@ fn middle_state(values: &mut [u64], sets: &mut [u64]) {
 // The code of interned effect j by its key, of middling tables.
 // 34 each of Freeze, Capture, MaybeAlias and ImmutableCapture.
 fn middle_code(j: u32) -> u32 {
-    match j / 34 {
+    let turn = j / 34;
+    match turn {
         0 => 0,
         1 => 5,
         2 => 7,
@@ -213,8 +223,9 @@ fn middle_code(j: u32) -> u32 {
     }
 }
 
-// The record of that effect: from identifiers 0 to 16, two each; a Freeze with reason 0 or 1, the others into 18 or 19.
-fn middle_record(context: &mut [u32], at: usize, j: u32, code: u32) {
+// The record of that effect, of number k: from identifiers 0 to 16, two each; a Freeze with reason 0 or 1, the others into 18 or 19.
+fn middle_record(context: &mut [u32], k: u32, j: u32, code: u32) {
+    let at = 37317 + wide32(k) * 98;
     set32(context, at, code);
     set32(context, at + 1, j % 34 / 2);
     if code == 0 {
@@ -228,7 +239,7 @@ fn middle_record(context: &mut [u32], at: usize, j: u32, code: u32) {
 fn middle_effect(context: &mut [u32], j: u32) {
     let k = j % 136 * 37 % 136;
     set32(context, 35269 + wide32(j), k);
-    middle_record(context, 37317 + wide32(k) * 98, j, middle_code(j));
+    middle_record(context, k, j, middle_code(j));
 }
 
 // All 136 of them, and their order.
@@ -240,23 +251,25 @@ fn middle_effects(context: &mut [u32]) {
     }
 }
 
-// A context place: an identifier with the effect Capture.
-fn middle_place(context: &mut [u32], at: usize, i: u32) {
+// Context place p, of sixteen for each function: an identifier with the effect Capture.
+fn middle_place(context: &mut [u32], p: u32, i: u32) {
+    let at = 12485 + wide32(p) * 5;
     set32(context, at, i);
     set32(context, at + 1, 3);
 }
 
 // Function f of middling tables: its effects are known, its context places are f, f + 1 and f + 2; it is the function of value f + 1.
 fn middle_function(context: &mut [u32], f: u32) {
-    let n = wide32(f % 8);
     let i = f % 8;
-    set32(context, 2051 + n * 163, 1);
-    set32(context, 2052 + n * 163, 3);
-    middle_place(context, 12485 + n * 80, i);
-    middle_place(context, 12490 + n * 80, i + 1);
-    middle_place(context, 12495 + n * 80, i + 2);
-    set32(context, 17607 + n * 2, 1);
-    set32(context, 17608 + n * 2, i);
+    let at = 2051 + wide32(i) * 163;
+    let link = 17607 + wide32(i) * 2;
+    set32(context, at, 1);
+    set32(context, at + 1, 3);
+    middle_place(context, i * 16, i);
+    middle_place(context, i * 16 + 1, i + 1);
+    middle_place(context, i * 16 + 2, i + 2);
+    set32(context, link, 1);
+    set32(context, link + 1, i);
 }
 
 // All 8 of them.
@@ -298,18 +311,20 @@ fn lend_middle(context: &mut [u32]) {
     middle_effects(context);
 }
 
+// A candidate of middling tables: its record, code, source and destination.
+fn middle_flow(candidates: &mut [u32], k: u32, code: u32, from: u32, into: u32) {
+    let at = wide32(k) * 98;
+    set32(candidates, at, code);
+    set32(candidates, at + 1, from);
+    set32(candidates, at + 6, into);
+}
+
 // Four candidates that are interned already: Capture 3 into 18, ImmutableCapture 7 into 19, MaybeAlias 5 into 18, Freeze 6 with State.
 // The MaybeAlias derives an ImmutableCapture, since 5 is Frozen, and that is interned too; the Freeze changes nothing.
 fn middle_candidates(candidates: &mut [u32]) {
-    set32(candidates, 0, 5);
-    set32(candidates, 1, 3);
-    set32(candidates, 6, 18);
-    set32(candidates, 98, 11);
-    set32(candidates, 99, 7);
-    set32(candidates, 104, 19);
-    set32(candidates, 196, 7);
-    set32(candidates, 197, 5);
-    set32(candidates, 202, 18);
+    middle_flow(candidates, 0, 5, 3, 18);
+    middle_flow(candidates, 1, 11, 7, 19);
+    middle_flow(candidates, 2, 7, 5, 18);
     set32(candidates, 295, 6);
     set32(candidates, 306, 1);
 }
@@ -460,7 +475,8 @@ fn measure_middle(n: u32) -> u64 {
     let mut output = [0u32; 109760];
     let mut scratch64 = [0u64; 1344];
     let mut scratch32 = [0u32; 24834];
-    middle_state(&mut values, &mut sets);
+    middle_values(&mut values);
+    middle_sets(&mut sets);
     lend_middle(&mut context);
     middle_candidates(&mut candidates);
     repeat(

@@ -1,0 +1,48 @@
+-- `bench_call::middle_values` ends, within its bounds. Assumes nothing.
+use Prim.Native.Nat.{_-_, _≤_}
+use mathlib.Core.Path.{_≡_, refl, _∙_}
+use lib.ListN.{length}
+use borrow.Author.Needs.{needs}
+use Rattle.bench_call.proofs.middle_values.Statement.{statement}
+use Rattle.bench_call.proofs.middle_values.Tie as tie
+
+abbrev Inv-loop : tie.InvT-loop
+Inv-loop values₀ i₀ values i = (i ≤ 20) × (length values ≡ length values₀)
+
+abbrev μ-loop : tie.MeasureT-loop
+μ-loop values₀ i₀ values i = 20 - i
+
+loop-holds : tie.Need-loop-holds Inv-loop μ-loop
+loop-holds c = (search needs, refl)
+
+middle-entries-requires : tie.Need-middle-entries-requires Inv-loop μ-loop
+middle-entries-requires c κs = search needs
+
+add-i : tie.Need-add-i Inv-loop μ-loop
+add-i c = search needs
+
+loop-less : tie.Need-loop-less Inv-loop μ-loop
+loop-less c = search needs
+
+loop-again : tie.Need-loop-again Inv-loop μ-loop
+loop-again c = (search needs, c .before .before .middle-entries .kept .0 ∙ c .before .before .before .before .before .loop .inv .1)
+
+same-length : tie.Need-same-length Inv-loop μ-loop
+same-length c = c .before .loop .inv .1
+
+returns : tie.Need-returns Inv-loop μ-loop
+returns c = search needs
+
+pub middle-values-spec : {M : Type 1} → statement M
+middle-values-spec =
+    tie.close
+    (tie.spec
+    Inv-loop
+    μ-loop
+    loop-holds
+    middle-entries-requires
+    add-i
+    loop-less
+    loop-again
+    same-length
+    returns)
