@@ -8,27 +8,21 @@ use Rattle.call_room.proofs.capped.Tie as tie
 use Rattle.call_room.proofs.capped.Reads as reads
 use Rattle.call_room.proofs.capped.Lts as lts
 
--- src/lib.rt:73:9
 returns : tie.Need-returns
 returns c = capped-full _ _ (inl (c .if1 .taken))
 
--- src/lib.rt:76:9
 returns-2 : tie.Need-returns-2
 returns-2 c = capped-full _ _ (inr (c .if2 .taken))
 
--- src/lib.rt:78:15
 add-sum : tie.Need-add-sum
 add-sum c = omega arith
 
--- src/lib.rt:80:9
 returns-3 : tie.Need-returns-3
 returns-3 c = capped-past _ _ _ refl (c .if3 .taken)
 
--- src/lib.rt:82:5
 cast-result : tie.Need-cast-result
 cast-result c = omega arith
 
--- src/lib.rt:69:1
 returns-4 : tie.Need-returns-4
 returns-4 c = capped-sum _ _ _ refl (c .if3 .left)
 

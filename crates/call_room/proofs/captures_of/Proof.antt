@@ -6,15 +6,12 @@ use Rattle.call_room.proofs.captures_of.Reads as reads
 use Rattle.call_room.proofs.captures_of.Lts as lts
 use Rattle.lent_tables.proofs.field.Reads as field-reads
 
--- src/lib.rt:52:9
 field-requires : tie.Need-field-requires
 field-requires c κs = search needs
 
--- src/lib.rt:52:9
 returns : tie.Need-returns
 returns c = captures-there _ _ _ _ (c .before .if1 .taken) (c .field .ensures)
 
--- src/lib.rt:48:1
 returns-2 : tie.Need-returns-2
 returns-2 c = captures-none _ _ _ (c .if1 .left)
 

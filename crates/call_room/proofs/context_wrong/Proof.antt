@@ -7,31 +7,24 @@ use Rattle.call_room.proofs.context_wrong.Reads as reads
 use Rattle.call_room.proofs.context_wrong.Lts as lts
 use Rattle.lent_slices.proofs.wide32.Reads as wide32-reads
 
--- src/lib.rt:103:32
 wide32-requires : tie.Need-wide32-requires
 wide32-requires c κs = search needs
 
--- src/lib.rt:103:32
 mul-least : tie.Need-mul-least
 mul-least c = omega arith
 
--- src/lib.rt:103:17
 add-least : tie.Need-add-least
 add-least c = omega arith
 
--- src/lib.rt:105:9
 returns : tie.Need-returns
 returns c = context-short (c .before .before .before .args .room) _ (omega (arith, c .before .wide32 .ensures))
 
--- src/lib.rt:108:9
 returns-2 : tie.Need-returns-2
 returns-2 c = context-long (c .before .before .before .before .args .room) _ (omega (arith, c .before .before .wide32 .ensures)) (c .if2 .taken)
 
--- src/lib.rt:110:6
 sub-result : tie.Need-sub-result
 sub-result c = omega (arith, c .before .before .wide32 .ensures)
 
--- src/lib.rt:100:1
 returns-3 : tie.Need-returns-3
 returns-3 c = context-whole (c .before .before .before .before .args .room) _ (omega (arith, c .before .before .wide32 .ensures)) (c .if2 .left)
 

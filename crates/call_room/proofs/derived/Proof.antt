@@ -5,27 +5,21 @@ use Rattle.call_room.proofs.derived.Tie as tie
 use Rattle.call_room.proofs.derived.Reads as reads
 use Rattle.call_room.proofs.derived.Lts as lts
 
--- src/lib.rt:29:9
 returns : tie.Need-returns
 returns c = derives-none _ (c .if1 .taken)
 
--- src/lib.rt:32:9
 returns-2 : tie.Need-returns-2
 returns-2 c = derives-report _ (c .before .if1 .left) (c .if2 .taken)
 
--- src/lib.rt:35:9
 returns-3 : tie.Need-returns-3
 returns-3 c = derives-two _ (c .before .before .if1 .left) (c .before .if2 .left) (c .if3 .taken)
 
--- src/lib.rt:38:9
 returns-4 : tie.Need-returns-4
 returns-4 c = derives-one _ (c .before .before .before .if1 .left) (c .before .before .if2 .left) (c .before .if3 .left) (c .if4 .taken)
 
--- src/lib.rt:41:9
 returns-5 : tie.Need-returns-5
 returns-5 c = derives-from _ (c .before .before .before .before .if1 .left) (c .before .before .before .if2 .left) (c .before .before .if3 .left) (c .before .if4 .left) (c .if5 .taken)
 
--- src/lib.rt:25:1
 returns-6 : tie.Need-returns-6
 returns-6 c = derives-rest _ (c .before .before .before .before .if1 .left) (c .before .before .before .if2 .left) (c .before .before .if3 .left) (c .before .if4 .left) (c .if5 .left)
 

@@ -10,35 +10,27 @@ use Rattle.call_room.proofs.captures_of.Reads as captures-of-reads
 use Rattle.call_room.proofs.derived.Reads as derived-reads
 use Rattle.lent_effects.proofs.code_in.Reads as code-in-reads
 
--- src/lib.rt:62:9
 code-in-requires : tie.Need-code-in-requires
 code-in-requires c κs = search needs
 
--- src/lib.rt:63:9
 captures-of-requires : tie.Need-captures-of-requires
 captures-of-requires c κs = search needs
 
--- src/lib.rt:64:9
 derived-requires : tie.Need-derived-requires
 derived-requires c κs = search needs
 
--- src/lib.rt:64:5
 add-result : tie.Need-add-result
 add-result c = (let z = derives-few (c .before .before .code-in .result) in let e = c .derived .ensures in omega arith)
 
--- src/lib.rt:64:30
 cast-result : tie.Need-cast-result
 cast-result c = search needs
 
--- src/lib.rt:64:25
 mul-result : tie.Need-mul-result
 mul-result c = omega arith
 
--- src/lib.rt:64:5
 add-result-2 : tie.Need-add-result-2
 add-result-2 c = (let z = derives-few (c .before .before .code-in .result) in let e = c .derived .ensures in omega arith)
 
--- src/lib.rt:59:1
 returns : tie.Need-returns
 returns c = need-is _ _ _ _ _ _ _ (c .before .before .code-in .ensures) (c .before .captures-of .ensures) (c .derived .ensures) refl refl
 

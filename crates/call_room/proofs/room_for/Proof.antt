@@ -19,39 +19,30 @@ Inv-loop context candidates n total₀ k₀ total k = (k ≤ n) × (total ≤ 20
 abbrev μ-loop : tie.MeasureT-loop
 μ-loop context candidates n total₀ k₀ total k = n - k
 
--- src/lib.rt:90:28
 interned-count-requires : tie.Need-interned-count-requires Inv-loop μ-loop
 interned-count-requires c κs = search needs
 
--- src/lib.rt:90:9
 capped-requires : tie.Need-capped-requires Inv-loop μ-loop
 capped-requires c κs = search needs
 
--- src/lib.rt:92:5
 loop-holds : tie.Need-loop-holds Inv-loop μ-loop
 loop-holds c = (omega arith, most-limit _ (c .before .interned-count .result + 0) (c .capped .ensures), room-starts (c .before .before .before .before .args .context .now) (c .before .before .before .before .args .candidates .now) (length (c .before .before .before .before .args .candidates .now) / 98) refl _ _ (c .before .interned-count .ensures) (c .capped .ensures))
 
--- src/lib.rt:93:31
 need-of-requires : tie.Need-need-of-requires Inv-loop μ-loop
 need-of-requires c κs = search needs
 
--- src/lib.rt:93:9
 capped-requires-2 : tie.Need-capped-requires-2 Inv-loop μ-loop
 capped-requires-2 c κs = search needs
 
--- src/lib.rt:94:9
 add-k : tie.Need-add-k Inv-loop μ-loop
 add-k c = search needs
 
--- src/lib.rt:92:5
 loop-less : tie.Need-loop-less Inv-loop μ-loop
 loop-less c = search needs
 
--- src/lib.rt:92:5
 loop-again : tie.Need-loop-again Inv-loop μ-loop
 loop-again c = (omega arith, most-limit _ (c .before .before .before .loop .total + c .before .need-of .result) (c .capped2 .ensures), room-more (c .before .before .before .before .before .before .before .before .args .context .now) (c .before .before .before .before .before .before .before .before .args .candidates .now) (length (c .before .before .before .before .before .before .before .before .args .candidates .now) / 98) refl _ _ _ _ (c .before .before .loop-test .taken) (c .before .need-of .ensures) (c .capped2 .ensures) (c .before .before .before .loop .inv .2))
 
--- src/lib.rt:86:1
 returns : tie.Need-returns Inv-loop μ-loop
 returns c = room-ends (c .before .before .before .before .before .before .args .context .now) (c .before .before .before .before .before .before .args .candidates .now) (length (c .before .before .before .before .before .before .args .candidates .now) / 98) refl _ _ (c .loop-test .left) (c .before .loop .inv .1) (c .before .loop .inv .2)
 

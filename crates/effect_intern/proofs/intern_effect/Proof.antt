@@ -16,83 +16,63 @@ use Rattle.lent_search.proofs.find_effect.Reads as find-effect-reads
 use Rattle.lent_slices.proofs.set32.Reads as set32-reads
 use Rattle.lent_slices.proofs.wide32.Reads as wide32-reads
 
--- src/lib.rt:140:37
 key-of-requires : tie.Need-key-of-requires
 key-of-requires c κs = search needs
 
--- src/lib.rt:140:9
 find-effect-requires : tie.Need-find-effect-requires
 find-effect-requires c κs = search needs
 
--- src/lib.rt:142:18
 enum-known-spot : tie.Need-enum-known-spot
 enum-known-spot c = search needs
 
--- src/lib.rt:143:17
 order-at-requires : tie.Need-order-at-requires
 order-at-requires c κs = search needs
 
--- src/lib.rt:144:50
 wide32-requires : tie.Need-wide32-requires
 wide32-requires c κs = search needs
 
--- src/lib.rt:144:17
 effect-in-requires : tie.Need-effect-in-requires
 effect-in-requires c κs = search needs
 
--- src/lib.rt:145:17
 refresh-requires : tie.Need-refresh-requires
 refresh-requires c κs = search needs
 
--- src/lib.rt:152:22
 enum-known-spot-2 : tie.Need-enum-known-spot-2
 enum-known-spot-2 c = search needs
 
--- src/lib.rt:153:17
 interned-count-requires : tie.Need-interned-count-requires
 interned-count-requires c κs = search needs
 
--- src/lib.rt:155:17
 same-length : tie.Need-same-length
 same-length c = search needs
 
--- src/lib.rt:155:17
 returns : tie.Need-returns
 returns c = λ vs ss os run. intern-full vs ss (c .before .before .before .before .before .before .before .before .before .before .before .args .context .now) os run (c .before .before .before .before .before .before .before .before .before .before .before .args .e) (capturesOf (c .before .before .before .before .before .before .before .before .before .before .before .args .captures .now)) _ (c .before .before .before .before .before .before .before .key-of .ensures (capturesOf (c .before .before .before .before .before .before .before .before .before .before .before .args .captures .now))) _ (c .before .before .before .before .before .before .find-effect .ensures) _ _ (c .before .before .before .before .spot2 .given .1) (c .before .interned-count .ensures) (c .if1 .taken)
 
--- src/lib.rt:161:43
 wide32-requires-2 : tie.Need-wide32-requires-2
 wide32-requires-2 c κs = search needs
 
--- src/lib.rt:161:13
 put-effect-requires : tie.Need-put-effect-requires
 put-effect-requires c κs = search needs
 
--- src/lib.rt:162:13
 insert-requires : tie.Need-insert-requires
 insert-requires c κs = search needs
 
--- src/lib.rt:163:44
 add-set32 : tie.Need-add-set32
 add-set32 c = search needs
 
--- src/lib.rt:163:13
 set32-requires : tie.Need-set32-requires
 set32-requires c κs = search needs
 
--- src/lib.rt:130:1
 same-length-2 : tie.Need-same-length-2
 same-length-2 c = search needs
 
--- src/lib.rt:130:1
 returns-2 : tie.Need-returns-2
 returns-2 c = λ vs ss os run. intern-found vs ss (c .before .before .before .before .before .before .before .before .before .before .before .before .before .before .args .context .now) os run (c .before .before .before .before .before .before .before .before .before .before .before .before .before .before .args .e) (capturesOf (c .before .before .before .before .before .before .before .before .before .before .before .before .before .before .args .captures .now)) _ (c .before .before .before .before .before .before .before .before .before .before .key-of .ensures (capturesOf (c .before .before .before .before .before .before .before .before .before .before .before .before .before .before .args .captures .now))) _ (c .before .before .before .before .before .before .before .before .before .find-effect .ensures) _ _ _ _ _ (c .before .before .before .before .before .before .before .spot .given .1) (c .before .before .before .before .order-at .ensures) (c .before .before .wide32 .ensures) (c .before .effect-in .ensures) (c .refresh .ensures)
 
--- src/lib.rt:130:1
 same-length-3 : tie.Need-same-length-3
 same-length-3 c = search needs
 
--- src/lib.rt:130:1
 returns-3 : tie.Need-returns-3
 returns-3 c = λ vs ss os run. intern-new vs ss (c .before .before .before .before .before .before .before .before .before .before .before .before .before .before .before .before .before .before .before .before .before .before .before .before .args .context .now) os run (c .before .before .before .before .before .before .before .before .before .before .before .before .before .before .before .before .before .before .before .before .before .before .before .before .args .e) (capturesOf (c .before .before .before .before .before .before .before .before .before .before .before .before .before .before .before .before .before .before .before .before .before .before .before .before .args .captures .now)) _ (c .before .before .before .before .before .before .before .before .before .before .before .before .before .before .before .before .before .before .before .before .key-of .ensures (capturesOf (c .before .before .before .before .before .before .before .before .before .before .before .before .before .before .before .before .before .before .before .before .before .before .before .before .args .captures .now))) _ (c .before .before .before .before .before .before .before .before .before .before .before .before .before .before .before .before .before .before .before .find-effect .ensures) _ _ _ _ _ _ (c .before .before .before .before .before .before .before .before .before .before .before .before .before .before .before .before .before .spot2 .given .1) (c .before .before .before .before .before .before .before .before .before .before .before .before .before .before .interned-count .ensures) (c .before .before .before .before .before .before .before .before .before .before .before .before .before .if1 .left) (c .before .before .before .before .before .before .before .before .before .before .before .wide322 .ensures) (c .before .before .before .before .before .before .before .before .before .before .put-effect .ensures) (c .before .before .before .before .before .before .insert .ensures) (c .before .before .set32 .ensures)
 

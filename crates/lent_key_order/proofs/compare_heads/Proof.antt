@@ -8,59 +8,45 @@ use Rattle.base_search.proofs.compare_numbers.Reads as compare-numbers-reads
 use Rattle.base_search.proofs.first.Reads as first-reads
 use Rattle.lent_key_order.proofs.compare_options.Reads as compare-options-reads
 
--- src/lib.rt:45:9
 compare-numbers-requires : tie.Need-compare-numbers-requires
 compare-numbers-requires c κs = search needs
 
--- src/lib.rt:47:13
 compare-options-requires : tie.Need-compare-options-requires
 compare-options-requires c κs = search needs
 
--- src/lib.rt:49:17
 compare-options-requires-2 : tie.Need-compare-options-requires-2
 compare-options-requires-2 c κs = search needs
 
--- src/lib.rt:51:21
 compare-numbers-requires-2 : tie.Need-compare-numbers-requires-2
 compare-numbers-requires-2 c κs = search needs
 
--- src/lib.rt:53:25
 compare-numbers-requires-3 : tie.Need-compare-numbers-requires-3
 compare-numbers-requires-3 c κs = search needs
 
--- src/lib.rt:55:29
 compare-options-requires-3 : tie.Need-compare-options-requires-3
 compare-options-requires-3 c κs = search needs
 
--- src/lib.rt:56:29
 compare-numbers-requires-4 : tie.Need-compare-numbers-requires-4
 compare-numbers-requires-4 c κs = search needs
 
--- src/lib.rt:54:25
 first-requires : tie.Need-first-requires
 first-requires c κs = search needs
 
--- src/lib.rt:52:21
 first-requires-2 : tie.Need-first-requires-2
 first-requires-2 c κs = search needs
 
--- src/lib.rt:50:17
 first-requires-3 : tie.Need-first-requires-3
 first-requires-3 c κs = search needs
 
--- src/lib.rt:48:13
 first-requires-4 : tie.Need-first-requires-4
 first-requires-4 c κs = search needs
 
--- src/lib.rt:46:9
 first-requires-5 : tie.Need-first-requires-5
 first-requires-5 c κs = search needs
 
--- src/lib.rt:44:5
 first-requires-6 : tie.Need-first-requires-6
 first-requires-6 c κs = search needs
 
--- src/lib.rt:35:1
 returns : tie.Need-returns
 returns c = heads-are _ _ _ _ _ _ _ _ _ _ _ _ _ _ _ (c .before .before .before .before .before .before .before .before .before .before .before .before .compare-numbers .ensures) (c .before .before .before .before .before .before .before .before .before .before .before .compare-options .ensures) (c .before .before .before .before .before .before .before .before .before .before .compare-options2 .ensures) (c .before .before .before .before .before .before .before .before .before .compare-numbers2 .ensures) (c .before .before .before .before .before .before .before .before .compare-numbers3 .ensures) (c .before .before .before .before .before .before .before .compare-options3 .ensures) (c .before .before .before .before .before .before .compare-numbers4 .ensures) (c .before .before .before .before .before .first .ensures) (c .before .before .before .before .first2 .ensures) (c .before .before .before .first3 .ensures) (c .before .before .first4 .ensures) (c .before .first5 .ensures) (c .first6 .ensures)
 

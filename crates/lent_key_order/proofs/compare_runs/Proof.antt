@@ -18,63 +18,48 @@ Inv-loop t xs i w s n u ys j v r m k₀ k = (k ≤ n) × (compareLists (numbersI
 abbrev μ-loop : tie.MeasureT-loop
 μ-loop t xs i w s n u ys j v r m k₀ k = n - k
 
--- src/lib.rt:84:5
 loop-holds : tie.Need-loop-holds Inv-loop μ-loop
 loop-holds c = (omega arith, left-all (c .before .before .args .t) (c .before .before .args .xs .now) (c .before .before .args .i) (c .before .before .args .w) (c .before .before .args .s) (c .before .before .args .u) (c .before .before .args .ys .now) (c .before .before .args .j) (c .before .before .args .v) (c .before .before .args .r) (c .before .before .args .n) (c .before .before .args .m))
 
--- src/lib.rt:86:13
 returns : tie.Need-returns Inv-loop μ-loop
 returns c = second-done (c .before .before .before .before .before .args .t) (c .before .before .before .before .before .args .xs .now) (c .before .before .before .before .before .args .i) (c .before .before .before .before .before .args .w) (c .before .before .before .before .before .args .s) (c .before .before .before .before .before .args .u) (c .before .before .before .before .before .args .ys .now) (c .before .before .before .before .before .args .j) (c .before .before .before .before .before .args .v) (c .before .before .before .before .before .args .r) (c .before .before .loop .k) (c .before .before .before .before .before .args .n) (c .before .before .before .before .before .args .m) (c .before .loop-test .taken) (c .if1 .taken) ∙ sym (c .before .before .loop .inv .1)
 
--- src/lib.rt:88:33
 number-in-requires : tie.Need-number-in-requires Inv-loop μ-loop
 number-in-requires c κs = search needs
 
--- src/lib.rt:88:63
 number-in-requires-2 : tie.Need-number-in-requires-2 Inv-loop μ-loop
 number-in-requires-2 c κs = search needs
 
--- src/lib.rt:88:13
 compare-numbers-requires : tie.Need-compare-numbers-requires Inv-loop μ-loop
 compare-numbers-requires c κs = search needs
 
--- src/lib.rt:91:17
 enum-told : tie.Need-enum-told Inv-loop μ-loop
 enum-told c = search needs
 
--- src/lib.rt:91:17
 returns-2 : tie.Need-returns-2 Inv-loop μ-loop
 returns-2 c = one-less (c .before .before .before .before .before .before .before .before .before .before .args .t) (c .before .before .before .before .before .before .before .before .before .before .args .xs .now) (c .before .before .before .before .before .before .before .before .before .before .args .i) (c .before .before .before .before .before .before .before .before .before .before .args .w) (c .before .before .before .before .before .before .before .before .before .before .args .s) (c .before .before .before .before .before .before .before .before .before .before .args .u) (c .before .before .before .before .before .before .before .before .before .before .args .ys .now) (c .before .before .before .before .before .before .before .before .before .before .args .j) (c .before .before .before .before .before .before .before .before .before .before .args .v) (c .before .before .before .before .before .before .before .before .before .before .args .r) (c .before .before .before .before .before .before .before .loop .k) (c .before .before .before .before .before .before .before .before .before .before .args .n) (c .before .before .before .before .before .before .before .before .before .before .args .m) (c .before .before .before .before .before .before .loop-test .taken) (c .before .before .before .before .before .if1 .left) _ _ (c .before .before .before .before .number-in .ensures) (c .before .before .before .number-in2 .ensures) _ (c .before .before .compare-numbers .ensures) (c .enum-told .given .1) ∙ sym (c .before .before .before .before .before .before .before .loop .inv .1)
 
--- src/lib.rt:94:17
 enum-told-2 : tie.Need-enum-told-2 Inv-loop μ-loop
 enum-told-2 c = search needs
 
--- src/lib.rt:94:17
 add-k : tie.Need-add-k Inv-loop μ-loop
 add-k c = omega arith
 
--- src/lib.rt:84:5
 loop-less : tie.Need-loop-less Inv-loop μ-loop
 loop-less c = omega arith
 
--- src/lib.rt:84:5
 loop-again : tie.Need-loop-again Inv-loop μ-loop
 loop-again c = (omega arith, c .before .before .before .before .before .before .before .loop .inv .1 ∙ one-same (c .before .before .before .before .before .before .before .before .before .before .args .t) (c .before .before .before .before .before .before .before .before .before .before .args .xs .now) (c .before .before .before .before .before .before .before .before .before .before .args .i) (c .before .before .before .before .before .before .before .before .before .before .args .w) (c .before .before .before .before .before .before .before .before .before .before .args .s) (c .before .before .before .before .before .before .before .before .before .before .args .u) (c .before .before .before .before .before .before .before .before .before .before .args .ys .now) (c .before .before .before .before .before .before .before .before .before .before .args .j) (c .before .before .before .before .before .before .before .before .before .before .args .v) (c .before .before .before .before .before .before .before .before .before .before .args .r) (c .before .before .before .before .before .before .before .loop .k) (c .before .before .before .before .before .before .before .before .before .before .args .n) (c .before .before .before .before .before .before .before .before .before .before .args .m) (c .before .before .before .before .before .before .loop-test .taken) (c .before .before .before .before .before .if1 .left) _ _ (c .before .before .before .before .number-in .ensures) (c .before .before .before .number-in2 .ensures) _ (c .before .before .compare-numbers .ensures) (c .enum-told2 .given .1))
 
--- src/lib.rt:97:17
 enum-told-3 : tie.Need-enum-told-3 Inv-loop μ-loop
 enum-told-3 c = search needs
 
--- src/lib.rt:97:17
 returns-3 : tie.Need-returns-3 Inv-loop μ-loop
 returns-3 c = one-more (c .before .before .before .before .before .before .before .before .before .before .args .t) (c .before .before .before .before .before .before .before .before .before .before .args .xs .now) (c .before .before .before .before .before .before .before .before .before .before .args .i) (c .before .before .before .before .before .before .before .before .before .before .args .w) (c .before .before .before .before .before .before .before .before .before .before .args .s) (c .before .before .before .before .before .before .before .before .before .before .args .u) (c .before .before .before .before .before .before .before .before .before .before .args .ys .now) (c .before .before .before .before .before .before .before .before .before .before .args .j) (c .before .before .before .before .before .before .before .before .before .before .args .v) (c .before .before .before .before .before .before .before .before .before .before .args .r) (c .before .before .before .before .before .before .before .loop .k) (c .before .before .before .before .before .before .before .before .before .before .args .n) (c .before .before .before .before .before .before .before .before .before .before .args .m) (c .before .before .before .before .before .before .loop-test .taken) (c .before .before .before .before .before .if1 .left) _ _ (c .before .before .before .before .number-in .ensures) (c .before .before .before .number-in2 .ensures) _ (c .before .before .compare-numbers .ensures) (c .enum-told3 .given .1) ∙ sym (c .before .before .before .before .before .before .before .loop .inv .1)
 
--- src/lib.rt:102:9
 returns-4 : tie.Need-returns-4 Inv-loop μ-loop
 returns-4 c = first-done (c .before .before .before .before .before .args .t) (c .before .before .before .before .before .args .xs .now) (c .before .before .before .before .before .args .i) (c .before .before .before .before .before .args .w) (c .before .before .before .before .before .args .s) (c .before .before .before .before .before .args .u) (c .before .before .before .before .before .args .ys .now) (c .before .before .before .before .before .args .j) (c .before .before .before .before .before .args .v) (c .before .before .before .before .before .args .r) (c .before .before .loop .k) (c .before .before .before .before .before .args .n) (c .before .before .before .before .before .args .m) (c .before .loop-test .left) (omega arith) ∙ sym (c .before .before .loop .inv .1)
 
--- src/lib.rt:67:1
 returns-5 : tie.Need-returns-5 Inv-loop μ-loop
 returns-5 c = both-done (c .before .before .before .before .before .args .t) (c .before .before .before .before .before .args .xs .now) (c .before .before .before .before .before .args .i) (c .before .before .before .before .before .args .w) (c .before .before .before .before .before .args .s) (c .before .before .before .before .before .args .u) (c .before .before .before .before .before .args .ys .now) (c .before .before .before .before .before .args .j) (c .before .before .before .before .before .args .v) (c .before .before .before .before .before .args .r) (c .before .before .loop .k) (c .before .before .before .before .before .args .n) (c .before .before .before .before .before .args .m) (c .before .loop-test .left) (omega arith) ∙ sym (c .before .before .loop .inv .1)
 

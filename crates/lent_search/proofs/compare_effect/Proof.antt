@@ -12,63 +12,48 @@ use Rattle.lent_keys.proofs.taken.Reads as taken-reads
 use Rattle.lent_slices.proofs.wide32.Reads as wide32-reads
 use Rattle.lent_tables.proofs.field.Reads as field-reads
 
--- src/lib.rt:39:9
 wide32-requires : tie.Need-wide32-requires
 wide32-requires c κs = search needs
 
--- src/lib.rt:40:24
 effect-in-requires : tie.Need-effect-in-requires
 effect-in-requires c κs = search needs
 
--- src/lib.rt:40:9
 key-of-requires : tie.Need-key-of-requires
 key-of-requires c κs = search needs
 
--- src/lib.rt:41:9
 compare-heads-requires : tie.Need-compare-heads-requires
 compare-heads-requires c κs = search needs
 
--- src/lib.rt:43:24
 enum-told : tie.Need-enum-told
 enum-told c = search needs
 
--- /work/main/target/rlib/lent_layout.rlib/interface/lang/src/lib.rt:25:29
 enum-told-2 : tie.Need-enum-told-2
 enum-told-2 c = search needs
 
--- src/lib.rt:45:41
 field-requires : tie.Need-field-requires
 field-requires c κs = search needs
 
--- src/lib.rt:45:17
 taken-requires : tie.Need-taken-requires
 taken-requires c κs = search needs
 
--- src/lib.rt:46:43
 field-requires-2 : tie.Need-field-requires-2
 field-requires-2 c κs = search needs
 
--- src/lib.rt:46:17
 taken-requires-2 : tie.Need-taken-requires-2
 taken-requires-2 c κs = search needs
 
--- src/lib.rt:47:13
 compare-runs-requires : tie.Need-compare-runs-requires
 compare-runs-requires c κs = search needs
 
--- src/lib.rt:49:24
 enum-told-3 : tie.Need-enum-told-3
 enum-told-3 c = search needs
 
--- src/lib.rt:33:1
 returns : tie.Need-returns
 returns c = record-less _ _ _ (c .before .before .before .before .before .wide32 .ensures) (c .before .before .before .before .before .before .before .before .args .key) _ (c .before .before .before .before .before .before .before .before .args .captures .now) _ (c .before .before .before .before .effect-in .ensures) (c .before .before .before .key-of .ensures) _ (c .before .before .compare-heads .ensures) (c .enum-told .given .1)
 
--- src/lib.rt:33:1
 returns-2 : tie.Need-returns-2
 returns-2 c = record-same _ _ _ (c .before .before .before .before .before .before .before .before .before .before .wide32 .ensures) (c .before .before .before .before .before .before .before .before .before .before .before .before .before .args .key) _ (c .before .before .before .before .before .before .before .before .before .before .before .before .before .args .captures .now) _ (c .before .before .before .before .before .before .before .before .before .effect-in .ensures) (c .before .before .before .before .before .before .before .before .key-of .ensures) _ (c .before .before .before .before .before .before .before .compare-heads .ensures) _ _ _ _ _ (c .before .before .before .before .before .enum-told2 .given .1) (c .before .before .before .before .field .ensures) (c .before .before .before .taken .ensures) (c .before .before .field2 .ensures) (c .before .taken2 .ensures) (c .compare-runs .ensures)
 
--- src/lib.rt:33:1
 returns-3 : tie.Need-returns-3
 returns-3 c = record-more _ _ _ (c .before .before .before .before .before .wide32 .ensures) (c .before .before .before .before .before .before .before .before .args .key) _ (c .before .before .before .before .before .before .before .before .args .captures .now) _ (c .before .before .before .before .effect-in .ensures) (c .before .before .before .key-of .ensures) _ (c .before .before .compare-heads .ensures) (c .enum-told3 .given .1)
 

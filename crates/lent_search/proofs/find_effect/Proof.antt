@@ -22,67 +22,51 @@ Inv-loop context key captures n lo₀ hi₀ lo hi = (lo ≤ hi) × (hi ≤ n) ×
 abbrev μ-loop : tie.MeasureT-loop
 μ-loop context key captures n lo₀ hi₀ lo hi = hi - lo
 
--- src/lib.rt:59:9
 interned-count-requires : tie.Need-interned-count-requires Inv-loop μ-loop
 interned-count-requires c κs = search needs
 
--- src/lib.rt:62:5
 loop-holds : tie.Need-loop-holds Inv-loop μ-loop
 loop-holds c = (omega arith, omega arith, search-starts _ (keyWith (c .before .before .before .args .key) (identifiers (capturesOf (c .before .before .before .args .captures .now)))) _ (c .interned-count .ensures))
 
--- src/lib.rt:63:25
 sub-mid : tie.Need-sub-mid Inv-loop μ-loop
 sub-mid c = omega arith
 
--- src/lib.rt:63:19
 add-mid : tie.Need-add-mid Inv-loop μ-loop
 add-mid c = omega arith
 
--- src/lib.rt:64:13
 order-at-requires : tie.Need-order-at-requires Inv-loop μ-loop
 order-at-requires c κs = search needs
 
--- src/lib.rt:65:13
 compare-effect-requires : tie.Need-compare-effect-requires Inv-loop μ-loop
 compare-effect-requires c κs = search needs
 
--- src/lib.rt:68:17
 enum-told : tie.Need-enum-told Inv-loop μ-loop
 enum-told c = search needs
 
--- src/lib.rt:62:5
 loop-less : tie.Need-loop-less Inv-loop μ-loop
 loop-less c = omega arith
 
--- src/lib.rt:62:5
 loop-again : tie.Need-loop-again Inv-loop μ-loop
 loop-again c = (omega arith, omega arith, search-down (c .before .before .before .before .before .before .before .before .before .args .context .now) (keyWith (c .before .before .before .before .before .before .before .before .before .args .key) (identifiers (capturesOf (c .before .before .before .before .before .before .before .before .before .args .captures .now)))) (c .before .before .before .before .before .loop .lo) (c .before .before .before .before .before .loop .hi) _ _ _ (c .before .before .before .before .loop-test .taken) refl (c .before .before .before .order-at .ensures) (c .before .before .compare-effect .ensures) (c .before .before .before .before .before .loop .inv .2) (c .enum-told .given .1))
 
--- src/lib.rt:71:17
 enum-told-2 : tie.Need-enum-told-2 Inv-loop μ-loop
 enum-told-2 c = search needs
 
--- src/lib.rt:71:17
 returns : tie.Need-returns Inv-loop μ-loop
 returns c = search-at (c .before .before .before .before .before .before .before .before .before .args .context .now) (keyWith (c .before .before .before .before .before .before .before .before .before .args .key) (identifiers (capturesOf (c .before .before .before .before .before .before .before .before .before .args .captures .now)))) (c .before .before .before .before .before .loop .lo) (c .before .before .before .before .before .loop .hi) _ _ _ (c .before .before .before .before .loop-test .taken) refl (c .before .before .before .order-at .ensures) (c .before .before .compare-effect .ensures) (c .before .before .before .before .before .loop .inv .2) (c .enum-told2 .given .1)
 
--- src/lib.rt:74:22
 enum-told-3 : tie.Need-enum-told-3 Inv-loop μ-loop
 enum-told-3 c = search needs
 
--- src/lib.rt:74:22
 add-lo : tie.Need-add-lo Inv-loop μ-loop
 add-lo c = omega arith
 
--- src/lib.rt:62:5
 loop-less-2 : tie.Need-loop-less-2 Inv-loop μ-loop
 loop-less-2 c = omega arith
 
--- src/lib.rt:62:5
 loop-again-2 : tie.Need-loop-again-2 Inv-loop μ-loop
 loop-again-2 c = (omega arith, omega arith, search-up (c .before .before .before .before .before .before .before .before .before .args .context .now) (keyWith (c .before .before .before .before .before .before .before .before .before .args .key) (identifiers (capturesOf (c .before .before .before .before .before .before .before .before .before .args .captures .now)))) (c .before .before .before .before .before .loop .lo) (c .before .before .before .before .before .loop .hi) _ _ _ (c .before .before .before .before .loop-test .taken) refl (c .before .before .before .order-at .ensures) (c .before .before .compare-effect .ensures) (c .before .before .before .before .before .loop .inv .2) (c .enum-told3 .given .1))
 
--- src/lib.rt:55:1
 returns-2 : tie.Need-returns-2 Inv-loop μ-loop
 returns-2 c = search-over _ (keyWith (c .before .before .before .before .before .args .key) (identifiers (capturesOf (c .before .before .before .before .before .args .captures .now)))) _ _ (c .loop-test .left) (c .before .loop .inv .2)
 

@@ -13,67 +13,51 @@ use Rattle.refuse_instruction.proofs.head_words.Reads as head-words-rea
 use Rattle.refuse_instruction.proofs.is_code.Reads as is-code-reads
 use Rattle.refuse_words.proofs.stray_from.Reads as stray-from-reads
 
--- src/lib.rt:220:8
 is-code-requires : tie.Need-is-code-requires
 is-code-requires c κs = search needs
 
--- src/lib.rt:221:9
 all-words-requires : tie.Need-all-words-requires
 all-words-requires c κs = search needs
 
--- src/lib.rt:221:9
 returns : tie.Need-returns
 returns c = c .all-words .ensures
 
--- src/lib.rt:224:9
 all-words-requires-2 : tie.Need-all-words-requires-2
 all-words-requires-2 c κs = search needs
 
--- src/lib.rt:224:9
 returns-2 : tie.Need-returns-2
 returns-2 c = c .all-words2 .ensures
 
--- src/lib.rt:226:13
 wide32-requires : tie.Need-wide32-requires
 wide32-requires c κs = search needs
 
--- src/lib.rt:227:9
 all-words-requires-3 : tie.Need-all-words-requires-3
 all-words-requires-3 c κs = search needs
 
--- src/lib.rt:227:9
 returns-3 : tie.Need-returns-3
 returns-3 c = c .all-words3 .ensures
 
--- src/lib.rt:229:9
 head-words-requires : tie.Need-head-words-requires
 head-words-requires c κs = search needs
 
--- src/lib.rt:230:16
 wide32-requires-2 : tie.Need-wide32-requires-2
 wide32-requires-2 c κs = search needs
 
--- src/lib.rt:230:33
 mul-from : tie.Need-mul-from
 mul-from c = omega (arith, c .before .before .before .wide32 .ensures)
 
--- src/lib.rt:230:16
 add-from : tie.Need-add-from
 add-from c = omega (arith, c .before .before .before .wide32 .ensures)
 
--- src/lib.rt:230:16
 add-from-2 : tie.Need-add-from-2
 add-from-2 c = omega (arith, c .before .before .before .wide32 .ensures)
 
--- src/lib.rt:231:17
 stray-from-requires : tie.Need-stray-from-requires
 stray-from-requires c κs = search needs
 
--- src/lib.rt:231:5
 lower-requires : tie.Need-lower-requires
 lower-requires c κs = search needs
 
--- src/lib.rt:208:1
 returns-4 : tie.Need-returns-4
 returns-4 c = words-split (c .before .before .before .before .before .before .before .before .before .before .before .args .t) _ (c .before .before .before .before .before .before .before .before .before .before .before .args .i) _ _ _ _ _ (omega arith) (omega (arith, c .before .before .before .before .before .wide32 .ensures)) (no-captures _ _ (c .before .before .before .before .before .before .before .before .before .is-code .ensures) (omega arith)) _ _ _ _ (c .before .before .before .head-words .ensures) (split-from (c .before .before .before .before .before .before .before .before .before .before .before .args .t) (c .before .before .before .before .before .before .before .before .before .before .before .args .i) _ (c .before .before .wide322 .ensures) (omega arith)) (c .before .stray-from .ensures) (c .lower .ensures)
 

@@ -21,39 +21,30 @@ Inv-loop t xs i identifiers functions diagnostics code n worst₀ w₀ worst w =
 abbrev μ-loop : tie.MeasureT-loop
 μ-loop t xs i identifiers functions diagnostics code n worst₀ w₀ worst w = 18 - w
 
--- src/lib.rt:197:5
 loop-holds : tie.Need-loop-holds Inv-loop μ-loop
 loop-holds c = (omega arith, words-none _ _ _ _)
 
--- src/lib.rt:198:13
 effect-limit-requires : tie.Need-effect-limit-requires Inv-loop μ-loop
 effect-limit-requires c κs = search needs
 
--- src/lib.rt:199:48
 field-requires : tie.Need-field-requires Inv-loop μ-loop
 field-requires c κs = search needs
 
--- src/lib.rt:199:30
 word-class-requires : tie.Need-word-class-requires Inv-loop μ-loop
 word-class-requires c κs = search needs
 
--- src/lib.rt:199:9
 lower-requires : tie.Need-lower-requires Inv-loop μ-loop
 lower-requires c κs = search needs
 
--- src/lib.rt:200:9
 add-w : tie.Need-add-w Inv-loop μ-loop
 add-w c = search needs
 
--- src/lib.rt:197:5
 loop-less : tie.Need-loop-less Inv-loop μ-loop
 loop-less c = search needs
 
--- src/lib.rt:197:5
 loop-again : tie.Need-loop-again Inv-loop μ-loop
 loop-again c = (omega arith, words-more _ _ _ _ _ _ _ _ _ _ (c .before .before .before .before .before .loop .inv .1) (c .before .before .before .effect-limit .ensures) (c .before .before .field .ensures) (c .before .word-class .ensures) (c .lower .ensures))
 
--- src/lib.rt:183:1
 returns : tie.Need-returns Inv-loop μ-loop
 returns c = words-done _ _ _ _ _ _ (omega arith) (c .before .loop .inv .1)
 

@@ -10,39 +10,30 @@ use Rattle.lent_order.proofs.order_at.Reads as order-at-reads
 use Rattle.refuse_order.proofs.compare_records.Reads as compare-records-reads
 use Rattle.refuse_order.proofs.is_less.Reads as is-less-reads
 
--- src/lib.rt:63:9
 returns : tie.Need-returns
 returns c = last-place (c .before .before .args .context .now) (c .before .before .args .n) (c .before .before .args .j) (omega arith)
 
--- src/lib.rt:65:13
 sub-if2 : tie.Need-sub-if2
 sub-if2 c = search needs
 
--- src/lib.rt:66:9
 returns-2 : tie.Need-returns-2
 returns-2 c = last-place (c .before .before .before .args .context .now) (c .before .before .before .args .n) (c .before .before .before .args .j) (omega arith)
 
--- src/lib.rt:68:9
 order-at-requires : tie.Need-order-at-requires
 order-at-requires c κs = search needs
 
--- src/lib.rt:69:45
 add-order-at : tie.Need-add-order-at
 add-order-at c = search needs
 
--- src/lib.rt:69:9
 order-at-requires-2 : tie.Need-order-at-requires-2
 order-at-requires-2 c κs = search needs
 
--- src/lib.rt:70:14
 compare-records-requires : tie.Need-compare-records-requires
 compare-records-requires c κs = search needs
 
--- src/lib.rt:70:6
 is-less-requires : tie.Need-is-less-requires
 is-less-requires c κs = search needs
 
--- src/lib.rt:59:1
 returns-3 : tie.Need-returns-3
 returns-3 c = next-place (c .before .before .before .before .before .before .before .args .context .now) (c .before .before .before .before .before .before .before .args .n) (c .before .before .before .before .before .before .before .args .j) _ _ _ _ _ (omega arith) (c .before .before .before .order-at .ensures) (omega arith) (c .before .before .order-at2 .ensures) (c .before .compare-records .ensures) (c .is-less .ensures)
 

@@ -10,27 +10,21 @@ use Rattle.refuse_class.proofs.lower.Reads as lower-reads
 use Rattle.refuse_order.proofs.places_class.Reads as places-class-reads
 use Rattle.refuse_words.proofs.stray_after.Reads as stray-after-reads
 
--- src/lib.rt:98:9
 interned-count-requires : tie.Need-interned-count-requires
 interned-count-requires c κs = search needs
 
--- src/lib.rt:99:9
 places-class-requires : tie.Need-places-class-requires
 places-class-requires c κs = search needs
 
--- src/lib.rt:100:54
 wide32-requires : tie.Need-wide32-requires
 wide32-requires c κs = search needs
 
--- src/lib.rt:100:19
 stray-after-requires : tie.Need-stray-after-requires
 stray-after-requires c κs = search needs
 
--- src/lib.rt:100:5
 lower-requires : tie.Need-lower-requires
 lower-requires c κs = search needs
 
--- src/lib.rt:95:1
 returns : tie.Need-returns
 returns c = order-is _ _ _ _ _ _ (c .before .before .before .before .interned-count .ensures) (c .before .before .before .places-class .ensures) (c .before .before .wide32 .ensures) (c .before .stray-after .ensures) (c .lower .ensures)
 

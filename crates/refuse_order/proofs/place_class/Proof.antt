@@ -12,31 +12,24 @@ use Rattle.refuse_order.proofs.descends.Reads as descends-reads
 use Rattle.refuse_words.proofs.earns.Reads as earns-reads
 use Rattle.refuse_words.proofs.word_class.Reads as word-class-reads
 
--- src/lib.rt:77:29
 add-word-class : tie.Need-add-word-class
 add-word-class c = search needs
 
--- src/lib.rt:77:43
 order-at-requires : tie.Need-order-at-requires
 order-at-requires c κs = search needs
 
--- src/lib.rt:77:9
 word-class-requires : tie.Need-word-class-requires
 word-class-requires c κs = search needs
 
--- src/lib.rt:78:28
 descends-requires : tie.Need-descends-requires
 descends-requires c κs = search needs
 
--- src/lib.rt:78:19
 earns-requires : tie.Need-earns-requires
 earns-requires c κs = search needs
 
--- src/lib.rt:78:5
 lower-requires : tie.Need-lower-requires
 lower-requires c κs = search needs
 
--- src/lib.rt:74:1
 returns : tie.Need-returns
 returns c = place-is (c .before .before .before .before .before .before .args .context .now) (c .before .before .before .before .before .before .args .n) (c .before .before .before .before .before .before .args .j) _ _ _ _ (c .before .before .before .before .before .before .args .n + 1) _ (limit-next (c .before .before .before .before .before .before .args .n)) (c .before .before .before .before .order-at .ensures) (c .before .before .before .word-class .ensures) (c .before .before .descends .ensures) (c .before .earns .ensures) (c .lower .ensures)
 

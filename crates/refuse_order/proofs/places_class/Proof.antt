@@ -18,31 +18,24 @@ Inv-loop context n worst₀ k₀ worst k = (k ≤ n) × (worst ≡ lowestBelow k
 abbrev μ-loop : tie.MeasureT-loop
 μ-loop context n worst₀ k₀ worst k = n - k
 
--- src/lib.rt:87:5
 loop-holds : tie.Need-loop-holds Inv-loop μ-loop
 loop-holds c = (omega arith, lowest-none _)
 
--- src/lib.rt:88:30
 place-class-requires : tie.Need-place-class-requires Inv-loop μ-loop
 place-class-requires c κs = search needs
 
--- src/lib.rt:88:9
 lower-requires : tie.Need-lower-requires Inv-loop μ-loop
 lower-requires c κs = search needs
 
--- src/lib.rt:89:9
 add-k : tie.Need-add-k Inv-loop μ-loop
 add-k c = search needs
 
--- src/lib.rt:87:5
 loop-less : tie.Need-loop-less Inv-loop μ-loop
 loop-less c = search needs
 
--- src/lib.rt:87:5
 loop-again : tie.Need-loop-again Inv-loop μ-loop
 loop-again c = (omega arith, lowest-more _ _ _ _ _ (c .before .before .before .loop .inv .1) (c .before .place-class .ensures) (c .lower .ensures))
 
--- src/lib.rt:82:1
 returns : tie.Need-returns Inv-loop μ-loop
 returns c = lowest-end _ _ _ _ (c .before .loop .inv .0) (c .loop-test .left) (c .before .loop .inv .1)
 
