@@ -128,7 +128,7 @@ def stack(kind):
 # Kilobytes of the tables that the deep walk is lent, which stand on the stack.
 # What is left of the whole is too high by what the program itself needs.
 def tables():
-    return (8 * (1024 + 32 + 1056) + 4 * (238021 + 98 + 109760 + 24834)) // 1024
+    return (8 * (1024 + 32 + 1056) + 4 * (238534 + 98 + 109760 + 25347)) // 1024
 
 
 def main():

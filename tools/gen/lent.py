@@ -5,15 +5,15 @@ Tables are dictionaries from an index to the word there; what is missing is zero
 
 from names import *
 
-LONG, OUTPUT, SCRATCH = 238021, 1120 * 98, 24834
+LONG, OUTPUT, SCRATCH = 238534, 1120 * 98, 25347
 VALUES, ROW, EFFECT, KEY = 1024, 16, 98, 28
 # Which length is the context's.
 CONTEXT_LENGTH = 2
 # Words of their own, and tables as (first word, count of records, words of a record).
-OPTIONS, IDENTIFIER_COUNT, FUNCTION_COUNT, INTERNED_COUNT, DIAGNOSTIC_COUNT = 0, 1, 2, 12483, 12484
+OPTIONS, IDENTIFIER_COUNT, FUNCTION_COUNT, INTERNED_COUNT, DIAGNOSTIC_COUNT, KEY_COUNT = 0, 1, 2, 12483, 12484, 37317
 IDENTIFIERS, FUNCTIONS, CONTEXTS = (3, 512, 4), (2051, 64, 163), (12485, 64, 80)
 LINKS, CACHED, DIAGNOSTICS = (17605, 512, 2), (18629, 512, 28), (32965, 256, 9)
-EFFECT_ORDER, INTERNED = (35269, 2048, 1), (37317, 2048, 98)
+EFFECT_ORDER, KEY_ORDER, INTERNED = (35269, 2048, 1), (37318, 512, 1), (37830, 2048, 98)
 # Words of an effect's record.
 FIRST, SECOND, KIND, REASON, MUTATION, FUNCTION, IDENTITY, INSTANCE, CAPTURES = 1, 6, 11, 12, 13, 14, 15, 16, 17
 # Codes of keys that hold a source.
@@ -53,10 +53,10 @@ class Instruction:
 
 
 class End:
-    """What stands after the last instruction; the context is compared below `limit`, what follows record by record, along the order of keys."""
+    """What stands after the last instruction; the context is compared below `limit`, then the cached keys' count and order, then effects along their order."""
 
     # All parts at once.
-    # They are those of a job's beginning, with the context cut; the records ascend by their keys.
+    # They are those of a job's beginning; the records of interned effects ascend by their keys.
     def __init__(self, flag, session, values, sets, limit, context, records):
         self.flag, self.session, self.values, self.sets = flag, session, values, sets
         self.limit, self.context, self.records = limit, context, records
@@ -159,6 +159,13 @@ def effect_key(words):
     return [code, source, into, words[KIND], words[REASON], function, identity, *captures]
 
 
+# The key of a number's record as numbers, in the same order.
+# Such lists are compared like those of effects; a count of captures above the limit is refused on its own.
+def cached_key(words):
+    optional = lambda k: words[k + 1] + 1 if words[k] else 0
+    return [words[1], optional(2), optional(4), words[6], words[7], optional(8), words[10], *words[12:12 + words[11]]]
+
+
 # A cached key: there, code, source, destination, kind, reason, function, no identity, captures.
 # KeyRecords.antt; a number that may be absent has two words.
 def key_words(code, source, into, kind, reason, function, captures):
@@ -201,7 +208,14 @@ def put_places(context, job, effects=None):
             put(context, at(CONTEXTS, f) + 5 * k, words)
 
 
-# Puts links and cached keys, of fresh numbers below next.
+# Puts the count of cached keys, given as (number, words), and their order.
+# Place j of the order holds the number whose key comes j-th.
+def put_key_order(context, keys):
+    put(context, KEY_COUNT, [len(keys)])
+    put(context, at(KEY_ORDER, 0), [n for n, _ in sorted(keys, key=lambda k: cached_key(k[1]))])
+
+
+# Puts links, and cached keys with their order, of fresh numbers below next.
 # Others cannot be lent.
 def put_numbers(context, links, keys, next_number):
     for n, function in links:
@@ -212,6 +226,9 @@ def put_numbers(context, links, keys, next_number):
         if not 0 < n < min(next_number, OWN):
             raise NotLent("key of number %d, next is %d" % (n, next_number))
         put(context, at(CACHED, n), words)
+    if len({tuple(cached_key(words)) for _, words in keys}) < len(keys):
+        raise NotLent("two cached numbers of one key")
+    put_key_order(context, keys)
 
 
 # Puts the diagnostics with their identities.
@@ -380,10 +397,19 @@ def instruction_words(i):
     return out + [i.refusal, i.count, i.entries, *runs(i.output)]
 
 
+# The count of cached keys and their order, as one run up to the last word that is not zero.
+# They stand between the order of the effects and the effects.
+def key_run(context):
+    used = [k for k in range(KEY_COUNT, INTERNED[0]) if k in context]
+    words = [context.get(k, 0) for k in range(KEY_COUNT, used[-1] + 1)] if used else []
+    return [KEY_COUNT, len(words), *words]
+
+
 # The words of an end.
 # As in the head, then the tables.
 def end_words(e):
-    out = [e.flag, *e.session, *runs(e.values, True), *runs(e.sets, True), e.limit, *runs(e.context), len(e.records)]
+    below = {k: x for k, x in e.context.items() if k < e.limit}
+    out = [e.flag, *e.session, *runs(e.values, True), *runs(e.sets, True), e.limit, *runs(below), *key_run(e.context), len(e.records)]
     for record in e.records:
         out += runs(record)
     return out

@@ -153,11 +153,10 @@ def test_fixed(c, context, n, functions):
         test_places(c, record_of(context, CONTEXTS, f), places, n)
 
 
-# Links and cached keys of a context.
-# Those of numbers that were not handed out have no use, and number 0 is none.
-def test_numbers(c, context, n, functions, next_number):
-    keys = set()
-    for v in range(next_number if next_number <= MAX_NEXT else 0):
+# Links and cached keys of a context, of the numbers that were handed out.
+# Those of other numbers have no use, and number 0 is none.
+def test_numbers(c, context, n, functions, handed_out):
+    for v in range(handed_out):
         flag, function = record_of(context, LINKS, v)
         key = record_of(context, CACHED, v)
         if v == 0:
@@ -172,8 +171,6 @@ def test_numbers(c, context, n, functions, next_number):
             c.unused(key)
             continue
         test_key(c, key, n, functions)
-        c.orderly(tuple(key[1:]) not in keys)
-        keys.add(tuple(key[1:]))
 
 
 # The words of a cached key.
@@ -237,6 +234,19 @@ def test_order(c, context, count):
     c.orderly(all(a < b for a, b in zip(keys, keys[1:])))
 
 
+# The order of the cached keys: numbers that were handed out and have a key, along which the keys ascend, and as many as have one.
+# Two numbers of one key cannot ascend; where the order has as many places as there are keys, none is left out.
+def test_key_order(c, context, handed_out, count):
+    keyed = [v for v in range(handed_out) if context.get(at(CACHED, v), 0)]
+    c.orderly(len(keyed) == count)
+    order = [context.get(at(KEY_ORDER, j), 0) for j in range(count)]
+    for v in order:
+        c.below(v, handed_out)
+        c.orderly(v in keyed)
+    keys = [cached_key(record_of(context, CACHED, v)) for v in order]
+    c.orderly(all(a < b for a, b in zip(keys, keys[1:])))
+
+
 # What stands after the records in use of each table.
 # "also after the last record, and at a number that is not handed out yet"
 def test_rest(c, context, used):
@@ -249,19 +259,21 @@ def test_rest(c, context, used):
 # A count above its limit leaves nothing else to be looked at.
 def test_context(c, lent, n):
     context, next_number = lent.context, lent.session[0]
-    functions, interned, count = (context.get(k, 0) for k in (FUNCTION_COUNT, INTERNED_COUNT, DIAGNOSTIC_COUNT))
-    if context.get(IDENTIFIER_COUNT, 0) != n or functions > MAX_FUNCTIONS or interned > MAX_INTERNED or count > MAX_DIAGNOSTICS:
+    functions, interned, count, keys = (context.get(k, 0) for k in (FUNCTION_COUNT, INTERNED_COUNT, DIAGNOSTIC_COUNT, KEY_COUNT))
+    few = functions <= MAX_FUNCTIONS and interned <= MAX_INTERNED and count <= MAX_DIAGNOSTICS and keys < OWN
+    if context.get(IDENTIFIER_COUNT, 0) != n or not few:
         c.found.add(2)
         return
+    handed_out = min(next_number, MAX_NEXT)
     test_fixed(c, context, n, functions)
-    test_numbers(c, context, n, functions, next_number)
+    test_numbers(c, context, n, functions, handed_out)
+    test_key_order(c, context, handed_out, keys)
     test_diagnostics(c, context, n, count)
     for k in range(interned):
         test_effect(c, record_of(context, INTERNED, k), lent, n, functions, 3)
     test_order(c, context, interned)
-    handed_out = min(next_number, MAX_NEXT)
     test_rest(c, context, [(IDENTIFIERS, n), (FUNCTIONS, functions), (CONTEXTS, functions), (LINKS, handed_out), (CACHED, handed_out),
-                           (DIAGNOSTICS, count), (EFFECT_ORDER, interned), (INTERNED, interned)])
+                           (DIAGNOSTICS, count), (EFFECT_ORDER, interned), (KEY_ORDER, keys), (INTERNED, interned)])
 
 
 # An instruction over a context.

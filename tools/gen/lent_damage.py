@@ -35,6 +35,19 @@ def diagnostics(lent):
     return lent.context.get(DIAGNOSTIC_COUNT, 0)
 
 
+# How many cached keys a job has, by its count.
+# The places of their order.
+def cached(lent):
+    return lent.context.get(KEY_COUNT, 0)
+
+
+# The cached keys of a job, as (number, words).
+# Of the numbers that are handed out.
+def keys_of(lent):
+    records = [(v, record_of(lent.context, CACHED, v)) for v in range(1, next_number(lent))]
+    return [(v, words) for v, words in records if words[0]]
+
+
 # The session's next number.
 # Fresh numbers from there on are not handed out.
 def next_number(lent):
@@ -55,17 +68,18 @@ def named(lent):
     return {r[INSTANCE] for r in records if r[0] in DIAGNOSED}
 
 
-# The order of the interned effects of a job, as the list of their numbers.
+# An order of a job, of its interned effects or of its cached keys, as the list of their numbers.
 # As long as their count says.
-def order_of(lent):
-    return [lent.context.get(at(EFFECT_ORDER, j), 0) for j in range(interned(lent))]
+def order_of(lent, table):
+    return [lent.context.get(at(table, j), 0) for j in range(IN_USE[table](lent)[1])]
 
 
 # Of each table the first record in use and the one after the last.
 IN_USE = {
     IDENTIFIERS: lambda t: (0, t.identifiers()), FUNCTIONS: lambda t: (0, functions(t)), CONTEXTS: lambda t: (0, functions(t)),
     LINKS: lambda t: (1, next_number(t)), CACHED: lambda t: (1, next_number(t)), DIAGNOSTICS: lambda t: (0, diagnostics(t)),
-    EFFECT_ORDER: lambda t: (0, interned(t)), INTERNED: lambda t: (0, interned(t)), CANDIDATES: lambda t: (0, candidates(t)),
+    EFFECT_ORDER: lambda t: (0, interned(t)), KEY_ORDER: lambda t: (0, cached(t)), INTERNED: lambda t: (0, interned(t)),
+    CANDIDATES: lambda t: (0, candidates(t)),
 }
 
 
@@ -275,7 +289,7 @@ def repeated(table, count):
 # "two entries of one key": its order is right but for the two.
 def doubled(change):
     def act(lent, rng):
-        n, order = interned(lent), order_of(lent)
+        n, order = interned(lent), order_of(lent, EFFECT_ORDER)
         copies = [(j, change(lent, record_of(lent.context, INTERNED, k))) for j, k in enumerate(order)]
         fit = [(j, words) for j, words in copies if words is not None]
         if not fit or n == INTERNED[1]:
@@ -312,14 +326,27 @@ def with_diagnostic(lent, words):
     return words[:IDENTITY] + list(higher[0]) + words[INSTANCE + 1:] if higher else None
 
 
-# The order gets other places from the old ones, where there are enough of them.
+# An order gets other places from the old ones, where there are two or more.
 # A change gets their list and chance.
-def reordered(change, least=2):
+def reordered(table, change):
     def act(lent, rng):
-        order = order_of(lent)
-        if len(order) < least:
+        order = order_of(lent, table)
+        if len(order) < 2:
             return False
-        put(lent.context, at(EFFECT_ORDER, 0), change(order, rng))
+        put(lent.context, at(table, 0), change(order, rng))
+        return True
+    return act
+
+
+# A place of an order, counted from its first or from its last, becomes a number that follows from the job.
+# Where there is one.
+def placed(table, j, number):
+    def act(lent, rng):
+        order = order_of(lent, table)
+        if not order:
+            return False
+        order[j] = number(lent)
+        put(lent.context, at(table, 0), order)
         return True
     return act
 
@@ -350,22 +377,23 @@ def disordered(first, second):
         widen(lent)
         if call_class(lent):
             return False
-        put(lent.context, at(EFFECT_ORDER, 0), [{n: n + 1, n + 1: n}.get(k, k) for k in order_of(lent)])
+        put(lent.context, at(EFFECT_ORDER, 0), [{n: n + 1, n + 1: n}.get(k, k) for k in order_of(lent, EFFECT_ORDER)])
         return True
     return act
 
 
-# Two interned effects exchanged, or one of them put in the place of both; the order stays.
+# Two records that an order names exchanged, or one of them put in the place of both; the order stays.
 # Every record is right.
-def records_changed(both):
+def records_changed(order, table, both):
     def act(lent, rng):
-        if interned(lent) < 2:
+        numbers = order_of(lent, order)
+        if len(numbers) < 2:
             return False
-        a, b = rng.sample(range(interned(lent)), 2)
-        first, second = (record_of(lent.context, INTERNED, k) for k in (a, b))
-        put(lent.context, at(INTERNED, a), second)
+        a, b = rng.sample(sorted(numbers), 2)
+        first, second = (record_of(lent.context, table, k) for k in (a, b))
+        put(lent.context, at(table, a), second)
         if both:
-            put(lent.context, at(INTERNED, b), first)
+            put(lent.context, at(table, b), first)
         return True
     return act
 
@@ -374,7 +402,7 @@ def records_changed(both):
 # Then a place is out of range, or a word of the order has no use.
 def uncounted_effect(last):
     def act(lent, rng):
-        order = order_of(lent)
+        order = order_of(lent, EFFECT_ORDER)
         if not order or (order[-1] == len(order) - 1) != last:
             return False
         return uncounted(INTERNED, INTERNED_COUNT)(lent, rng)
@@ -384,7 +412,7 @@ def uncounted_effect(last):
 # The last interned effect is not counted, and has no place in the order.
 # Its words alone are too many.
 def left_over(lent, rng):
-    order = order_of(lent)
+    order = order_of(lent, EFFECT_ORDER)
     put(lent.context, at(EFFECT_ORDER, 0), [k for k in order if k != len(order) - 1] + [0] * bool(order))
     return uncounted(INTERNED, INTERNED_COUNT)(lent, rng)
 
@@ -401,14 +429,152 @@ def uncounted(table, count):
     return act
 
 
-# A number without a key gets the key of another.
-# Both are handed out.
-def repeated_key(lent, rng):
-    number, other = (some_record(lent, rng, CACHED, test) for test in (lambda r: r[0], lambda r: not r[0]))
-    if number is None or other is None:
+# A number that has a key and one that has none, both handed out, by chance; or none.
+# A damage says what becomes of them.
+def two_numbers(lent, rng):
+    found = [some_record(lent, rng, CACHED, test) for test in (lambda r: r[0], lambda r: not r[0])]
+    return None if None in found else found
+
+
+# The order of the cached keys and their count become those given.
+# Words that the old order had more become zero.
+def put_order(lent, order):
+    put(lent.context, at(KEY_ORDER, 0), order + [0] * max(0, cached(lent) - len(order)))
+    put(lent.context, KEY_COUNT, [len(order)])
+
+
+# A number without a key gets the key of another; the order is made from the old one, the place of the key in it and the number, or stays.
+# "two entries of one key": with the two side by side it is right but for them.
+def repeated_key(change=None):
+    def act(lent, rng):
+        found = two_numbers(lent, rng)
+        if found is None:
+            return False
+        number, other = found
+        put(lent.context, at(CACHED, other), record_of(lent.context, CACHED, number))
+        if change:
+            order = order_of(lent, KEY_ORDER)
+            put_order(lent, change(order, order.index(number), other))
+        return True
+    return act
+
+
+# A key is moved to a number that has none; the order stays.
+# The key of the first place of the order, or any.
+def moved_key(first):
+    def act(lent, rng):
+        found = two_numbers(lent, rng)
+        if found is None:
+            return False
+        number, other = found
+        number = order_of(lent, KEY_ORDER)[0] if first else number
+        put(lent.context, at(CACHED, other), record_of(lent.context, CACHED, number))
+        put(lent.context, at(CACHED, number), [0] * KEY)
+        return True
+    return act
+
+
+# A key is taken away; the order stays.
+# Its place then names a number without a key.
+def key_gone(lent, rng):
+    number = some_record(lent, rng, CACHED, lambda r: r[0])
+    if number is None:
         return False
-    put(lent.context, at(CACHED, other), record_of(lent.context, CACHED, number))
+    put(lent.context, at(CACHED, number), [0] * KEY)
     return True
+
+
+# A number that is handed out and has no key, by chance, or none.
+# Not number 0.
+def keyless(lent, rng):
+    return some_record(lent, rng, CACHED, lambda r: not r[0])
+
+
+# A key has no place in the order, and is not counted; a number of the job may have the first place instead, and is counted.
+# A number without a key reads as the lowest key of all, so that the order ascends.
+def left_out(number=None):
+    def act(lent, rng):
+        order = order_of(lent, KEY_ORDER)
+        first = [] if number is None else [number(lent, rng)]
+        if not order or None in first:
+            return False
+        order.remove(rng.choice(order))
+        put_order(lent, first + order)
+        return True
+    return act
+
+
+# A number without a key has the first place of the order, and is counted.
+# Every key keeps its place after it.
+def keyless_first(lent, rng):
+    number = keyless(lent, rng)
+    if number is None:
+        return False
+    put_order(lent, [number] + order_of(lent, KEY_ORDER))
+    return True
+
+
+# A place of the order names a number without a key.
+# By chance.
+def keyless_named(lent, rng):
+    number, order = keyless(lent, rng), order_of(lent, KEY_ORDER)
+    if number is None or not order:
+        return False
+    order[rng.randrange(len(order))] = number
+    put_order(lent, order)
+    return True
+
+
+# The next number falls to the highest that has a key.
+# Which is then not handed out, and has a place in the order.
+def next_at_key(lent, rng):
+    lent.session[0] = max((v for v, _ in keys_of(lent)), default=0)
+    return lent.session[0] > 0
+
+
+# The next number, which is not handed out, gets a key, which is counted and in its place.
+# The key would be right of another number.
+def key_at_next(lent, rng):
+    if next_number(lent) >= OWN:
+        return False
+    keys = keys_of(lent) + [(next_number(lent), key_words(KEY_ASSIGN_COPY, 0, 0, 0, 0, 0, []))]
+    put(lent.context, at(CACHED, keys[-1][0]), keys[-1][1])
+    put_key_order(lent.context, keys)
+    return N(lent) > 0
+
+
+# More keys, as (number, words), counted and in their places; the numbers below the given next are handed out.
+# Whether the call is then accepted.
+def keys_added(lent, added, after):
+    keys = keys_of(lent) + added
+    for v, words in keys:
+        put(lent.context, at(CACHED, v), words)
+    put_key_order(lent.context, keys)
+    lent.session[0] = after
+    return after <= MAX_NEXT and call_class(lent) == 0
+
+
+# Two more numbers with keys that come in the order the other way round; the higher number has the first of the two keys.
+# Only where the call is accepted with the two in their order.
+def disordered_keys(first, second):
+    def act(lent, rng):
+        n = next_number(lent)
+        if not keys_added(lent, [(n, key_words(*second)), (n + 1, key_words(*first))], n + 2):
+            return False
+        put(lent.context, at(KEY_ORDER, 0), [{n: n + 1, n + 1: n}.get(v, v) for v in order_of(lent, KEY_ORDER)])
+        return True
+    return act
+
+
+# As many cached keys as there can be: every fresh number has one.
+# Creates with every kind and reason, and from each identifier into each; in their order the numbers fall.
+def all_keys(lent, rng):
+    keys, identifiers = dict(keys_of(lent)), range(N(lent))
+    made = [key_words(CREATE, 0, i, kind, reason, 0, []) for i in identifiers for kind in range(6) for reason in range(12)]
+    made += [key_words(code, i, j, 0, 0, 0, []) for code in WITH_SOURCE for i in identifiers for j in identifiers]
+    added = [words for words in made if words not in keys.values()]
+    free = [v for v in range(OWN - 1, 0, -1) if v not in keys]
+    return len(added) >= len(free) and keys_added(lent, list(zip(free, added)), MAX_NEXT)
 
 
 # A diagnostic that no effect names gets another identity.
@@ -523,6 +689,89 @@ def of_effects(name, table):
         ("instance where none is", 4, INSTANCE, 1, lambda r: r[0] not in DIAGNOSED),
         ("17 captures where none are", 4, CAPTURES, 17, lambda r: r[0] != CREATE_FUNCTION),
         ("a word after the last capture", 4, EFFECT - 1, 1, NO_MORE),
+    ]]
+
+
+# Damages of an order: of the interned effects, or of the cached keys.
+# What a place may name lies below a bound.
+def of_order(name, table, records, bound):
+    return [(name + ": " + label, expected, act) for label, expected, act in [
+        ("a place not in the list", 3, field(table, 0, bound)),
+        ("a place FFFFFFFF", 3, field(table, 0, FULL)),
+        ("the first place not in the list", 3, placed(table, 0, bound)),
+        ("the last place not in the list", 3, placed(table, -1, bound)),
+        ("after the last place", 4, after(table)),
+        ("the last word", 4, lambda t, r: IN_USE[table](t)[1] < table[1] and word(at(table, table[1] - 1), 1)(t, r)),
+        ("two records equal, the order as before", 4, records_changed(table, records, False)),
+        ("two records exchanged, the order as before", 4, records_changed(table, records, True)),
+        ("two places exchanged", 4, reordered(table, exchanged)),
+        ("the first two places exchanged", 4, reordered(table, lambda order, rng: order[1::-1] + order[2:])),
+        ("the last two places exchanged", 4, reordered(table, lambda order, rng: order[:-2] + order[:-3:-1])),
+        ("backwards", 4, reordered(table, lambda order, rng: order[::-1])),
+        ("every place 0", 4, reordered(table, lambda order, rng: [0] * len(order))),
+        ("a place twice", 4, reordered(table, named_again)),
+        ("the last place as the first", 4, reordered(table, lambda order, rng: order[:-1] + order[:1])),
+    ]]
+
+
+# Damages of the cached keys with their count and order.
+# Each of the order's own tests alone, where one alone can fail.
+def of_keys():
+    return [("keys: " + label, expected, act) for label, expected, act in [
+        ("512 counted", 2, word(KEY_COUNT, 512)),
+        ("600 counted", 2, word(KEY_COUNT, 600)),
+        ("FFFFFFFF counted", 2, word(KEY_COUNT, FULL)),
+        ("a place 512", 3, field(KEY_ORDER, 0, 512)),
+        ("next at a number with a key", 3, next_at_key),
+        ("one of the next number, counted and in its place", 3, key_at_next),
+        ("511 counted that are not there", 4, lambda t, r: cached(t) < 511 and word(KEY_COUNT, 511)(t, r)),
+        ("one more counted", 4, lambda t, r: cached(t) < 511 and word(KEY_COUNT, cached(t) + 1)(t, r)),
+        ("one less counted", 4, lambda t, r: cached(t) > 0 and word(KEY_COUNT, cached(t) - 1)(t, r)),
+        ("none counted", 4, lambda t, r: cached(t) > 0 and word(KEY_COUNT, 0)(t, r)),
+        ("none counted, no order", 4, lambda t, r: cached(t) > 0 and put_order(t, []) is None),
+        ("one taken away", 4, key_gone),
+        ("one moved to another number", 4, moved_key(False)),
+        ("the first moved to another number", 4, moved_key(True)),
+        ("one left out and not counted", 4, left_out()),
+        ("one left out, a number without a key in the first place", 4, left_out(keyless)),
+        ("one left out, number 0 in the first place", 4, left_out(lambda t, r: 0)),
+        ("a number without a key in the first place, counted", 4, keyless_first),
+        ("a place of a number without a key", 4, keyless_named),
+        ("a place 0", 4, field(KEY_ORDER, 0, 0)),
+        ("one twice", 4, repeated_key()),
+        ("one twice, counted, the other after it", 4, repeated_key(lambda order, j, v: order[:j + 1] + [v] + order[j + 1:])),
+        ("one twice, counted, the other before it", 4, repeated_key(lambda order, j, v: order[:j] + [v] + order[j:])),
+        ("one twice, counted, the other last", 4, repeated_key(lambda order, j, v: order + [v])),
+        ("one twice, counted, one number at both places", 4, repeated_key(lambda order, j, v: order[:j + 1] + order[j:])),
+        ("one twice, the other in its place", 4, repeated_key(lambda order, j, v: order[:j] + [v] + order[j + 1:])),
+        ("511, the first candidate an Apply", 5, lambda t, r: all_keys(t, r) and applied(lambda n, rng: 0, False)(t, r)),
+    ]]
+
+
+# Damages of the order of the cached keys by the part of two that decides, as of the interned effects.
+# Code, source, destination, kind, reason, function, captures; a cached key has no identity.
+def of_key_parts():
+    function = lambda f, *captures: (CREATE_FUNCTION, 0, 0, 0, 0, f, captures)
+    plain = lambda code, source=0, into=0, kind=0, reason=0: (code, source, into, kind, reason, 0, ())
+    return [("key order: by " + name + ", exchanged", 4, disordered_keys(first, second)) for name, first, second in [
+        ("code", plain(CREATE), plain(CREATE_FROM)),
+        ("code of an Assign", plain(KEY_ASSIGN_FROZEN), plain(KEY_ASSIGN_COPY)),
+        ("source", plain(CREATE_FROM), plain(CREATE_FROM, 1)),
+        ("destination", plain(KEY_ASSIGN_COPY), plain(KEY_ASSIGN_COPY, 0, 1)),
+        ("destination of a Create", plain(CREATE), plain(CREATE, 0, 1)),
+        ("kind", plain(CREATE), plain(CREATE, 0, 0, 1)),
+        ("reason", plain(CREATE), plain(CREATE, 0, 0, 0, 1)),
+        ("function", function(0), function(1)),
+        ("capture", function(0, 0), function(0, 1)),
+        ("last capture", function(0, *[0] * 16), function(0, *[0] * 15, 1)),
+        ("count of captures", function(0, 0), function(0, 0, 0)),
+        ("no capture", function(0), function(0, 0)),
+        ("code before source", plain(CREATE_FROM, 1), plain(KEY_ASSIGN_FROZEN)),
+        ("source before destination", plain(CREATE_FROM, 0, 1), plain(CREATE_FROM, 1)),
+        ("kind before reason", plain(CREATE, 0, 0, 0, 1), plain(CREATE, 0, 0, 1)),
+        ("destination before function", function(1), (CREATE_FUNCTION, 0, 1, 0, 0, 0, ())),
+        ("function before captures", function(0, 1), function(1, 0)),
+        ("captures before their count", function(0, 0, 0), function(0, 1)),
     ]]
 
 
@@ -664,10 +913,6 @@ DAMAGES = [
     ("an interned Apply", 3, field(INTERNED, 0, APPLY)),
     ("a candidate of code 18 with anything in it, just enough room", 3, narrow(unknown(18))),
     ("a candidate of code FFFFFFFF with anything in it, just enough room", 3, narrow(unknown(FULL))),
-    ("a place of the order not in the list", 3, field(EFFECT_ORDER, 0, interned)),
-    ("a place of the order FFFFFFFF", 3, field(EFFECT_ORDER, 0, FULL)),
-    ("the first place of the order not in the list", 3, reordered(lambda order, rng: [len(order)] + order[1:], 1)),
-    ("the last place of the order not in the list", 3, reordered(lambda order, rng: order[:-1] + [len(order)], 1)),
     ("an interned effect not counted, which is not the last of the order", 3, uncounted_effect(False)),
     ("lvalue not in the list", 3, lvalue(0, N)),
     ("lvalue's effect 8", 3, lvalue(1, lambda t: 8)),
@@ -688,8 +933,6 @@ DAMAGES = [
     ("after the last link", 4, after(LINKS)),
     ("after the last key", 4, after(CACHED)),
     ("after the last diagnostic", 4, after(DIAGNOSTICS)),
-    ("after the last place of the order", 4, after(EFFECT_ORDER)),
-    ("the last word of the order", 4, lambda t, r: interned(t) < INTERNED[1] and word(at(EFFECT_ORDER, EFFECT_ORDER[1] - 1), 1)(t, r)),
     ("after the last interned effect", 4, after(INTERNED)),
     ("an interned effect not counted, the last of the order", 4, uncounted_effect(True)),
     ("an interned effect not counted, not in the order", 4, left_over),
@@ -707,7 +950,6 @@ DAMAGES = [
     ("kind of a key that has none", 4, field(CACHED, 6, 1, key(CREATE_FROM, CREATE_FUNCTION, KEY_ASSIGN_FROZEN, KEY_ASSIGN_COPY))),
     ("identity of a key", 4, field(CACHED, 10, 1, lambda r: r[0] == 1)),
     ("a key's last capture, not counted", 4, field(CACHED, 27, 1, lambda r: r[0] == 1 and r[11] < 16)),
-    ("a key twice", 4, repeated_key),
     ("a diagnostic twice", 4, repeated(DIAGNOSTICS, DIAGNOSTIC_COUNT)),
     ("an identity out of turn", 4, misnumbered),
     ("sentence of case 1", 4, field(DIAGNOSTICS, 3, 1, lambda r: r[2] == 1)),
@@ -719,15 +961,6 @@ DAMAGES = [
     ("a Mutate twice, with a reason and without", 4, doubled(with_reason)),
     ("an Impure twice, with two diagnostics", 4, doubled(with_diagnostic)),
     ("an interned effect twice, the other without a place in the order", 4, repeated(INTERNED, INTERNED_COUNT)),
-    ("two interned effects equal, their order as before", 4, records_changed(False)),
-    ("two interned effects exchanged, their order as before", 4, records_changed(True)),
-    ("two places of the order exchanged", 4, reordered(exchanged)),
-    ("the first two places of the order exchanged", 4, reordered(lambda order, rng: order[1::-1] + order[2:])),
-    ("the last two places of the order exchanged", 4, reordered(lambda order, rng: order[:-2] + order[:-3:-1])),
-    ("the order backwards", 4, reordered(lambda order, rng: order[::-1])),
-    ("no order", 4, reordered(lambda order, rng: [0] * len(order))),
-    ("a place of the order twice", 4, reordered(named_again)),
-    ("the last place of the order as the first", 4, reordered(lambda order, rng: order[:-1] + order[:1])),
     ("the first candidate an Apply", 5, applied(lambda n, rng: 0, False)),
     ("the last candidate an Apply", 5, applied(lambda n, rng: n - 1, False)),
     ("a candidate an Apply with anything in it", 5, applied(lambda n, rng: rng.randrange(n), True)),
@@ -735,7 +968,9 @@ DAMAGES = [
     ("every candidate an Apply", 5, all_applied),
     ("a candidate an Apply with anything in it, just enough room", 5, narrow(applied(lambda n, rng: rng.randrange(n), True))),
     ("every candidate an Apply, just enough room", 5, narrow(all_applied)),
-] + of_parts() + of_effects("interned", INTERNED) + of_effects("candidate", CANDIDATES)
+] + of_order("order", EFFECT_ORDER, INTERNED, interned) + of_parts()
+DAMAGES += of_order("key order", KEY_ORDER, CACHED, next_number) + of_key_parts() + of_keys()
+DAMAGES += of_effects("interned", INTERNED) + of_effects("candidate", CANDIDATES)
 
 # Two damages in places that do not meet: the lower class wins.
 # Named by their names above.
@@ -746,9 +981,13 @@ PAIRS = [
     ("options 4", "the last word of the context"), ("next 513", "the last word of the context"), ("options 4", "the first candidate an Apply"),
     ("own function not in the list", "a candidate an Apply with anything in it"), ("lvalue's effect 8", "reasons without an entry"),
     ("the last word of the context", "the first candidate an Apply"), ("after the last diagnostic", "the last candidate an Apply"),
-    ("reasons at number 0", "a candidate an Apply with anything in it"), ("65 functions", "a place of the order not in the list"),
-    ("a place of the order FFFFFFFF", "the last word of the context"), ("options 4", "two places of the order exchanged"),
-    ("a place of the order not in the list", "the first candidate an Apply"), ("two places of the order exchanged", "the first candidate an Apply"),
+    ("reasons at number 0", "a candidate an Apply with anything in it"), ("65 functions", "order: a place not in the list"),
+    ("order: a place FFFFFFFF", "the last word of the context"), ("options 4", "order: two places exchanged"),
+    ("order: a place not in the list", "the first candidate an Apply"), ("order: two places exchanged", "the first candidate an Apply"),
+    ("keys: 512 counted", "next 0"), ("65 functions", "key order: a place not in the list"), ("key order: a place FFFFFFFF", "the last word of the context"),
+    ("options 4", "key order: two places exchanged"), ("key order: two places exchanged", "keys: 600 counted"), ("key order: two places exchanged", "the first candidate an Apply"),
+    ("keys: one left out and not counted", "the first candidate an Apply"), ("keys: one left out and not counted", "order: a place not in the list"),
+    ("17 captures of a key", "keys: one less counted"), ("keys: 512 counted", "output one short"),
 ]
 
 

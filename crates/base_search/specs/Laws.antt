@@ -2,3 +2,4 @@ pub mod Search
 pub mod Ascending
 pub mod Inserting
 pub mod Comparings
+pub mod Counting

@@ -1,3 +1,4 @@
 pub mod Search
 pub mod Comparings
+pub mod Counting
 pub mod Laws

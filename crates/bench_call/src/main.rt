@@ -103,7 +103,7 @@ fn lend_walk(values: &mut [u64], sets: &mut [u64]) {
 // Interned effect k of a full context: ImmutableCapture from identifier k % 512 into identifier k / 512.
 // 2,048 keys.
 fn intern_one(context: &mut [u32], k: u32) {
-    let at = 37317 + wide32(k) * 98;
+    let at = 37830 + wide32(k) * 98;
     set32(context, at, 11);
     set32(context, at + 1, k % 512);
     set32(context, at + 6, k / 512);
@@ -225,7 +225,7 @@ fn middle_code(j: u32) -> u32 {
 
 // The record of that effect, of number k: from identifiers 0 to 16, two each; a Freeze with reason 0 or 1, the others into 18 or 19.
 fn middle_record(context: &mut [u32], k: u32, j: u32, code: u32) {
-    let at = 37317 + wide32(k) * 98;
+    let at = 37830 + wide32(k) * 98;
     set32(context, at, code);
     set32(context, at + 1, j % 34 / 2);
     if code == 0 {
@@ -281,8 +281,18 @@ fn middle_functions(context: &mut [u32]) {
     }
 }
 
-// The cached key of number v of middling tables: Create into v % 20 as Mutable, with reason v / 20.
-// 60 keys.
+// The place of number v in the order of the cached keys of middling tables, counted from 1: by destination v % 20, then by reason v / 20.
+// Destination 0 has the reasons 1 to 3, every other 0 to 2.
+fn middle_turn(v: u32) -> u32 {
+    let i = v % 20;
+    if i == 0 {
+        return v / 20;
+    }
+    i * 3 + v / 20 + 1
+}
+
+// The cached key of number v of middling tables, and its place in their order: Create into v % 20 as Mutable, with reason v / 20.
+// 60 keys; their order stands from word 37,318 on.
 fn middle_key(context: &mut [u32], v: u32) {
     let at = 18629 + wide32(v) * 28;
     set32(context, at, 1);
@@ -290,6 +300,7 @@ fn middle_key(context: &mut [u32], v: u32) {
     set32(context, at + 4, 1);
     set32(context, at + 5, v % 20);
     set32(context, at + 7, v / 20);
+    set32(context, 37317 + wide32(middle_turn(v)), v);
 }
 
 // Those of the numbers 1 to 60.
@@ -306,6 +317,7 @@ fn lend_middle(context: &mut [u32]) {
     set32(context, 1, 20);
     set32(context, 2, 8);
     set32(context, 12483, 136);
+    set32(context, 37317, 60);
     middle_functions(context);
     middle_keys(context);
     middle_effects(context);
@@ -421,11 +433,11 @@ fn repeat(
 fn measure_case_1(n: u32) -> u64 {
     let mut values = [0u64; 1024];
     let mut sets = [0u64; 32];
-    let mut context = [0u32; 38101];
+    let mut context = [0u32; 38614];
     let mut candidates = [0u32; 196];
     let mut output = [0u32; 109760];
     let mut scratch64 = [0u64; 1056];
-    let mut scratch32 = [0u32; 24834];
+    let mut scratch32 = [0u32; 25347];
     lend_case_1(&mut context, &mut candidates);
     repeat(
         n,
@@ -445,11 +457,11 @@ fn measure_case_1(n: u32) -> u64 {
 fn measure_walk(n: u32) -> u64 {
     let mut values = [0u64; 1024];
     let mut sets = [0u64; 32];
-    let mut context = [0u32; 238021];
+    let mut context = [0u32; 238534];
     let candidates = [0u32; 98];
     let mut output = [0u32; 109760];
     let mut scratch64 = [0u64; 1056];
-    let mut scratch32 = [0u32; 24834];
+    let mut scratch32 = [0u32; 25347];
     lend_function(&mut context);
     lend_walk(&mut values, &mut sets);
     repeat(
@@ -470,11 +482,11 @@ fn measure_walk(n: u32) -> u64 {
 fn measure_middle(n: u32) -> u64 {
     let mut values = [0u64; 1024];
     let mut sets = [0u64; 320];
-    let mut context = [0u32; 51429];
+    let mut context = [0u32; 51942];
     let mut candidates = [0u32; 392];
     let mut output = [0u32; 109760];
     let mut scratch64 = [0u64; 1344];
-    let mut scratch32 = [0u32; 24834];
+    let mut scratch32 = [0u32; 25347];
     middle_values(&mut values);
     middle_sets(&mut sets);
     lend_middle(&mut context);
@@ -497,11 +509,11 @@ fn measure_middle(n: u32) -> u64 {
 fn measure_full(n: u32) -> u64 {
     let mut values = [0u64; 1024];
     let mut sets = [0u64; 8192];
-    let mut context = [0u32; 238021];
+    let mut context = [0u32; 238534];
     let mut candidates = [0u32; 98];
     let mut output = [0u32; 109760];
     let mut scratch64 = [0u64; 9216];
-    let mut scratch32 = [0u32; 24834];
+    let mut scratch32 = [0u32; 25347];
     fill_values(&mut values);
     fill_sets(&mut sets, &[18446744073709551615u64; 16]);
     lend_full(&mut context, &mut candidates);

@@ -1,4 +1,5 @@
 pub mod Class
+pub mod Keys
 pub mod Attempt
 pub mod Outcome
 pub mod Isolation

@@ -52,8 +52,8 @@ pub record Faithful (n : ℕ) (T : Tables) : Type 1 where
   -- every write means the plain one, and leaves the tables fit
   pub effect-fit : (c : T .Context) (e : AliasingEffect) → FitContext c → T .internedCount c < 2048 → Short (effectKey e) → T .findEffect c (effectKey e) ≡ none → FitContext (T .addEffect c e)
   pub effect-add : (c : T .Context) (e : AliasingEffect) → FitContext c → T .internedCount c < 2048 → Short (effectKey e) → T .findEffect c (effectKey e) ≡ none → meaning (T .addEffect c e) ≡ pure .addEffect (meaning c) e
-  pub key-fit : (c : T .Context) (v : ℕ) (k : EffectKey) → FitContext c → Fresh v → Short k → FitContext (T .putKey c v k)
-  pub key-put : (c : T .Context) (v : ℕ) (k : EffectKey) → FitContext c → Fresh v → Short k → meaning (T .putKey c v k) ≡ pure .putKey (meaning c) v k
+  pub key-fit : (c : T .Context) (v : ℕ) (k : EffectKey) → FitContext c → Fresh v → Short k → T .keyAt c v ≡ none → T .findNumber c k ≡ none → FitContext (T .putKey c v k)
+  pub key-put : (c : T .Context) (v : ℕ) (k : EffectKey) → FitContext c → Fresh v → Short k → T .keyAt c v ≡ none → T .findNumber c k ≡ none → meaning (T .putKey c v k) ≡ pure .putKey (meaning c) v k
   pub link-fit : (c : T .Context) (v f : ℕ) → FitContext c → Fresh v → FitContext (T .putLink c v f)
   pub link-put : (c : T .Context) (v f : ℕ) → FitContext c → Fresh v → meaning (T .putLink c v f) ≡ pure .putLink (meaning c) v f
   pub read-fit : (c : T .Context) (f i : ℕ) → FitContext c → FitContext (T .makeRead c f i)

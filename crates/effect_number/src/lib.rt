@@ -14,7 +14,9 @@ use effect_parts::with_session;
 use lent_keys::Found;
 use lent_keys::Key;
 use lent_links::put_key;
-use lent_search::find_number;
+use lent_search::find_key;
+use lent_search::number_at;
+use lent_search::place_of;
 use lent_work::Run;
 
 // The number under a key: 0 or 9, the number, and what the instruction has by value then.
@@ -39,7 +41,8 @@ pub fn get_or_create_value_id(
         (world vs ss (old context) os run)
         ≡ answer (r .refusal) (r .number) (world vs ss (new context) os (r .run))) ⌝ }
 {
-    let found = find_number(context, key, captures);
+    let spot = find_key(context, key, captures);
+    let found = number_at(context, spot);
     match found {
         Found::At(n) => {
             return NumberFor {
@@ -59,7 +62,7 @@ pub fn get_or_create_value_id(
             run,
         };
     }
-    put_key(context, next, key, captures);
+    put_key(context, place_of(spot), next, key, captures);
     let span = session.span;
     let after = Session {
         next: next + 1,

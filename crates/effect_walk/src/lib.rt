@@ -1,7 +1,6 @@
 // The freeze walk over lent tables: it calls itself, and the entries still allowed fall. After freeze_function_captures_transitive of the Rust.
 ghost use mathlib.Core.Path.{_≡_};
 ghost use Rattle.state_ops.specs.Lists.{freezes};
-ghost use Rattle.lent_world.specs.World.{oneMore};
 ghost use Rattle.effect_walk.specs.Walks.{Enters};
 ghost use Rattle.lent_slices.specs.Lent.{old, new};
 use def_kinds::AbstractValue;
@@ -11,6 +10,7 @@ use lent_context::context_count;
 use lent_functions::context_identifier;
 use lent_keys::Found;
 use lent_links::link_of;
+use lent_links::one_more;
 use lent_members::next_member;
 use lent_sets::is_defined;
 use lent_slices::wide32;
@@ -23,17 +23,6 @@ pub struct Walked {
     pub refusal: u32,
     pub freeze: u32,
     pub entries: u32,
-}
-
-// One more entry, as far as a word can count.
-// No instruction comes near its end.
-pub fn one_more(n: u32) -> u32
-    ensures { λ r. ⌜ r ≡ oneMore n ⌝ }
-{
-    if n < 4294967295 {
-        return n + 1;
-    }
-    n
 }
 
 // Whether a freeze acts on a place: it is defined, and Mutable, Context or MaybeFrozen.

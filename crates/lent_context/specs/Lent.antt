@@ -3,7 +3,7 @@ use Prim.Native.Nat.{ℕ, zero, suc, _+_, _*_, _/_, _%_}
 use mathlib.Core.Bool.{Bool, not, _&&_}
 use mathlib.Core.List.{List, [], _∷_}
 use mathlib.Core.Option.{Option, none, some}
-use lib.Dec.{eqb}
+use lib.Dec.{eqb, ltb}
 use lib.ListN.{getD, set}
 use Rattle.base_tests.specs.Tests.{ite}
 use Rattle.base_search.specs.declared.Spot.{Spot}
@@ -16,11 +16,11 @@ use Rattle.def_effects.specs.Effects.{AliasingEffect}
 use Rattle.def_effects.specs.Keys.{EffectKey, effectKey}
 use Rattle.def_transfer.specs.Diagnostics.{Diagnostic}
 use Rattle.def_transfer.specs.Pure as Pure
-use Rattle.def_transfer.specs.Pure.{Interned, firstCached, identities}
+use Rattle.def_transfer.specs.Pure.{Interned, identities}
 use Rattle.lent_tables.specs.declared.Table.{Table}
 use Rattle.lent_tables.specs.Words.{field, putField, placesIn}
 use Rattle.lent_effects.specs.Records.{effectIn, putEffect}
-use Rattle.lent_keys.specs.KeyRecords.{optionIn, putOption, keyIn}
+use Rattle.lent_keys.specs.KeyRecords.{numbersIn, optionIn, putOption, keyHeadIn, keyIn}
 use Rattle.lent_keys.specs.KeyRecords as Keys
 use Rattle.lent_layout.specs.Layout as Layout
 use Rattle.lent_order.specs.Order.{orderAt, inserted}
@@ -87,14 +87,45 @@ addEffect c e =
 unfoldable pub keyAt : List ℕ → ℕ → Option EffectKey
 keyAt c n = keyIn Layout.cached c n
 
--- the lowest fresh number that is cached under a key
--- the definition's own search
-unfoldable pub findNumber : List ℕ → EffectKey → Option ℕ
-findNumber c k = firstCached 511 1 (keyAt c) k
+-- whether a number has a key
+unfoldable pub isKeyed : List ℕ → ℕ → Bool
+isKeyed c n = not (eqb (field Layout.cached c n 0) 0)
 
--- a fresh number is cached under a key
+-- the key that stands in the record of a number that has one
+unfoldable pub keyHere : List ℕ → ℕ → EffectKey
+keyHere c n = keyHeadIn Layout.cached c n (numbersIn Layout.cached c n 12 1 0 (field Layout.cached c n 11))
+
+-- how many numbers have a key
+unfoldable pub keyCount : List ℕ → ℕ
+keyCount c = getD c Layout.keyCount 0
+
+-- where the order of the cached keys has a key, or would have it
+-- a search by halves, total on any words
+unfoldable pub keySpot : List ℕ → EffectKey → Spot
+keySpot c k = along (λ j. compareKeys k (keyHere c (orderAt Layout.keyOrder c j))) (keyCount c)
+
+-- the number at a place of the order, or none
+-- a number without a key is none, so that what is found on any words has the key
+abbrev pub numberAt : List ℕ → Spot → Option ℕ
+numberAt c (At j) = ite (isKeyed c (orderAt Layout.keyOrder c j)) (some (orderAt Layout.keyOrder c j)) none
+numberAt c (Before p) = none
+
+-- the fresh number that is cached under a key
+-- where no two have one key and the order is right, the search finds it (`Laws/Numbered.antt`: `number-is`)
+unfoldable pub findNumber : List ℕ → EffectKey → Option ℕ
+findNumber c k = numberAt c (keySpot c k)
+
+-- one more, as long as a word of 32 bits can count it
+unfoldable pub oneMore : ℕ → ℕ
+oneMore n = ite (ltb n 4294967295) (suc n) n
+
+-- a fresh number is cached under a key, comes p-th in the order, and is counted
+unfoldable pub cachedAt : List ℕ → ℕ → ℕ → EffectKey → List ℕ
+cachedAt c p n k = set (inserted Layout.keyOrder p n (keyCount c) (Keys.putKey Layout.cached c n k)) Layout.keyCount (oneMore (keyCount c))
+
+-- a fresh number is cached under a key, where the search for it ended
 unfoldable pub putKey : List ℕ → ℕ → EffectKey → List ℕ
-putKey c n k = Keys.putKey Layout.cached c n k
+putKey c n k = cachedAt c (placeOf (keySpot c k)) n k
 
 -- ---- function links
 

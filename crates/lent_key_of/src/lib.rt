@@ -1,27 +1,17 @@
-// The key of an effect, and whether the effect of a record has a given key.
-// The words of a key are in `lent_keys`.
+// The key of an effect. The words of a key are in `lent_keys`.
 ghost use mathlib.Core.Path.{_≡_};
 ghost use mathlib.Core.List.{List};
 ghost use Prim.Native.Nat.{ℕ};
 ghost use Rattle.def_effects.specs.declared.Place.{Place as APlace};
-ghost use Rattle.def_effects.specs.Keys.{one, two, effectKey, eqKey};
+ghost use Rattle.def_effects.specs.Keys.{one, two, effectKey};
 ghost use Rattle.def_effects.specs.Places.{identifiers};
-ghost use Rattle.lent_effects.specs.Records.{effectWith, effectIn, capturesOf};
+ghost use Rattle.lent_effects.specs.Records.{effectWith};
 ghost use Rattle.lent_keys.specs.KeyRecords.{keyWith};
-ghost use Rattle.lent_slices.specs.Lent.{old};
 use def_effects::Place;
-use lent_effect_read::effect_in;
 use lent_effects::AliasingEffect;
 use lent_effects::kind_word;
 use lent_keys::Found;
 use lent_keys::Key;
-use lent_keys::is_other;
-use lent_keys::same_head;
-use lent_keys::same_numbers;
-use lent_keys::taken;
-use lent_layout::ONE_RUN;
-use lent_tables::Table;
-use lent_tables::field;
 
 // The key of an effect with one place that is no destination.
 // Reason and identity are 0 where the key has none.
@@ -99,29 +89,4 @@ pub fn key_of(e: AliasingEffect) -> Key
         AliasingEffect::Impure { place, error: _ } => one_key(16, place, 0, 0),
         AliasingEffect::Render { place } => one_key(17, place, 0, 0),
     }
-}
-
-// Whether the effect of record i has a key; the key's captures stand beside it, the record's in the record.
-// This is the comparison of `intern_effect`. Most keys differ in a place, so two words are looked at before the whole record is read.
-pub fn effect_has_key(t: Table, xs: &[u32], i: usize, key: Key, captures: &[u32]) -> bool
-    ensures { λ r. ⌜
-        r
-        ≡ eqKey (keyWith key (identifiers (capturesOf (old captures))))
-        (effectKey (effectIn t (old xs) i)) ⌝ }
-{
-    let into = key.into;
-    if is_other(into, field(t, xs, i, 6)) {
-        return false;
-    }
-    let from = key.from;
-    if is_other(from, field(t, xs, i, 1)) {
-        return false;
-    }
-    let other = key_of(effect_in(t, xs, i));
-    if !same_head(key, other) {
-        return false;
-    }
-    let n = taken(key.captured, field(ONE_RUN, captures, 0, 0));
-    let m = taken(other.captured, field(t, xs, i, 17));
-    same_numbers(ONE_RUN, captures, 0, 1, 5, n, t, xs, i, 18, 5, m)
 }

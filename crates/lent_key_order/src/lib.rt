@@ -3,7 +3,9 @@ ghost use mathlib.Core.Path.{_≡_};
 ghost use Rattle.base_search.specs.Comparings.{compareNumbers, compareLists};
 ghost use Rattle.def_key_order.specs.KeyOrder.{optional};
 ghost use Rattle.lent_keys.specs.KeyRecords.{optionOf, numbersIn};
+ghost use mathlib.Core.Bool.{true};
 ghost use Rattle.lent_key_order.specs.Heads.{compareHeads};
+ghost use Rattle.lent_key_order.specs.Runs.{Past};
 ghost use Rattle.lent_slices.specs.Lent.{old};
 use base_search::Order;
 use base_search::compare_numbers;
@@ -62,8 +64,25 @@ pub fn compare_heads(a: Key, b: Key) -> Order
     )
 }
 
+// Whether number k of two runs, s and r words apart, lies past the words of both records, as all after it do.
+// There every number reads as 0.
+fn is_past(t: Table, s: u32, u: Table, r: u32, k: u32) -> bool
+    ensures { λ b. ⌜ (b ≡ true → Past t s k × Past u r k) ⌝ }
+{
+    if s == 0 {
+        return false;
+    }
+    if r == 0 {
+        return false;
+    }
+    if k < t.width {
+        return false;
+    }
+    k >= u.width
+}
+
 // Two runs of numbers, each in a record: n of them from word w on, s words apart, against m.
-// One after the other; a run that ends first comes first.
+// One after the other; a run that ends first comes first. A count may be any word: past both records only the counts are left to compare.
 pub fn compare_runs(
     t: Table,
     xs: &[u32],
@@ -84,6 +103,9 @@ pub fn compare_runs(
     while k < n {
         if k >= m {
             return Order::More;
+        }
+        if is_past(t, s, u, r, k) {
+            return compare_numbers(n, m);
         }
         let o = compare_numbers(number_in(t, xs, i, w, s, k), number_in(u, ys, j, v, r, k));
         match o {

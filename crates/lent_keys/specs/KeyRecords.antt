@@ -1,12 +1,11 @@
 -- Keys of effects as the code holds them, and as records of words. Assumes nothing: these are definitions.
 use Prim.Native.Nat.{ℕ, zero, suc, _+_, _*_}
-use mathlib.Core.Bool.{Bool, false, not, _&&_}
 use mathlib.Core.List.{List, [], _∷_}
 use mathlib.Core.Option.{Option, none, some}
 use lib.Dec.{eqb}
 use lib.ListN.{length}
 use Rattle.base_tests.specs.Tests.{ite}
-use Rattle.def_effects.specs.Keys.{EffectKey, eqOption}
+use Rattle.def_effects.specs.Keys.{EffectKey}
 use Rattle.lent_tables.specs.declared.Table.{Table}
 use Rattle.lent_tables.specs.Words.{field, putField}
 use Rattle.lent_keys.specs.declared.Found.{Found}
@@ -32,19 +31,6 @@ keyWith k is = record {
   identity = k .identity;
   captures = ite (k .captured) is [];
 }
-
--- whether a number that may be absent is there, and is another than x
--- a key that names another place is another key
-unfoldable pub isOther : Option ℕ → ℕ → Bool
-isOther none x = false
-isOther (some y) x = not (eqb y x)
-
--- whether two keys of the code are equal but for their captures
--- `eqKey` without its last test
-unfoldable pub sameHead : Key → Key → Bool
-sameHead a b =
-    eqb (a .code) (b .code) && (eqOption (optionOf (a .from)) (optionOf (b .from)) && (eqOption (optionOf (a .into)) (optionOf (b .into)) && (eqb (a .kind) (b .kind) && (eqb (a .reason) (b .reason)
-    && (eqOption (optionOf (a .function)) (optionOf (b .function)) && eqb (a .identity) (b .identity))))))
 
 -- n numbers of a run that begins at word w of record i, s words apart, from its number k on
 -- the identifiers of captures: five words apart in an effect, one in a key

@@ -2,13 +2,11 @@
 ghost use mathlib.Core.Path.{_≡_};
 ghost use mathlib.Core.List.{List, []};
 ghost use Prim.Native.Nat.{ℕ, _+_, _*_};
-ghost use Rattle.def_effects.specs.Keys.{eqOption, eqList};
 ghost use Rattle.def_effects.specs.Places.{identifiers};
 ghost use Rattle.base_tests.specs.Tests.{ite};
 ghost use Rattle.lent_tables.specs.Words as Words;
-ghost use Rattle.def_transfer.specs.Pure.{isKey};
 ghost use Rattle.lent_effects.specs.Records.{capturesOf};
-ghost use Rattle.lent_keys.specs.KeyRecords.{isOther, optionOf, keyWith, sameHead, numbersIn, putNumbers, optionIn, putOption, keyHeadIn, keyIn, putHead, putKey};
+ghost use Rattle.lent_keys.specs.KeyRecords.{optionOf, keyWith, numbersIn, putNumbers, optionIn, putOption, keyHeadIn, putHead, putKey};
 ghost use Rattle.lent_slices.specs.Lent.{old, new};
 use lent_layout::ONE_RUN;
 use lent_slices::wide32;
@@ -37,91 +35,12 @@ pub struct Key {
     pub captured: bool,
 }
 
-// Whether two numbers that may be absent are equal.
-fn same_option(a: Found, b: Found) -> bool
-    ensures { λ r. ⌜ r ≡ eqOption (optionOf a) (optionOf b) ⌝ }
-{
-    match a {
-        Found::Nowhere => match b {
-            Found::Nowhere => true,
-            Found::At(_) => false,
-        },
-        Found::At(x) => match b {
-            Found::Nowhere => false,
-            Found::At(y) => x == y,
-        },
-    }
-}
-
 // Number k of a run in record i: w is its first word, s the distance of one to the next.
 // The numbers are small enough that nothing passes 64 bits.
 pub fn number_in(t: Table, xs: &[u32], i: usize, w: u32, s: u32, k: u32) -> u32
     ensures { λ r. ⌜ r ≡ Words.field t (old xs) i (w + k * s) ⌝ }
 {
     field(t, xs, i, wide32(w) + wide32(k) * wide32(s))
-}
-
-// Whether two runs of numbers, each in a record, are equal: n of them from word w on, s words apart, against m.
-// The identifiers of captures stand five words apart in an effect, one in a key.
-pub fn same_numbers(
-    t: Table,
-    xs: &[u32],
-    i: usize,
-    w: u32,
-    s: u32,
-    n: u32,
-    u: Table,
-    ys: &[u32],
-    j: usize,
-    v: u32,
-    r: u32,
-    m: u32,
-) -> bool
-    ensures { λ b. ⌜ b ≡ eqList (numbersIn t (old xs) i w s 0 n) (numbersIn u (old ys) j v r 0 m) ⌝ }
-{
-    if n != m {
-        return false;
-    }
-    let mut k: u32 = 0;
-    while k < n {
-        if number_in(t, xs, i, w, s, k) != number_in(u, ys, j, v, r, k) {
-            return false;
-        }
-        k += 1;
-    }
-    true
-}
-
-// Whether two keys are equal, but for their captures.
-// The captures are compared only where the rest is equal.
-pub fn same_head(a: Key, b: Key) -> bool
-    ensures { λ r. ⌜ r ≡ sameHead a b ⌝ }
-{
-    if a.code != b.code {
-        return false;
-    }
-    let a_from = a.from;
-    let b_from = b.from;
-    if !same_option(a_from, b_from) {
-        return false;
-    }
-    let a_into = a.into;
-    let b_into = b.into;
-    if !same_option(a_into, b_into) {
-        return false;
-    }
-    if a.kind != b.kind {
-        return false;
-    }
-    if a.reason != b.reason {
-        return false;
-    }
-    let a_function = a.function;
-    let b_function = b.function;
-    if !same_option(a_function, b_function) {
-        return false;
-    }
-    a.identity == b.identity
 }
 
 // How many captures a key has, of those that stand beside it.
@@ -133,17 +52,6 @@ pub fn taken(has: bool, n: u32) -> u32
         return n;
     }
     0
-}
-
-// Whether a number that may be absent is there, and is another than x.
-// A key that names another place than a record is not its key.
-pub fn is_other(o: Found, x: u32) -> bool
-    ensures { λ r. ⌜ r ≡ isOther (optionOf o) x ⌝ }
-{
-    match o {
-        Found::Nowhere => false,
-        Found::At(y) => y != x,
-    }
 }
 
 // ---- a key as a record of 28 words
@@ -198,22 +106,6 @@ pub fn head_in(t: Table, xs: &[u32], i: usize) -> Key
         identity,
         captured: true,
     }
-}
-
-// Whether record i holds a key, and it is this one; the key's captures stand beside it.
-// This is the comparison of `get_or_create_value_id`.
-pub fn record_has_key(t: Table, xs: &[u32], i: usize, key: Key, captures: &[u32]) -> bool
-    ensures { λ r. ⌜ r ≡ isKey (keyWith key (identifiers (capturesOf (old captures)))) (keyIn t (old xs) i) ⌝ }
-{
-    if field(t, xs, i, 0) == 0 {
-        return false;
-    }
-    if !same_head(key, head_in(t, xs, i)) {
-        return false;
-    }
-    let n = taken(key.captured, field(ONE_RUN, captures, 0, 0));
-    let m = field(t, xs, i, 11);
-    same_numbers(ONE_RUN, captures, 0, 1, 5, n, t, xs, i, 12, 1, m)
 }
 
 // The identifiers of n captures are written one after the other from word 12 of record i on.

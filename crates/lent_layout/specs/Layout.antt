@@ -62,20 +62,29 @@ diagnostics = record { base = 32965; count = 256; width = 9 }
 abbrev pub effectOrder : Table
 effectOrder = record { base = 35269; count = 2048; width = 1 }
 
+-- how many fresh numbers have a key
+-- so that their order can be searched by halves
+abbrev pub keyCount : ℕ
+keyCount = 37317
+
+-- the order of the cached keys: word j is the number whose key comes j-th
+abbrev pub keyOrder : Table
+keyOrder = record { base = 37318; count = 512; width = 1 }
+
 -- interned effects: the first effect under a key
 -- the last table: 2,048 records
 abbrev pub interned : Table
-interned = record { base = 37317; count = 2048; width = 98 }
+interned = record { base = 37830; count = 2048; width = 98 }
 
 -- how many words a context has
 -- "1 a lent slice .. has the wrong length"
 abbrev pub long : ℕ
-long = 238021
+long = 238534
 
 -- how many of its words are saved: those from the count of interned effects to before the effects themselves
 -- every word that an instruction may change, but for the effects that it appends
 abbrev pub savedWords : ℕ
-savedWords = 24834
+savedWords = 25347
 
 -- ---- effects in lists of their own, and what stands beside them
 

@@ -65,24 +65,33 @@ pub const EFFECT_ORDER: Table = Table {
     width: 1,
 };
 
+// How many fresh numbers have a key, and the order of the keys: word j is the number whose key comes j-th.
+pub const KEY_COUNT: usize = 37317;
+
+pub const KEY_ORDER: Table = Table {
+    base: 37318,
+    count: 512,
+    width: 1,
+};
+
 // Interned effects, the last table.
 pub const INTERNED: Table = Table {
-    base: 37317,
+    base: 37830,
     count: 2048,
     width: 98,
 };
 
 // How many words a context has, and how many of them are saved: those from the count of interned effects up to the effects themselves.
-pub const CONTEXT_WORDS: usize = 238021;
+pub const CONTEXT_WORDS: usize = 238534;
 
-pub const SAVED_WORDS: usize = 24834;
+pub const SAVED_WORDS: usize = 25347;
 
-pub const EFFECTS_FROM: usize = 37317;
+pub const EFFECTS_FROM: usize = 37830;
 
 // The same for `lent_copies::copy32`, which counts in words of 32 bits: from where on, and how many.
 pub const SAVED_FROM: u32 = 12483;
 
-pub const SAVED: u32 = 24834;
+pub const SAVED: u32 = 25347;
 
 // ---- effects in slices of their own
 

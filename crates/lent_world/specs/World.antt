@@ -16,6 +16,8 @@ use Rattle.lent_work.specs.Access.{accessOf}
 use Rattle.lent_work.specs.declared.Run.{Run}
 use Rattle.lent_work.specs.Marks.{noMarks, isMarked, marked}
 use Rattle.lent_context.specs.Lent as Lent
+-- one more entry, as long as a word of 32 bits can count it: no instruction makes more than 4,096 for each candidate (crate `laws_counts`)
+unfoldable pub use Rattle.lent_context.specs.Lent.{oneMore}
 use Rattle.lent_layout.specs.Layout.{output, outputWords}
 
 -- the effects listed so far: the words of the output list, and how many effects they hold
@@ -28,11 +30,6 @@ pub record Listed : Type 0 where
 -- no instruction lists more than 32 + 64 × 17 (crate `laws_counts`), so that none is lost
 unfoldable pub putListed : Listed → AliasingEffect → Listed
 putListed l e = ite (ltb (l .count) 4294967295) (record { words = putEffect output (l .words) (l .count) e; count = suc (l .count) }) l
-
--- one more entry, as long as a word of 32 bits can count it
--- no instruction makes more than 4,096 for each candidate (crate `laws_counts`)
-unfoldable pub oneMore : ℕ → ℕ
-oneMore n = ite (ltb n 4294967295) (suc n) n
 
 -- the lent tables: a word for each value, a row for each identifier, one list of words for the context, the output list;
 -- the places initialized in the instruction go by value

@@ -15,9 +15,11 @@ use lent_layout::INTERNED;
 use lent_layout::LINKS;
 use lent_layout::OPTIONS;
 use lent_links::interned_count;
+use lent_links::key_count;
 use lent_slices::get32;
 use lent_slices::wide32;
 use refuse_class::lower;
+use refuse_key_order::key_order_class;
 use refuse_order::order_class;
 use refuse_records::diagnostic_records;
 use refuse_records::effect_records;
@@ -52,13 +54,13 @@ fn functions_class(context: &[u32], identifiers: u32, functions: u32) -> u32
 
 // How many fresh numbers there are below next.
 // No more than the tables have, whatever next is.
-fn handed_out(next: u32) -> usize
+fn handed_out(next: u32) -> u32
     ensures { λ r. ⌜ r ≡ handedOut next ⌝ }
 {
     if next > 512 {
         return 512;
     }
-    wide32(next)
+    next
 }
 
 // The class of the links of numbers below next.
@@ -66,19 +68,21 @@ fn handed_out(next: u32) -> usize
 fn links_class(context: &[u32], functions: u32, next: u32) -> u32
     ensures { λ r. ⌜ r ≡ linksClass functions (old context) next ⌝ }
 {
-    let n = handed_out(next);
+    let n = wide32(handed_out(next));
     let records = link_records(context, n, functions);
     lower(records, stray_after(LINKS, context, n))
 }
 
-// The class of the keys of numbers below next.
+// The class of the keys of numbers below next, and of their order.
 // A key of another number is a word without use.
 fn keys_class(context: &[u32], identifiers: u32, functions: u32, next: u32) -> u32
     ensures { λ r. ⌜ r ≡ keysClass identifiers functions (old context) next ⌝ }
 {
-    let n = handed_out(next);
+    let m = handed_out(next);
+    let n = wide32(m);
     let records = key_records(context, n, identifiers, functions);
-    lower(records, stray_after(CACHED, context, n))
+    let after = stray_after(CACHED, context, n);
+    lower(records, lower(after, key_order_class(context, m)))
 }
 
 // The class of the diagnostics.
@@ -103,7 +107,7 @@ fn effects_class(context: &[u32], identifiers: u32, functions: u32) -> u32
 // ---- the whole context
 
 // Whether a count is above its limit, or is not what the call says.
-// 512 identifiers at most are the state's own limit; 64 functions, 2,048 interned effects, 256 diagnostics.
+// 512 identifiers at most are the state's own limit; 64 functions, 2,048 interned effects, 256 diagnostics, 511 cached keys.
 fn counts_wrong(context: &[u32], identifiers: u32, functions: u32) -> bool
     ensures { λ r. ⌜ r ≡ countsWrong identifiers functions (old context) ⌝ }
 {
@@ -119,7 +123,10 @@ fn counts_wrong(context: &[u32], identifiers: u32, functions: u32) -> bool
     if interned_count(context) > 2048 {
         return true;
     }
-    instance_count(context) > 256
+    if instance_count(context) > 256 {
+        return true;
+    }
+    key_count(context) > 511
 }
 
 // The lowest class of the options and of all tables.

@@ -7,6 +7,7 @@ use mathlib.Core.Option.{some}
 use lib.Dec.{ltb}
 use Rattle.base_search.specs.declared.Order.{Order}
 use Rattle.base_search.specs.declared.Order.the-variants.{Less, Same, More}
+use Rattle.def_effects.specs.Keys.{EffectKey}
 use Rattle.def_key_order.specs.KeyOrder.{compareKeys}
 use Rattle.lent_layout.specs.Layout as Layout
 use Rattle.lent_order.specs.Order.{orderAt}
@@ -20,14 +21,14 @@ isLess Less = true
 isLess Same = false
 isLess More = false
 
--- whether the effect at place j of an order of n does not come before the one at the next place, if there is one
+-- whether what stands at place j of an order of n does not come before what stands at the next place, if there is one
 -- neighbours of one key are "two entries of one key"
-unfoldable pub descends : List ℕ → ℕ → ℕ → Bool
-descends c n j = ltb (suc j) n && not (isLess (compareKeys (internedKey c (orderAt Layout.effectOrder c j)) (internedKey c (orderAt Layout.effectOrder c (suc j)))))
+unfoldable pub descends : (ℕ → EffectKey) → (ℕ → ℕ) → ℕ → ℕ → Bool
+descends key ord n j = ltb (suc j) n && not (isLess (compareKeys (key (ord j)) (key (ord (suc j)))))
 
 -- a place of the order: the number of one of n effects, and its key before the next
 unfoldable pub placeClass : List ℕ → ℕ → ℕ → ℕ
-placeClass c n j = lower (wordClass (some n) (orderAt Layout.effectOrder c j)) (earns 4 (descends c n j))
+placeClass c n j = lower (wordClass (some n) (orderAt Layout.effectOrder c j)) (earns 4 (descends (internedKey c) (orderAt Layout.effectOrder c) n j))
 
 -- the whole order, and the words after it
 unfoldable pub orderClass : List ℕ → ℕ

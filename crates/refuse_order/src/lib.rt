@@ -3,6 +3,8 @@
 ghost use mathlib.Core.Path.{_≡_};
 ghost use Rattle.def_key_order.specs.KeyOrder.{compareKeys};
 ghost use Rattle.lent_context.specs.Lent.{internedKey};
+ghost use Rattle.lent_layout.specs.Layout as Layout;
+ghost use Rattle.lent_order.specs.Order.{orderAt};
 ghost use Rattle.lent_slices.specs.Lent.{old};
 ghost use Rattle.refuse_words.specs.Classes.{lowestBelow};
 ghost use Rattle.refuse_order.specs.Order.{isLess, descends, placeClass, orderClass};
@@ -58,7 +60,7 @@ pub fn compare_records(context: &[u32], a: u32, b: u32) -> Order
 }
 
 // Whether what is compared comes before.
-fn is_less(o: Order) -> bool
+pub fn is_less(o: Order) -> bool
     ensures { λ r. ⌜ r ≡ isLess o ⌝ }
 {
     match o {
@@ -70,7 +72,9 @@ fn is_less(o: Order) -> bool
 
 // Whether the effect at place j of an order of n does not come before the one at the next place, if there is one.
 fn descends(context: &[u32], n: u32, j: u32) -> bool
-    ensures { λ r. ⌜ r ≡ descends (old context) n j ⌝ }
+    ensures { λ r. ⌜
+        r
+        ≡ descends (internedKey (old context)) (orderAt Layout.effectOrder (old context)) n j ⌝ }
 {
     if n == 0 {
         return false;

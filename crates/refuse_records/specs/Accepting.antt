@@ -9,13 +9,14 @@ use lib.ListN.{getD}
 use Rattle.base_tests.specs.Tests.{ite}
 use Rattle.lent_tables.specs.Words.{field}
 use Rattle.lent_layout.specs.Layout as Layout
-use Rattle.lent_context.specs.Lent.{internedCount, instanceCount}
+use Rattle.lent_context.specs.Lent.{internedCount, instanceCount, keyCount}
 use Rattle.refuse_class.specs.Class.{lower}
 use Rattle.refuse_words.specs.Classes.{lowestBelow, earns, wordClass, strayAfter}
 use Rattle.refuse_instruction.specs.EffectClasses.{effectClass}
 use Rattle.refuse_tables.specs.TableClasses.{identifierClass, functionClass, linkClass, keyClass, noKeyClass, messageClass}
-use Rattle.refuse_repeats.specs.Repeats.{keyTwice, diagnosticTwice}
+use Rattle.refuse_repeats.specs.Repeats.{diagnosticTwice}
 use Rattle.refuse_order.specs.Order.{orderClass}
+use Rattle.refuse_key_order.specs.KeyOrder.{keyOrderClass}
 
 -- ---- records that may repeat one before them
 
@@ -24,12 +25,12 @@ use Rattle.refuse_order.specs.Order.{orderClass}
 unfoldable pub tooManyCaptures : List ℕ → ℕ → Bool
 tooManyCaptures c v = eqb (field Layout.cached c v 1) 13 && ltb 16 (field Layout.cached c v 11)
 
--- a cached number: no key at all, or one that is right and of no lower number
+-- a cached number: no key at all, or one that is right; that no other has it is the order's
 -- value number 0 has none
 unfoldable pub cachedClass : ℕ → ℕ → List ℕ → ℕ → ℕ
 cachedClass identifiers functions c v =
     ite (eqb v 0 || eqb (field Layout.cached c v 0) 0) (noKeyClass c v)
-    (lower (earns 2 (tooManyCaptures c v)) (lower (keyClass identifiers functions c v) (earns 4 (keyTwice c v))))
+    (lower (earns 2 (tooManyCaptures c v)) (keyClass identifiers functions c v))
 
 -- a diagnostic: right, with the identity that it has to have, and no equal record before it
 -- wrong order, or two entries of one key
@@ -62,10 +63,11 @@ handedOut next = ite (ltb 512 next) 512 next
 unfoldable pub linksClass : ℕ → List ℕ → ℕ → ℕ
 linksClass functions c next = lower (lowestBelow (handedOut next) (linkClass functions c)) (strayAfter Layout.links c (handedOut next))
 
--- the keys of numbers below next
+-- the keys of numbers below next, and their order
 -- a key of another is a word without use
 unfoldable pub keysClass : ℕ → ℕ → List ℕ → ℕ → ℕ
-keysClass identifiers functions c next = lower (lowestBelow (handedOut next) (cachedClass identifiers functions c)) (strayAfter Layout.cached c (handedOut next))
+keysClass identifiers functions c next =
+    lower (lowestBelow (handedOut next) (cachedClass identifiers functions c)) (lower (strayAfter Layout.cached c (handedOut next)) (keyOrderClass c (handedOut next)))
 
 -- the diagnostics
 unfoldable pub diagnosticsClass : ℕ → List ℕ → ℕ
@@ -81,7 +83,7 @@ effectsClass identifiers functions c = lower (lowestBelow (internedCount c) (int
 -- "a count is above its limit"; the identifiers are those of the state
 unfoldable pub countsWrong : ℕ → ℕ → List ℕ → Bool
 countsWrong identifiers functions c =
-    not (eqb (getD c Layout.identifierCount 0) identifiers) || (not (eqb (getD c Layout.functionCount 0) functions) || (ltb 64 functions || (ltb 2048 (internedCount c) || ltb 256 (instanceCount c))))
+    not (eqb (getD c Layout.identifierCount 0) identifiers) || (not (eqb (getD c Layout.functionCount 0) functions) || (ltb 64 functions || (ltb 2048 (internedCount c) || (ltb 256 (instanceCount c) || ltb 511 (keyCount c)))))
 
 -- the options and all tables
 -- two options, so below 4

@@ -13,7 +13,6 @@ use refuse_instruction::effect_class;
 use refuse_keys::key_class;
 use refuse_keys::no_key_class;
 use refuse_repeats::diagnostic_twice;
-use refuse_repeats::key_twice;
 use refuse_tables::function_class;
 use refuse_tables::identifier_class;
 use refuse_tables::link_class;
@@ -31,8 +30,7 @@ fn too_many_captures(context: &[u32], v: usize) -> bool
     field(CACHED, context, v, 11) > 16
 }
 
-// The class of a cached number: no key at all, or one that is right and of no lower number.
-// A key that is refused already is not looked for among the lower numbers.
+// The class of a cached number: no key at all, or one that is right.
 fn cached_class(context: &[u32], v: usize, identifiers: u32, functions: u32) -> u32
     ensures { λ r. ⌜ r ≡ cachedClass identifiers functions (old context) v ⌝ }
 {
@@ -45,11 +43,7 @@ fn cached_class(context: &[u32], v: usize, identifiers: u32, functions: u32) -> 
     if too_many_captures(context, v) {
         return 2;
     }
-    let class = key_class(context, v, identifiers, functions);
-    if class != 0 {
-        return class;
-    }
-    earns(4, key_twice(context, v))
+    key_class(context, v, identifiers, functions)
 }
 
 // The class of a diagnostic: right, with the identity that it has to have, and no equal record before it.

@@ -1,30 +1,15 @@
--- Whether a record of a context repeats one before it (document 01, 'Refused calls': "two entries of one key"). Assumes nothing: these are definitions.
-use Prim.Native.Nat.{ℕ, _-_}
-use mathlib.Core.Bool.{Bool, false, not, _||_}
+-- Whether a diagnostic of a context repeats one before it (document 01, 'Refused calls': "two entries of one key"). Assumes nothing: these are definitions.
+use Prim.Native.Nat.{ℕ}
+use mathlib.Core.Bool.{Bool, not, _||_}
 use mathlib.Core.List.{List}
 use mathlib.Core.Option.{Option, none, some}
 use lib.Dec.{eqb}
-use Rattle.def_effects.specs.Keys.{EffectKey}
 use Rattle.def_effects.specs.declared.Diagnostic.{Diagnostic}
 use Rattle.base_tests.specs.Tests.{isSome}
-use Rattle.def_transfer.specs.Pure.{firstCached, identities, findIdentity, findInstance}
+use Rattle.def_transfer.specs.Pure.{identities, findIdentity, findInstance}
 use Rattle.lent_tables.specs.Words.{field}
-use Rattle.lent_keys.specs.KeyRecords.{keyHeadIn, numbersIn}
 use Rattle.lent_layout.specs.Layout as Layout
-use Rattle.lent_context.specs.Lent.{keyAt, diagnosticIn, diagnosticsIn}
-
--- ---- cached numbers
-
--- the key that stands in the record of a number that has one
-unfoldable pub keyHere : List ℕ → ℕ → EffectKey
-keyHere c v = keyHeadIn Layout.cached c v (numbersIn Layout.cached c v 12 1 0 (field Layout.cached c v 11))
-
--- "two entries of one key": a lower number has the same key
--- numbers are looked through from 1
-unfoldable pub keyTwice : List ℕ → ℕ → Bool
-keyTwice c v = elim (keyAt c v) [ none ↦ false | some k ↦ isSome (firstCached (v - 1) 1 (keyAt c) k) ]
-
--- ---- diagnostics
+use Rattle.lent_context.specs.Lent.{diagnosticIn, diagnosticsIn}
 
 -- a number that may be absent, or another
 -- the identity of an equal message, or the next

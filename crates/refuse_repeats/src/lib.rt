@@ -1,12 +1,11 @@
-// Whether a record of a context repeats one before it: a cached key, a diagnostic.
+// Whether a diagnostic of a context repeats one before it.
 // Each search goes through the records before the one that is tested; every function is total, and its contract is one equation.
 ghost use mathlib.Core.Path.{_≡_};
 ghost use Rattle.base_tests.specs.Tests.{isSome};
-ghost use Rattle.def_transfer.specs.Pure.{isKey, identities, findIdentity, findInstance};
-ghost use Rattle.lent_keys.specs.KeyRecords.{optionOf, keyIn};
-ghost use Rattle.lent_layout.specs.Layout as Layout;
+ghost use Rattle.def_transfer.specs.Pure.{identities, findIdentity, findInstance};
+ghost use Rattle.lent_keys.specs.KeyRecords.{optionOf};
 ghost use Rattle.lent_context.specs.Lent.{diagnosticsIn};
-ghost use Rattle.refuse_repeats.specs.Repeats.{keyHere, keyTwice, rightIdentity, diagnosticTwice};
+ghost use Rattle.refuse_repeats.specs.Repeats.{diagnosticTwice};
 ghost use Rattle.lent_slices.specs.Lent.{old};
 use def_effects::Diagnostic;
 use lent_diagnostics::diagnostic_in;
@@ -14,50 +13,9 @@ use lent_diagnostics::is_instance;
 use lent_diagnostics::larger;
 use lent_diagnostics::same_identity;
 use lent_keys::Found;
-use lent_keys::head_in;
-use lent_keys::same_head;
-use lent_keys::same_numbers;
-use lent_layout::CACHED;
 use lent_layout::DIAGNOSTICS;
 use lent_slices::wide32;
 use lent_tables::field;
-
-// ---- cached numbers
-
-// Whether number j has a key, and it is that of number i.
-fn same_key(context: &[u32], i: usize, j: usize) -> bool
-    ensures { λ r. ⌜ r ≡ isKey (keyHere (old context) i) (keyIn Layout.cached (old context) j) ⌝ }
-{
-    if field(CACHED, context, j, 0) == 0 {
-        return false;
-    }
-    if !same_head(head_in(CACHED, context, i), head_in(CACHED, context, j)) {
-        return false;
-    }
-    let n = field(CACHED, context, i, 11);
-    let m = field(CACHED, context, j, 11);
-    same_numbers(CACHED, context, i, 12, 1, n, CACHED, context, j, 12, 1, m)
-}
-
-// Whether number v has the key of a lower one.
-// Numbers are looked through from 1.
-pub fn key_twice(context: &[u32], v: usize) -> bool
-    ensures { λ r. ⌜ r ≡ keyTwice (old context) v ⌝ }
-{
-    if field(CACHED, context, v, 0) == 0 {
-        return false;
-    }
-    let mut n: usize = 1;
-    while n < v {
-        if same_key(context, v, n) {
-            return true;
-        }
-        n += 1;
-    }
-    false
-}
-
-// ---- diagnostics
 
 // How many identities the first n diagnostics have: one more than the highest.
 // Any words are read, so the number is as wide as one more than a word needs.
@@ -91,18 +49,6 @@ fn identity_before(context: &[u32], n: u32, d: Diagnostic) -> Found
     Found::Nowhere
 }
 
-// The identity that a diagnostic has to have after the first n.
-// That of the first equal message, else the next.
-fn right_identity(context: &[u32], n: u32, d: Diagnostic) -> u64
-    ensures { λ r. ⌜ r ≡ rightIdentity (old context) n d ⌝ }
-{
-    let found = identity_before(context, n, d);
-    match found {
-        Found::Nowhere => identities_before(context, n),
-        Found::At(x) => x as u64,
-    }
-}
-
 // Whether one of the first n diagnostics has an identity and the labels of a diagnostic.
 // This is the second look-up of intern_aliasing_diagnostic.
 fn instance_before(context: &[u32], n: u32, identity: u32, d: Diagnostic) -> bool
@@ -119,15 +65,21 @@ fn instance_before(context: &[u32], n: u32, identity: u32, d: Diagnostic) -> boo
 }
 
 // Whether diagnostic k has another identity than it has to, or there is an equal one before it.
-// Wrong order, or two entries of one key.
+// Wrong order, or two entries of one key. A message that is new has the next identity, which no record before it has.
 pub fn diagnostic_twice(context: &[u32], k: u32) -> bool
     ensures { λ r. ⌜ r ≡ diagnosticTwice (old context) k ⌝ }
 {
     let x = diagnostic_in(context, k);
     let d = x.diagnostic;
     let identity = x.identity;
-    if identity as u64 != right_identity(context, k, d) {
-        return true;
+    let found = identity_before(context, k, d);
+    match found {
+        Found::Nowhere => identity as u64 != identities_before(context, k),
+        Found::At(m) => {
+            if identity != m {
+                return true;
+            }
+            instance_before(context, k, identity, d)
+        }
     }
-    instance_before(context, k, identity, d)
 }

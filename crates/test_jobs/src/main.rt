@@ -295,9 +295,9 @@ fn same64(bytes: &[u8], c: Cursor, list: &[u64], limit: u32) -> Cursor {
 // ---- interned effects, which are recorded by their keys and not by their numbers
 
 // Whether record k of the interned effects is a given one of 98 words.
-// They stand from word 37,317 of a context on.
+// They stand from word 37,830 of a context on.
 fn is_record(context: &[u32], k: u32, record: &[u32]) -> bool {
-    let base = 37317 + wide32(k) * 98;
+    let base = 37830 + wide32(k) * 98;
     let mut w: usize = 0;
     while w < 98 {
         if get32(context, base + w) != get32(record, w) {
@@ -350,22 +350,37 @@ fn same_records(bytes: &[u8], c: Cursor, context: &[u32], limit: u32) -> Cursor 
 // Whether a context is zero after n places of the order and after n interned effects.
 // The limit is where the order begins; or no word that can be lent lies past it, and nothing is left. Past the end of a context all is zero.
 fn rest_zero(context: &[u32], limit: u32, n: u32) -> bool {
-    if limit >= 238021 {
+    if limit >= 238534 {
         return n == 0;
     }
     if n > 2048 {
         return false;
     }
     if zero32(context, plus(limit, n), 37317) {
-        return zero32(context, 37317 + n * 98, 238021);
+        return zero32(context, 37830 + n * 98, 238534);
     }
     false
+}
+
+// The count of cached keys and their order are compared with the next run of a job, which begins with the count; after it all is zero.
+// They stand from word 37,317 of a context on, up to the interned effects. Numbers are recorded, so that each place is known.
+fn same_keys(bytes: &[u8], c: Cursor, context: &[u32]) -> Cursor {
+    let start = Seen {
+        at: c.at,
+        faults: c.faults,
+        done: 37317,
+    };
+    let run = same_run32(bytes, start, context);
+    Cursor {
+        at: run.at,
+        faults: plus(run.faults, fault(zero32(context, run.done, 37830))),
+    }
 }
 
 // Whether a context that is left after a job would be accepted by another call.
 // Not asked where it was compared whole: that of a refused call may be as wrong as it was lent.
 fn left_accepted(context: &[u32], limit: u32, next: u32) -> bool {
-    if limit >= 238021 {
+    if limit >= 238534 {
         return true;
     }
     let identifiers = get32(context, 1);
@@ -516,7 +531,7 @@ fn call_cut(
 // "Scratch is zero after each call."
 fn scratch_zero(scratch64: &[u64], scratch32: &[u32]) -> bool {
     if zero64(scratch64, 0, 9280) {
-        return zero32(scratch32, 0, 24848);
+        return zero32(scratch32, 0, 25360);
     }
     false
 }
@@ -656,7 +671,7 @@ fn check_session(bytes: &[u8], c: Cursor, flag: bool, s: Session) -> Cursor {
     expect(bytes, end, s.entries)
 }
 
-// The tables are compared with what a job expects: values, sets, the context below a limit, its interned effects with their order.
+// The tables are compared with what a job expects: values, sets, the context below a limit, the order of its keys, its interned effects with theirs.
 // Lists that are shorter are zero past their end.
 fn check_tables(
     bytes: &[u8],
@@ -674,7 +689,8 @@ fn check_tables(
         faults: rows.faults,
     };
     let fixed = same32(bytes, start, context, limit);
-    let effects = same_records(bytes, fixed, context, limit);
+    let keys = same_keys(bytes, fixed, context);
+    let effects = same_records(bytes, keys, context, limit);
     Cursor {
         at: effects.at,
         faults: plus(effects.faults, fault(left_accepted(context, limit, next))),
@@ -753,7 +769,7 @@ fn replay_lent(
 
 // ---- lists of the lengths that a job says, zero at first, with room for a few words more
 
-// Scratch for the words of a context, 24,834 of them.
+// Scratch for the words of a context, 25,347 of them.
 fn with_scratch32(
     bytes: &[u8],
     size: u32,
@@ -763,7 +779,7 @@ fn with_scratch32(
     output: &mut [u32],
     scratch64: &mut [u64],
 ) -> bool {
-    let mut scratch32 = [0u32; 24848];
+    let mut scratch32 = [0u32; 25360];
     let n = most32(word(bytes, 5), &scratch32);
     replay_lent(
         bytes,
@@ -812,10 +828,10 @@ fn with_output(
     with_scratch64(bytes, size, values, sets, context, &mut output[..n])
 }
 
-// The context: 37,317 words and as many records of 98 as the job has room for, 238,021 words at the most.
+// The context: 37,830 words and as many records of 98 as the job has room for, 238,534 words at the most.
 // Its array has room for a record more than that, which a damaged job lends.
 fn with_context(bytes: &[u8], size: u32, values: &mut [u64], sets: &mut [u64]) -> bool {
-    let mut context = [0u32; 238144];
+    let mut context = [0u32; 238656];
     let n = most32(word(bytes, 2), &context);
     with_output(bytes, size, values, sets, &mut context[..n])
 }

@@ -177,14 +177,11 @@ module _ {K : Type 0} (C : Comparing K) (key : ℕ → K) (ord : ℕ → ℕ) (n
         less i j m e (inr (inl x)) l = C .less-trans k (key (ord i)) (key (ord j)) e (any-two i j x m)
         less i j m e (inr (inr x)) l = nothing (omega arith)
 
-    module _ (inside : (j : ℕ) → j < n → ord j < n) where
-      -- every record has a place
-      pub record-placed : (r : ℕ) → r < n → Place ord n r
-      record-placed = all-placed n ord inside places-distinct
-
+    -- numbers of which each has a place
+    module _ (Has : ℕ → Type 0) (placed : (r : ℕ) → Has r → Place ord n r) where
       -- "two entries of one key": there are none
-      pub keys-distinct : (r s : ℕ) → r < n → s < n → key r ≡ key s → r ≡ s
-      keys-distinct r s l m e = go (record-placed r l) (record-placed s m)
+      pub placed-distinct : (r s : ℕ) → Has r → Has s → key r ≡ key s → r ≡ s
+      placed-distinct r s l m e = go (placed r l) (placed s m)
         where
           go : Place ord n r → Place ord n s → r ≡ s
           go p q = sym (p .2) ∙ ap ord (meet (three (p .0) (q .0))) ∙ q .2
@@ -200,23 +197,36 @@ module _ {K : Type 0} (C : Comparing K) (key : ℕ → K) (ord : ℕ → ℕ) (n
               meet (inr (inl x)) = nothing (clash (p .0) (q .0) x (q .1) one)
               meet (inr (inr x)) = nothing (clash (q .0) (p .0) x (p .1) (sym one))
 
-      -- what a search says: the one record under the key, or that there is none
+      module _ (named : (j : ℕ) → j < n → Has (ord j)) where
+        -- what a search says: the one number under the key, or that there is none
+        abbrev pub Tells : K → Spot → Type 0
+        Tells k (At j) = (key (ord j) ≡ k) × (j < n) × ((r : ℕ) → Has r → key r ≡ k → r ≡ ord j)
+        Tells k (Before p) = (p ≤ n) × ((r : ℕ) → Has r → key r ≡ k → ⊥) × Between (λ j. C .compare k (key (ord j))) n p
+
+        pub search-tells : (k : K) → Tells k (along (λ j. C .compare k (key (ord j))) n)
+        search-tells k = go (along (λ j. C .compare k (key (ord j))) n) (along-finds (λ j. C .compare k (key (ord j))) n) (along-splits (λ j. C .compare k (key (ord j))) n (sought-falls k))
+          where
+            away : (p : ℕ) → Between (λ j. C .compare k (key (ord j))) n p → (r : ℕ) → Place ord n r → key r ≡ k → ⊥
+            away p b r q e = ⊎-elim {C = ⊥} (λ x. clash More (b .lower (q .0) x) (λ z. let u : _≡_ {A = ℕ} 0 1 = cc in omega arith)) (λ x. clash Less (b .upper (q .0) x (q .1)) not-same) (lt-or-ge (q .0) p)
+              where
+                is-same : C .compare k (key (ord (q .0))) ≡ Same
+                is-same = ap (C .compare k) (ap key (q .2) ∙ e) ∙ C .same k
+
+                clash : (o : Order) → C .compare k (key (ord (q .0))) ≡ o → (o ≡ Same → ⊥) → ⊥
+                clash o x y = y (sym x ∙ is-same)
+
+            go : (s : Spot) → Finds (λ j. C .compare k (key (ord j))) 0 n s → Splits (λ j. C .compare k (key (ord j))) n s → Tells k s
+            go (At j) h b = (sym (C .equal k (key (ord j)) (h .0)), h .2, λ r l e. placed-distinct r (ord j) l (named j (h .2)) (e ∙ C .equal k (key (ord j)) (h .0)))
+            go (Before p) h b = (h .1, (λ r l e. away p b r (placed r l) e), b)
+
+    module _ (inside : (j : ℕ) → j < n → ord j < n) where
+      -- every record has a place
+      pub record-placed : (r : ℕ) → r < n → Place ord n r
+      record-placed = all-placed n ord inside places-distinct
+
+      -- so of records numbered below n a search tells
       abbrev pub Says : K → Spot → Type 0
-      Says k (At j) = (key (ord j) ≡ k) × (ord j < n) × ((r : ℕ) → r < n → key r ≡ k → r ≡ ord j)
-      Says k (Before p) = (p ≤ n) × ((r : ℕ) → r < n → key r ≡ k → ⊥) × Between (λ j. C .compare k (key (ord j))) n p
+      Says k s = Tells (λ r. r < n) record-placed inside k s
 
       pub search-says : (k : K) → Says k (along (λ j. C .compare k (key (ord j))) n)
-      search-says k = go (along (λ j. C .compare k (key (ord j))) n) (along-finds (λ j. C .compare k (key (ord j))) n) (along-splits (λ j. C .compare k (key (ord j))) n (sought-falls k))
-        where
-          away : (p : ℕ) → Between (λ j. C .compare k (key (ord j))) n p → (r : ℕ) → Place ord n r → key r ≡ k → ⊥
-          away p b r q e = ⊎-elim {C = ⊥} (λ x. clash More (b .lower (q .0) x) (λ z. let u : _≡_ {A = ℕ} 0 1 = cc in omega arith)) (λ x. clash Less (b .upper (q .0) x (q .1)) not-same) (lt-or-ge (q .0) p)
-            where
-              is-same : C .compare k (key (ord (q .0))) ≡ Same
-              is-same = ap (C .compare k) (ap key (q .2) ∙ e) ∙ C .same k
-
-              clash : (o : Order) → C .compare k (key (ord (q .0))) ≡ o → (o ≡ Same → ⊥) → ⊥
-              clash o x y = y (sym x ∙ is-same)
-
-          go : (s : Spot) → Finds (λ j. C .compare k (key (ord j))) 0 n s → Splits (λ j. C .compare k (key (ord j))) n s → Says k s
-          go (At j) h b = (sym (C .equal k (key (ord j)) (h .0)), inside j (h .2), λ r l e. keys-distinct r (ord j) l (inside j (h .2)) (e ∙ C .equal k (key (ord j)) (h .0)))
-          go (Before p) h b = (h .1, (λ r l e. away p b r (record-placed r l) e), b)
+      search-says = search-tells (λ r. r < n) record-placed inside

@@ -29,6 +29,7 @@ use Rattle.laws_counts.specs.Laws.Counts.{Fits, listed-most, entries-most, appe
 use Rattle.call_outcome.specs.Calls.{Call, Outcome, candidateCount, callClass, lentInstruction, lentWorld, refusedWith, concluded, outcome}
 use Rattle.call_means.specs.Meaning.{plainWorld, MeansEnd, MeansPlain}
 use Rattle.call_outcome.specs.Laws.Class.{class-0}
+use Rattle.call_outcome.specs.Laws.Keys.{unused}
 use Rattle.laws_suffices.specs.Laws.Suffices.{accepted-fits}
 use Rattle.def_faithful.specs.Laws.Means.{Any, Rel}
 use Rattle.def_faithful.specs.Laws.Steps.{Fine, call-means}
@@ -90,7 +91,7 @@ call-fine c e =
 -- with room for all effects, the two worlds mean the same as the call begins, and so do its two runs
 pub call-related : (c : Call) (e : callClass c ≡ 0) (l : identifiers (c .sets) ≤ 512)
     → Rel (lent-faithful (identifiers (c .sets)) l) Any (applySignature (lentInstruction c) (beside (whole c e) (lentWorld c))) (applySignature (lentInstruction c) (plainWorld c))
-unfolding lent-faithful instructionOf
+unfolding lent-faithful instructionOf Lent.keyAt
 call-related c e l =
     let a = class-0 (c .values) (c .sets) (c .flag) (c .context) (c .session) (c .candidates) (c .lvalue) (c .own) (c .output) (c .scratch64) (c .scratch32) e in
     let b = accepted-lent (c .values) (c .sets) (c .session .next) (c .session .access) (a .1) in
@@ -101,6 +102,7 @@ call-related c e l =
       session = record { low = b .next-low; next = refl; access = refl; span = refl; entries = λ h. refl };
       fit = whole-fit c e;
       context = pad-means (record { long = refl; more = refl });
+      unused = unused (identifiers (c .sets)) (getD (c .context) Layout.functionCount 0) (c .context) (c .session .next) (a .2);
     })
 
 -- the call itself ends so, but for the words that are missing

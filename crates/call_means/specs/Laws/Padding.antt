@@ -16,7 +16,7 @@ use Rattle.def_transfer.specs.Instruction.{applySignature}
 use Rattle.lent_context.specs.Lent.{internedCount}
 use Rattle.lent_layout.specs.Layout as Layout
 use Rattle.lent_world.specs.World.{lent}
-use Rattle.lent_world.specs.Laws.Frames.{ordered-same}
+use Rattle.lent_world.specs.Laws.Frames.{ordered-same, numbered-same}
 use Rattle.lent_world.specs.Laws.ContextFaithful.{FitContext}
 use Rattle.laws_room.specs.Room.{needs}
 use Rattle.laws_room.specs.Laws.Near.{ended, beside, besides}
@@ -24,6 +24,7 @@ use Rattle.laws_room.specs.Laws.Both.{Pads, word-alike, field-alike}
 use Rattle.laws_room.specs.Laws.LentShort.{lent-short}
 use Rattle.refuse_entries.specs.Words.{identifiers}
 use Rattle.refuse_order.specs.Laws.Accepted.{in-order}
+use Rattle.call_outcome.specs.Laws.Keys.{numbered}
 use Rattle.call_parts.specs.Instructions.{instructionOf}
 use Rattle.call_outcome.specs.Calls.{Call, roomFor, wrongContext, callClass, lentInstruction, lentWorld}
 use Rattle.call_outcome.specs.Laws.Class.{class-0, lengths-right, RightLength, right-length, order-right}
@@ -37,7 +38,7 @@ none-behind (x ∷ c) = ap (λ (l : List ℕ). x ∷ l) (none-behind c)
 module _ (c : Call) (e : callClass c ≡ 0) where
   -- the words that are missing
   abbrev pub missing : ℕ
-  missing = 238021 - length (c .context)
+  missing = 238534 - length (c .context)
 
   -- the context with room for all effects
   abbrev pub whole : List ℕ
@@ -58,9 +59,11 @@ module _ (c : Call) (e : callClass c ≡ 0) where
   whole-fit =
       let a = class-0 (c .values) (c .sets) (c .flag) (c .context) (c .session) (c .candidates) (c .lvalue) (c .own) (c .output) (c .scratch64) (c .scratch32) e in
       record {
-        long = let m = right .most in length-append (c .context) (zeros missing) ∙ ap (λ (n : ℕ). length (c .context) + n) (zeros-length missing) ∙ (let z : length (c .context) + missing ≡ 238021 = omega arith in z);
+        long = let m = right .most in length-append (c .context) (zeros missing) ∙ ap (λ (n : ℕ). length (c .context) + n) (zeros-length missing) ∙ (let z : length (c .context) + missing ≡ 238534 = omega arith in z);
         ordered = ordered-same (c .context) whole (field-alike pads Layout.interned) (field-alike pads Layout.effectOrder) (word-alike pads 12483)
             (in-order (c .context) (order-right (identifiers (c .sets)) (getD (c .context) Layout.functionCount 0) (c .context) (c .session .next) (a .2)));
+        numbered = numbered-same (c .context) whole (field-alike pads Layout.cached) (field-alike pads Layout.keyOrder) (word-alike pads 37317)
+            (numbered (identifiers (c .sets)) (getD (c .context) Layout.functionCount 0) (c .context) (c .session .next) (a .2));
       }
 
   -- how the call's transfer ends, and how it ends with room for all effects
@@ -75,15 +78,15 @@ module _ (c : Call) (e : callClass c ≡ 0) where
       need = internedCount (c .context) + needs (lentInstruction c .candidates)
 
       room : ℕ
-      room = (length (c .context) - 37317) / 98
+      room = (length (c .context) - 37830) / 98
 
-      same-room : 37317 + room * 98 ≡ length (c .context)
+      same-room : 37830 + room * 98 ≡ length (c .context)
       same-room = let a = right .room-there in let b = right .whole in omega arith
 
       -- room for all effects is asked for: nothing is missing
       full : 2048 < need → applySignature (lentInstruction c) (beside whole (lentWorld c)) ≡ besides (ended short-run ++ zeros missing) short-run
       full l =
-          let a : 37317 + 2048 * 98 ≤ length (c .context) = subst (λ (n : ℕ). 37317 + n * 98 ≤ length (c .context)) (ite-lt 2048 need 2048 need l) (right .room-there) in
+          let a : 37830 + 2048 * 98 ≤ length (c .context) = subst (λ (n : ℕ). 37830 + n * 98 ≤ length (c .context)) (ite-lt 2048 need 2048 need l) (right .room-there) in
           let b = right .most in
           let z : missing ≡ 0 = omega arith in
           subst (λ (n : ℕ). applySignature (lentInstruction c) (beside (c .context ++ zeros n) (lentWorld c)) ≡ besides (ended short-run ++ zeros n) short-run) (sym z)
@@ -96,6 +99,6 @@ module _ (c : Call) (e : callClass c ≡ 0) where
       -- there is room for what the candidates need
       some-room : need ≤ 2048 → applySignature (lentInstruction c) (beside whole (lentWorld c)) ≡ besides (ended short-run ++ zeros missing) short-run
       some-room l =
-          let a : 37317 + need * 98 ≤ length (c .context) = subst (λ (n : ℕ). 37317 + n * 98 ≤ length (c .context)) (ite-ge 2048 need 2048 need l) (right .room-there) in
+          let a : 37830 + need * 98 ≤ length (c .context) = subst (λ (n : ℕ). 37830 + n * 98 ≤ length (c .context)) (ite-ge 2048 need 2048 need l) (right .room-there) in
           let b = same-room in
           lent-short room missing (lentInstruction c) (lentWorld c) (sym same-room) (let z : need ≤ room = omega arith in z)

@@ -42,7 +42,7 @@ module _ (sets : ℕ) (context : Bool) (candidates output scratch64 scratch32 : 
   -- nothing else is looked at
   pub length-context : context ≡ true → true ≡ lengthsWrong sets context candidates output scratch64 scratch32
   unfolding lengthsWrong
-  length-context n = sym (ap (λ (a : Bool). five a (eqb (candidates % 98) 0) (eqb output 109760) (eqb scratch32 24834) (eqb scratch64 (1024 + sets))) n)
+  length-context n = sym (ap (λ (a : Bool). five a (eqb (candidates % 98) 0) (eqb output 109760) (eqb scratch32 25347) (eqb scratch64 (1024 + sets))) n)
 
   -- the context is right
   module _ (h : context ≡ false) where
@@ -50,16 +50,16 @@ module _ (sets : ℕ) (context : Bool) (candidates output scratch64 scratch32 : 
     -- records of 98 words
     pub length-candidates : (candidates % 98 ≡ 0 → ⊥) → true ≡ lengthsWrong sets context candidates output scratch64 scratch32
     unfolding lengthsWrong
-    length-candidates n = sym (ap₂ (λ (a b : Bool). five a b (eqb output 109760) (eqb scratch32 24834) (eqb scratch64 (1024 + sets))) h (ne-eqb (candidates % 98) 0 n))
+    length-candidates n = sym (ap₂ (λ (a b : Bool). five a b (eqb output 109760) (eqb scratch32 25347) (eqb scratch64 (1024 + sets))) h (ne-eqb (candidates % 98) 0 n))
 
     -- the candidates are right
     module _ (g : candidates % 98 ≡ 0) where
       -- what is left to test
-      rest : (c : Bool) → c ≡ eqb output 109760 → (not c || (not (eqb scratch32 24834) || not (eqb scratch64 (1024 + sets)))) ≡ lengthsWrong sets context candidates output scratch64 scratch32
+      rest : (c : Bool) → c ≡ eqb output 109760 → (not c || (not (eqb scratch32 25347) || not (eqb scratch64 (1024 + sets)))) ≡ lengthsWrong sets context candidates output scratch64 scratch32
       unfolding lengthsWrong
       rest c e =
-          ap (λ (x : Bool). not x || (not (eqb scratch32 24834) || not (eqb scratch64 (1024 + sets)))) e
-          ∙ sym (ap₂ (λ (a b : Bool). five a b (eqb output 109760) (eqb scratch32 24834) (eqb scratch64 (1024 + sets))) h (eq-eqb (candidates % 98) 0 g))
+          ap (λ (x : Bool). not x || (not (eqb scratch32 25347) || not (eqb scratch64 (1024 + sets)))) e
+          ∙ sym (ap₂ (λ (a b : Bool). five a b (eqb output 109760) (eqb scratch32 25347) (eqb scratch64 (1024 + sets))) h (eq-eqb (candidates % 98) 0 g))
 
       -- an output list of another length
       -- 1,120 records
@@ -69,20 +69,20 @@ module _ (sets : ℕ) (context : Bool) (candidates output scratch64 scratch32 : 
       -- the output list is right
       module _ (f : output ≡ 109760) where
         -- scratch for a context, of another length
-        pub length-32 : (scratch32 ≡ 24834 → ⊥) → true ≡ lengthsWrong sets context candidates output scratch64 scratch32
-        length-32 n = sym (ap (λ (a : Bool). not a || not (eqb scratch64 (1024 + sets))) (ne-eqb scratch32 24834 n)) ∙ rest true (sym (eq-eqb output 109760 f))
+        pub length-32 : (scratch32 ≡ 25347 → ⊥) → true ≡ lengthsWrong sets context candidates output scratch64 scratch32
+        length-32 n = sym (ap (λ (a : Bool). not a || not (eqb scratch64 (1024 + sets))) (ne-eqb scratch32 25347 n)) ∙ rest true (sym (eq-eqb output 109760 f))
 
         -- scratch for a state, of another length
-        pub length-64 : (b : Bool) → scratch32 ≡ 24834 → b ≡ eqb scratch64 (1024 + sets) → not b ≡ lengthsWrong sets context candidates output scratch64 scratch32
+        pub length-64 : (b : Bool) → scratch32 ≡ 25347 → b ≡ eqb scratch64 (1024 + sets) → not b ≡ lengthsWrong sets context candidates output scratch64 scratch32
         length-64 b e k =
-            ap not k ∙ sym (ap (λ (a : Bool). not a || not (eqb scratch64 (1024 + sets))) (eq-eqb scratch32 24834 e)) ∙ rest true (sym (eq-eqb output 109760 f))
+            ap not k ∙ sym (ap (λ (a : Bool). not a || not (eqb scratch64 (1024 + sets))) (eq-eqb scratch32 25347 e)) ∙ rest true (sym (eq-eqb output 109760 f))
 
         -- it is shorter than the values alone
-        pub length-short : scratch32 ≡ 24834 → scratch64 < 1024 → true ≡ lengthsWrong sets context candidates output scratch64 scratch32
+        pub length-short : scratch32 ≡ 25347 → scratch64 < 1024 → true ≡ lengthsWrong sets context candidates output scratch64 scratch32
         length-short e l = length-64 false e (sym (ne-eqb scratch64 (1024 + sets) (λ z. omega arith)))
 
         -- it is longer, and the rest is compared with the sets
-        pub length-rest : scratch32 ≡ 24834 → 1024 ≤ scratch64 → not (eqb (scratch64 - 1024) sets) ≡ lengthsWrong sets context candidates output scratch64 scratch32
+        pub length-rest : scratch32 ≡ 25347 → 1024 ≤ scratch64 → not (eqb (scratch64 - 1024) sets) ≡ lengthsWrong sets context candidates output scratch64 scratch32
         length-rest e l = length-64 (eqb (scratch64 - 1024) sets) e
             (⊎-elim
             (λ z. eq-eqb (scratch64 - 1024) sets z ∙ sym (eq-eqb scratch64 (1024 + sets) (omega arith)))
@@ -91,59 +91,59 @@ module _ (sets : ℕ) (context : Bool) (candidates output scratch64 scratch32 : 
 
   -- all lengths are right
   pub lengths-right : lengthsWrong sets context candidates output scratch64 scratch32 ≡ false
-      → (context ≡ false) × (candidates % 98 ≡ 0) × (output ≡ 109760) × (scratch32 ≡ 24834) × (scratch64 ≡ 1024 + sets)
+      → (context ≡ false) × (candidates % 98 ≡ 0) × (output ≡ 109760) × (scratch32 ≡ 25347) × (scratch64 ≡ 1024 + sets)
   unfolding lengthsWrong
-  lengths-right e = (or-no-first context _ e, right (candidates % 98) 0 e2, right output 109760 e3, right scratch32 24834 e4, right scratch64 (1024 + sets) e5)
+  lengths-right e = (or-no-first context _ e, right (candidates % 98) 0 e2, right output 109760 e3, right scratch32 25347 e4, right scratch64 (1024 + sets) e5)
     where
       right : (m n : ℕ) → not (eqb m n) ≡ false → m ≡ n
       right m n h = eqb-true m n (not-false (eqb m n) h)
 
-      r1 : (not (eqb (candidates % 98) 0) || (not (eqb output 109760) || (not (eqb scratch32 24834) || not (eqb scratch64 (1024 + sets))))) ≡ false
+      r1 : (not (eqb (candidates % 98) 0) || (not (eqb output 109760) || (not (eqb scratch32 25347) || not (eqb scratch64 (1024 + sets))))) ≡ false
       r1 = or-no-second context _ e
 
       e2 : not (eqb (candidates % 98) 0) ≡ false
       e2 = or-no-first (not (eqb (candidates % 98) 0)) _ r1
 
-      r2 : (not (eqb output 109760) || (not (eqb scratch32 24834) || not (eqb scratch64 (1024 + sets)))) ≡ false
+      r2 : (not (eqb output 109760) || (not (eqb scratch32 25347) || not (eqb scratch64 (1024 + sets)))) ≡ false
       r2 = or-no-second (not (eqb (candidates % 98) 0)) _ r1
 
       e3 : not (eqb output 109760) ≡ false
       e3 = or-no-first (not (eqb output 109760)) _ r2
 
-      r3 : (not (eqb scratch32 24834) || not (eqb scratch64 (1024 + sets))) ≡ false
+      r3 : (not (eqb scratch32 25347) || not (eqb scratch64 (1024 + sets))) ≡ false
       r3 = or-no-second (not (eqb output 109760)) _ r2
 
-      e4 : not (eqb scratch32 24834) ≡ false
-      e4 = or-no-first (not (eqb scratch32 24834)) _ r3
+      e4 : not (eqb scratch32 25347) ≡ false
+      e4 = or-no-first (not (eqb scratch32 25347)) _ r3
 
       e5 : not (eqb scratch64 (1024 + sets)) ≡ false
-      e5 = or-no-second (not (eqb scratch32 24834)) _ r3
+      e5 = or-no-second (not (eqb scratch32 25347)) _ r3
 
 -- ---- the length of a context
 
 -- a context of a right length has all its tables, room for what is asked, and whole records
 pub record RightLength (room context : ℕ) : Type 0 where
-  pub room-there : 37317 + room * 98 ≤ context
-  pub most : context ≤ 238021
-  pub whole : (context - 37317) % 98 ≡ 0
+  pub room-there : 37830 + room * 98 ≤ context
+  pub most : context ≤ 238534
+  pub whole : (context - 37830) % 98 ≡ 0
 
 pub right-length : (room context : ℕ) → contextWrong room context ≡ false → RightLength room context
 unfolding contextWrong
 right-length room context e = record {
-  room-there = ltb-false context (37317 + room * 98) (or-no-first (ltb context (37317 + room * 98)) _ e);
-  most = ltb-false 238021 context (or-no-first (ltb 238021 context) _ r);
-  whole = eqb-true ((context - 37317) % 98) 0 (not-false (eqb ((context - 37317) % 98) 0) (or-no-second (ltb 238021 context) _ r));
+  room-there = ltb-false context (37830 + room * 98) (or-no-first (ltb context (37830 + room * 98)) _ e);
+  most = ltb-false 238534 context (or-no-first (ltb 238534 context) _ r);
+  whole = eqb-true ((context - 37830) % 98) 0 (not-false (eqb ((context - 37830) % 98) 0) (or-no-second (ltb 238534 context) _ r));
 }
   where
-    r : (ltb 238021 context || not (eqb ((context - 37317) % 98) 0)) ≡ false
-    r = or-no-second (ltb context (37317 + room * 98)) _ e
+    r : (ltb 238534 context || not (eqb ((context - 37830) % 98) 0)) ≡ false
+    r = or-no-second (ltb context (37830 + room * 98)) _ e
 
 -- a context of the largest length is right for any candidates
-pub full-right : (cs xs : List ℕ) → length cs ≡ 238021 → wrongContext cs xs ≡ false
+pub full-right : (cs xs : List ℕ) → length cs ≡ 238534 → wrongContext cs xs ≡ false
 unfolding contextWrong roomFor
 full-right cs xs e =
-    or-neither (ltb (length cs) (37317 + roomFor cs xs * 98)) _ (le-ltb (length cs) (37317 + roomFor cs xs * 98) (let z = most-within-limit 2048 (internedCount cs + needs (effectsIn Layout.candidateTable xs 0 (candidateCount xs))) in omega arith))
-    (or-neither (ltb 238021 (length cs)) _ (le-ltb 238021 (length cs) (omega arith)) (ap not (eq-eqb ((length cs - 37317) % 98) 0 (ap (λ (n : ℕ). (n - 37317) % 98) e))))
+    or-neither (ltb (length cs) (37830 + roomFor cs xs * 98)) _ (le-ltb (length cs) (37830 + roomFor cs xs * 98) (let z = most-within-limit 2048 (internedCount cs + needs (effectsIn Layout.candidateTable xs 0 (candidateCount xs))) in omega arith))
+    (or-neither (ltb 238534 (length cs)) _ (le-ltb 238534 (length cs) (omega arith)) (ap not (eq-eqb ((length cs - 37830) % 98) 0 (ap (λ (n : ℕ). (n - 37830) % 98) e))))
   where
     most-within-limit : (limit n : ℕ) → atMost limit n ≤ limit
     most-within-limit limit n = ⊎-elim
@@ -156,19 +156,19 @@ pub context-tested : (cs xs : List ℕ) (room : ℕ) (r b : Bool) → room ≡ r
 context-tested cs xs room r b e h q = ap (λ (n : ℕ). contextWrong n (length cs)) (sym e) ∙ sym h ∙ q
 
 -- the three tests of the code
-pub context-short : (room context : ℕ) → context < 37317 + room * 98 → true ≡ contextWrong room context
+pub context-short : (room context : ℕ) → context < 37830 + room * 98 → true ≡ contextWrong room context
 unfolding contextWrong
-context-short room context h = sym (or-first (ltb context (37317 + room * 98)) _ (lt-ltb context (37317 + room * 98) h))
+context-short room context h = sym (or-first (ltb context (37830 + room * 98)) _ (lt-ltb context (37830 + room * 98) h))
 
-pub context-long : (room context : ℕ) → 37317 + room * 98 ≤ context → 238021 < context → true ≡ contextWrong room context
+pub context-long : (room context : ℕ) → 37830 + room * 98 ≤ context → 238534 < context → true ≡ contextWrong room context
 unfolding contextWrong
 context-long room context h g =
-    sym (or-second (ltb context (37317 + room * 98)) _ (le-ltb context (37317 + room * 98) h) ∙ or-first (ltb 238021 context) _ (lt-ltb 238021 context g))
+    sym (or-second (ltb context (37830 + room * 98)) _ (le-ltb context (37830 + room * 98) h) ∙ or-first (ltb 238534 context) _ (lt-ltb 238534 context g))
 
-pub context-whole : (room context : ℕ) → 37317 + room * 98 ≤ context → context ≤ 238021 → not (eqb ((context - 37317) % 98) 0) ≡ contextWrong room context
+pub context-whole : (room context : ℕ) → 37830 + room * 98 ≤ context → context ≤ 238534 → not (eqb ((context - 37830) % 98) 0) ≡ contextWrong room context
 unfolding contextWrong
 context-whole room context h g =
-    sym (or-second (ltb context (37317 + room * 98)) _ (le-ltb context (37317 + room * 98) h) ∙ or-second (ltb 238021 context) _ (le-ltb 238021 context g))
+    sym (or-second (ltb context (37830 + room * 98)) _ (le-ltb context (37830 + room * 98) h) ∙ or-second (ltb 238534 context) _ (le-ltb 238534 context g))
 
 -- a length within its limit, and one past it
 pub most-past : (limit n : ℕ) → limit < n → limit ≡ atMost limit n
@@ -255,7 +255,7 @@ module _ (vs ss : List ℕ) (flag : Bool) (cs : List ℕ) (s : Session) (xs : Li
 
 -- a word without use that earns no class is zero
 -- 4 is what it would earn
-word-0 : (x : ℕ) → wordClass none x ≡ 0 → x ≡ 0
+pub word-0 : (x : ℕ) → wordClass none x ≡ 0 → x ≡ 0
 unfolding wordClass
 word-0 x e = ⊎-elim (λ z. z) (λ n. absurd (let y : _≡_ {A = ℕ} 4 0 = sym (ap (λ (b : Bool). earns 4 (not b)) (ne-eqb x 0 n)) ∙ e in omega arith)) (same-or-not x 0)
 
@@ -272,7 +272,7 @@ order-right n f cs next e = go (countsWrong n f cs) refl
 
 -- after the last interned effect of an accepted context every word is zero
 -- the words of its table, and past the end of the list
-pub zero-after : (n f : ℕ) (cs : List ℕ) (next : ℕ) → length cs ≤ 238021 → contextClass n f cs next ≡ 0 → (k : ℕ) → 37317 + internedCount cs * 98 ≤ k → getD cs k 0 ≡ 0
+pub zero-after : (n f : ℕ) (cs : List ℕ) (next : ℕ) → length cs ≤ 238534 → contextClass n f cs next ≡ 0 → (k : ℕ) → 37830 + internedCount cs * 98 ≤ k → getD cs k 0 ≡ 0
 unfolding contextClass tablesClass effectsClass strayAfter strayFrom countsWrong index
 zero-after n f cs next long e k l = go (countsWrong n f cs) refl
   where
@@ -280,18 +280,18 @@ zero-after n f cs next long e k l = go (countsWrong n f cs) refl
     m = internedCount cs
 
     words : tablesClass n f cs next ≡ 0 → m ≤ 2048 → getD cs k 0 ≡ 0
-    words h q = ⊎-elim inside past (lt-or-ge k 238021)
+    words h q = ⊎-elim inside past (lt-or-ge k 238534)
       where
-        stray : lowestBelow ((2048 - m) * 98) (λ j. wordClass none (getD cs (37317 + m * 98 + 0 + j) 0)) ≡ 0
+        stray : lowestBelow ((2048 - m) * 98) (λ j. wordClass none (getD cs (37830 + m * 98 + 0 + j) 0)) ≡ 0
         stray = lower-0 _ _ (lower-0 _ _ (lower-0 _ _ (lower-0 _ _ (lower-0 _ _ (lower-0 _ _ (lower-0 _ _ (lower-0 _ _ h .1) .1) .1) .1) .1) .1) .1) .0
 
-        inside : k < 238021 → getD cs k 0 ≡ 0
+        inside : k < 238534 → getD cs k 0 ≡ 0
         inside p =
-            let z : k ≡ 37317 + m * 98 + 0 + (k - (37317 + m * 98)) = omega arith in
+            let z : k ≡ 37830 + m * 98 + 0 + (k - (37830 + m * 98)) = omega arith in
             ap (λ (x : ℕ). getD cs x 0) z
-            ∙ word-0 (getD cs (37317 + m * 98 + 0 + (k - (37317 + m * 98))) 0) (lowest-0 ((2048 - m) * 98) _ stray (k - (37317 + m * 98)) (omega arith))
+            ∙ word-0 (getD cs (37830 + m * 98 + 0 + (k - (37830 + m * 98))) 0) (lowest-0 ((2048 - m) * 98) _ stray (k - (37830 + m * 98)) (omega arith))
 
-        past : 238021 ≤ k → getD cs k 0 ≡ 0
+        past : 238534 ≤ k → getD cs k 0 ≡ 0
         past p = List·getD-eq-default cs 0 {n = k} (omega arith)
 
     go : (b : Bool) → countsWrong n f cs ≡ b → getD cs k 0 ≡ 0

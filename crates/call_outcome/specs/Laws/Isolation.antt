@@ -97,7 +97,7 @@ module _ (c d : Call) (t : Twins c d) where
       same : lentInstruction c ≡ lentInstruction d
       same = λ j. Rattle.call_parts.specs.Instructions.instructionOf (t .candidates j) (candidateCount (t .candidates j)) (t .lvalue j) (t .own j)
 
-      long : 37317 ≤ length (c .context)
+      long : 37830 ≤ length (c .context)
       long =
           let l = lengths-right (length (c .sets)) (wrongContext (c .context) (c .candidates)) (length (c .candidates)) (length (c .output)) (length (c .scratch64)) (length (c .scratch32))
           (class-0 (c .values) (c .sets) (c .flag) (c .context) (c .session) (c .candidates) (c .lvalue) (c .own) (c .output) (c .scratch64) (c .scratch32) z .0) in

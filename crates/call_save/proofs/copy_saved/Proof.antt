@@ -13,13 +13,13 @@ use Rattle.call_save.proofs.copy_saved.Tie as tie
 
 abbrev Inv-loop : tie.InvT-loop
 Inv-loop context scratch₀ k₀ scratch k =
-    (37317 ≤ length context)
-    × (24834 ≤ length scratch)
+    (37830 ≤ length context)
+    × (25347 ≤ length scratch)
     × (length scratch ≡ length scratch₀)
-    × (copied context (12483 + k₀) (0 + k₀) (24834 - k₀) scratch₀ ≡ copied context (12483 + k) (0 + k) (24834 - k) scratch)
+    × (copied context (12483 + k₀) (0 + k₀) (25347 - k₀) scratch₀ ≡ copied context (12483 + k) (0 + k) (25347 - k) scratch)
 
 abbrev μ-loop : tie.MeasureT-loop
-μ-loop context scratch₀ k₀ scratch k = 24834 - k
+μ-loop context scratch₀ k₀ scratch k = 25347 - k
 
 loop-holds : tie.Need-loop-holds Inv-loop μ-loop
 loop-holds c = (c .pre .0, c .pre .1, refl, refl)
@@ -46,14 +46,14 @@ loop-less : tie.Need-loop-less Inv-loop μ-loop
 loop-less c = search needs
 
 loop-again : tie.Need-loop-again Inv-loop μ-loop
-loop-again c = (c .before .before .loop .inv .0, omega (arith, c .before .before .loop .inv .1, length-set (c .before .before .loop .scratch) (c .before .before .loop .k) (getD (c .before .before .before .args .context .now) (12483 + c .before .before .loop .k) 0)), length-set (c .before .before .loop .scratch) (c .before .before .loop .k) _ ∙ c .before .before .loop .inv .2, c .before .before .loop .inv .3 ∙ copy-more _ _ _ 12483 0 24834 (c .before .before .loop .k) _ (c .before .before .loop .k) _ (c .before .loop-test .taken) refl (sym (zero-add (c .before .before .loop .k))) refl refl)
+loop-again c = (c .before .before .loop .inv .0, omega (arith, c .before .before .loop .inv .1, length-set (c .before .before .loop .scratch) (c .before .before .loop .k) (getD (c .before .before .before .args .context .now) (12483 + c .before .before .loop .k) 0)), length-set (c .before .before .loop .scratch) (c .before .before .loop .k) _ ∙ c .before .before .loop .inv .2, c .before .before .loop .inv .3 ∙ copy-more _ _ _ 12483 0 25347 (c .before .before .loop .k) _ (c .before .before .loop .k) _ (c .before .loop-test .taken) refl (sym (zero-add (c .before .before .loop .k))) refl refl)
 
 same-length : tie.Need-same-length Inv-loop μ-loop
 same-length c = c .before .loop .inv .2
 
 returns : tie.Need-returns Inv-loop μ-loop
 unfolding savedContext
-returns c = copy-end _ _ _ 12483 0 24834 (c .before .loop .k) (c .loop-test .left) (c .before .loop .inv .3)
+returns c = copy-end _ _ _ 12483 0 25347 (c .before .loop .k) (c .loop-test .left) (c .before .loop .inv .3)
 
 pub copy-saved-spec : {M : Type 1} → statement M
 copy-saved-spec =

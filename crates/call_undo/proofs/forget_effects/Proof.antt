@@ -12,7 +12,7 @@ use Rattle.call_undo.proofs.forget_effects.Tie as tie
 abbrev Inv-loop : tie.InvT-loop
 Inv-loop context₀ from to at n k₀ context k =
     (length context ≡ length context₀)
-    × (at ≡ 37317 + from * 98)
+    × (at ≡ 37830 + from * 98)
     × (n ≡ (to - from) * 98)
     × (copied [] k₀ (at + k₀) (n - k₀) context₀ ≡ copied [] k (at + k) (n - k) context)
 
@@ -41,7 +41,7 @@ mul-n : tie.Need-mul-n Inv-loop μ-loop
 mul-n c = search needs
 
 loop-holds : tie.Need-loop-holds Inv-loop μ-loop
-loop-holds c = (refl, ap (λ (x : ℕ). 37317 + x * 98) (c .before .wide32 .ensures), ap (λ (x : ℕ). x * 98) (c .wide322 .ensures), refl)
+loop-holds c = (refl, ap (λ (x : ℕ). 37830 + x * 98) (c .before .wide32 .ensures), ap (λ (x : ℕ). x * 98) (c .wide322 .ensures), refl)
 
 add-set32 : tie.Need-add-set32 Inv-loop μ-loop
 add-set32 c = search needs

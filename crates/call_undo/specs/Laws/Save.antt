@@ -57,7 +57,7 @@ pub forgets-none : (c : List ℕ) (from to : ℕ) → to ≤ from → c ≡ forg
 unfolding forgotten copied
 forgets-none c from to l =
     let z : 0 ≡ (to - from) * 98 = omega arith in
-    ap (λ (n : ℕ). copied [] 0 (37317 + from * 98) n c) z
+    ap (λ (n : ℕ). copied [] 0 (37830 + from * 98) n c) z
 
 -- one more word becomes zero
 pub forgets-more : (c d : List ℕ) (at n k : ℕ) → k < n → d ≡ set c (at + k) 0 → copied [] k (at + k) (n - k) c ≡ copied [] (k + 1) (at + (k + 1)) (n - (k + 1)) d
@@ -72,11 +72,11 @@ forgets-more c d at n k l e =
 
 -- all of them are zero
 -- the loop's end is the whole
-pub forgets-end : (c d : List ℕ) (from to at n k : ℕ) → at ≡ 37317 + from * 98 → n ≡ (to - from) * 98 → n ≤ k → copied [] 0 (at + 0) (n - 0) c ≡ copied [] k (at + k) (n - k) d → d ≡ forgotten from to c
+pub forgets-end : (c d : List ℕ) (from to at n k : ℕ) → at ≡ 37830 + from * 98 → n ≡ (to - from) * 98 → n ≤ k → copied [] 0 (at + 0) (n - 0) c ≡ copied [] k (at + k) (n - k) d → d ≡ forgotten from to c
 unfolding copied forgotten
 forgets-end c d from to at n k a b h e =
     let m : n - k ≡ 0 = omega arith in
-    let x : at + 0 ≡ 37317 + from * 98 = omega arith in
+    let x : at + 0 ≡ 37830 + from * 98 = omega arith in
     let y : n - 0 ≡ (to - from) * 98 = omega arith in
     sym (e ∙ ap (λ (z : ℕ). copied [] k (at + k) z d) m) ∙ ap₂ (λ (u v : ℕ). copied [] 0 u v c) x y
 
@@ -113,14 +113,14 @@ module _ (vs ss : List ℕ) (n : ℕ) (ws : List ℕ) (hv : length vs ≡ 1024) 
 -- ---- a context put back
 
 -- an instruction made c of a context with all its tables, after whose last interned effect every word was zero
-module _ (c₀ c ws : List ℕ) (long : 37317 ≤ length c₀) (hw : length ws ≡ 24834) (kept : KeptFrom c₀ c) (zero-after : (k : ℕ) → 37317 + internedCount c₀ * 98 ≤ k → getD c₀ k 0 ≡ 0) where
+module _ (c₀ c ws : List ℕ) (long : 37830 ≤ length c₀) (hw : length ws ≡ 25347) (kept : KeptFrom c₀ c) (zero-after : (k : ℕ) → 37830 + internedCount c₀ * 98 ≤ k → getD c₀ k 0 ≡ 0) where
   -- what was saved
   abbrev pub saved : List ℕ
   saved = savedContext c₀ ws
 
-  saved-at : (k m : ℕ) → k < 24834 → m ≡ 12483 + k → getD saved k 0 ≡ getD c₀ m 0
+  saved-at : (k m : ℕ) → k < 25347 → m ≡ 12483 + k → getD saved k 0 ≡ getD c₀ m 0
   unfolding savedContext
-  saved-at k m l e = copied-at c₀ 12483 0 24834 ws k m (omega arith) (omega arith) (omega arith) (omega arith)
+  saved-at k m l e = copied-at c₀ 12483 0 25347 ws k m (omega arith) (omega arith) (omega arith) (omega arith)
 
   -- the count of interned effects is its first word
   saved-count : getD saved 0 0 ≡ internedCount c₀
@@ -129,64 +129,64 @@ module _ (c₀ c ws : List ℕ) (long : 37317 ≤ length c₀) (hw : length ws �
 
   -- without the effects appended since, the words that are not saved are as before
   -- those that an instruction leaves, and those that it appended
-  gone : (n : ℕ) → n ≡ internedCount c₀ → (k : ℕ) → k < length c₀ → (k < 12483) ⊎ (37317 ≤ k) → getD (forgotten n (internedCount c) c) k 0 ≡ getD c₀ k 0
+  gone : (n : ℕ) → n ≡ internedCount c₀ → (k : ℕ) → k < length c₀ → (k < 12483) ⊎ (37830 ≤ k) → getD (forgotten n (internedCount c) c) k 0 ≡ getD c₀ k 0
   unfolding forgotten
   gone n e k l o = ⊎-elim before later o
     where
       d : List ℕ
-      d = copied [] 0 (37317 + n * 98) ((internedCount c - n) * 98) c
+      d = copied [] 0 (37830 + n * 98) ((internedCount c - n) * 98) c
 
       before : k < 12483 → getD d k 0 ≡ getD c₀ k 0
-      before h = copied-outside [] 0 (37317 + n * 98) ((internedCount c - n) * 98) c k (inl (omega arith)) ∙ kept .fixed k (inl h)
+      before h = copied-outside [] 0 (37830 + n * 98) ((internedCount c - n) * 98) c k (inl (omega arith)) ∙ kept .fixed k (inl h)
 
-      appended : 37317 + n * 98 ≤ k → k < 37317 + internedCount c * 98 → getD d k 0 ≡ getD c₀ k 0
+      appended : 37830 + n * 98 ≤ k → k < 37830 + internedCount c * 98 → getD d k 0 ≡ getD c₀ k 0
       appended h g =
           let z = kept .long in
-          copied-at [] 0 (37317 + n * 98) ((internedCount c - n) * 98) c k (k - (37317 + n * 98)) h (omega arith) (omega arith) (omega arith)
+          copied-at [] 0 (37830 + n * 98) ((internedCount c - n) * 98) c k (k - (37830 + n * 98)) h (omega arith) (omega arith) (omega arith)
           ∙ sym (zero-after k (omega arith))
 
-      past : 37317 + internedCount c * 98 ≤ k → getD d k 0 ≡ getD c₀ k 0
+      past : 37830 + internedCount c * 98 ≤ k → getD d k 0 ≡ getD c₀ k 0
       past h =
           let g = kept .grown in
-          copied-outside [] 0 (37317 + n * 98) ((internedCount c - n) * 98) c k (inr (omega arith)) ∙ kept .after k h
+          copied-outside [] 0 (37830 + n * 98) ((internedCount c - n) * 98) c k (inr (omega arith)) ∙ kept .after k h
 
-      stayed : 37317 ≤ k → k < 37317 + n * 98 → getD d k 0 ≡ getD c₀ k 0
-      stayed h g = copied-outside [] 0 (37317 + n * 98) ((internedCount c - n) * 98) c k (inl g) ∙ kept .fixed k (inr (h, omega arith))
+      stayed : 37830 ≤ k → k < 37830 + n * 98 → getD d k 0 ≡ getD c₀ k 0
+      stayed h g = copied-outside [] 0 (37830 + n * 98) ((internedCount c - n) * 98) c k (inl g) ∙ kept .fixed k (inr (h, omega arith))
 
-      later : 37317 ≤ k → getD d k 0 ≡ getD c₀ k 0
-      later h = ⊎-elim (stayed h) (λ g. ⊎-elim (appended g) past (lt-or-ge k (37317 + internedCount c * 98))) (lt-or-ge k (37317 + n * 98))
+      later : 37830 ≤ k → getD d k 0 ≡ getD c₀ k 0
+      later h = ⊎-elim (stayed h) (λ g. ⊎-elim (appended g) past (lt-or-ge k (37830 + internedCount c * 98))) (lt-or-ge k (37830 + n * 98))
 
   -- all words
   pub context-restored : restoredContext saved c ≡ c₀
   unfolding restoredContext forgotten
-  context-restored = ext-getD 0 (copied saved 0 12483 24834 d) c₀ same word
+  context-restored = ext-getD 0 (copied saved 0 12483 25347 d) c₀ same word
     where
       d : List ℕ
       d = forgotten (getD saved 0 0) (internedCount c) c
 
       short : length d ≡ length c₀
-      short = copied-length [] 0 (37317 + getD saved 0 0 * 98) ((internedCount c - getD saved 0 0) * 98) c ∙ kept .long
+      short = copied-length [] 0 (37830 + getD saved 0 0 * 98) ((internedCount c - getD saved 0 0) * 98) c ∙ kept .long
 
-      same : length (copied saved 0 12483 24834 d) ≡ length c₀
-      same = copied-length saved 0 12483 24834 d ∙ short
+      same : length (copied saved 0 12483 25347 d) ≡ length c₀
+      same = copied-length saved 0 12483 25347 d ∙ short
 
-      other : (k : ℕ) → k < length c₀ → (k < 12483) ⊎ (37317 ≤ k) → getD (copied saved 0 12483 24834 d) k 0 ≡ getD c₀ k 0
+      other : (k : ℕ) → k < length c₀ → (k < 12483) ⊎ (37830 ≤ k) → getD (copied saved 0 12483 25347 d) k 0 ≡ getD c₀ k 0
       other k l o =
-          copied-outside saved 0 12483 24834 d k (⊎-elim {C = (k < 12483) ⊎ (12483 + 24834 ≤ k)} (λ h. inl h) (λ h. inr (omega arith)) o)
+          copied-outside saved 0 12483 25347 d k (⊎-elim {C = (k < 12483) ⊎ (12483 + 25347 ≤ k)} (λ h. inl h) (λ h. inr (omega arith)) o)
           ∙ gone (getD saved 0 0) saved-count k l o
 
-      between : (k : ℕ) → 12483 ≤ k → k < 37317 → getD (copied saved 0 12483 24834 d) k 0 ≡ getD c₀ k 0
+      between : (k : ℕ) → 12483 ≤ k → k < 37830 → getD (copied saved 0 12483 25347 d) k 0 ≡ getD c₀ k 0
       between k a b =
-          copied-at saved 0 12483 24834 d k (k - 12483) a (omega arith) (let y = short in omega arith) (omega arith)
+          copied-at saved 0 12483 25347 d k (k - 12483) a (omega arith) (let y = short in omega arith) (omega arith)
           ∙ saved-at (k - 12483) k (omega arith) (omega arith)
 
-      word : (k : ℕ) → k < length (copied saved 0 12483 24834 d) → getD (copied saved 0 12483 24834 d) k 0 ≡ getD c₀ k 0
+      word : (k : ℕ) → k < length (copied saved 0 12483 25347 d) → getD (copied saved 0 12483 25347 d) k 0 ≡ getD c₀ k 0
       word k l =
           let y = same in
-          ⊎-elim (λ h. other k (omega arith) (inl h)) (λ h. ⊎-elim (between k h) (λ g. other k (omega arith) (inr g)) (lt-or-ge k 37317)) (lt-or-ge k 12483)
+          ⊎-elim (λ h. other k (omega arith) (inl h)) (λ h. ⊎-elim (between k h) (λ g. other k (omega arith) (inr g)) (lt-or-ge k 37830)) (lt-or-ge k 12483)
 
 -- the code puts a context back in two steps
 -- the count that was saved, and that of now, are read first
-pub restores : (ws c d r : List ℕ) (n m : ℕ) → n ≡ getD ws 0 0 → m ≡ internedCount c → d ≡ forgotten n m c → r ≡ copied ws 0 12483 24834 d → r ≡ restoredContext ws c
+pub restores : (ws c d r : List ℕ) (n m : ℕ) → n ≡ getD ws 0 0 → m ≡ internedCount c → d ≡ forgotten n m c → r ≡ copied ws 0 12483 25347 d → r ≡ restoredContext ws c
 unfolding restoredContext
-restores ws c d r n m p q e h = h ∙ ap (copied ws 0 12483 24834) (e ∙ ap₂ (λ (x y : ℕ). forgotten x y c) p q)
+restores ws c d r n m p q e h = h ∙ ap (copied ws 0 12483 25347) (e ∙ ap₂ (λ (x y : ℕ). forgotten x y c) p q)

@@ -69,8 +69,8 @@ clipped n l = record {
   instance-is = λ c m d h. refl;
   effect-fit = λ c e h k s z. record { ref = h .ref; hoisted = h .hoisted; name = h .name };
   effect-add = λ c e h k s z. refl;
-  key-fit = λ c v k h p s. record { ref = h .ref; hoisted = h .hoisted; name = h .name };
-  key-put = λ c v k h p s. refl;
+  key-fit = λ c v k h p s z f. record { ref = h .ref; hoisted = h .hoisted; name = h .name };
+  key-put = λ c v k h p s z f. refl;
   link-fit = λ c v f h p. record { ref = h .ref; hoisted = h .hoisted; name = h .name };
   link-put = λ c v f h p. refl;
   read-fit = λ c f i h. record { ref = h .ref; hoisted = h .hoisted; name = h .name };

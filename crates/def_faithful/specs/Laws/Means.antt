@@ -18,6 +18,7 @@ use Rattle.def_transfer.specs.Tables.{Tables, State, Work, Rest, World}
 use Rattle.base_sets.specs.Members.{valuesOf}
 use Rattle.def_transfer.specs.State.{orDefault, joinValues, kindOf, setOf, valueOf, peek, initialize, point, ask, change}
 use Rattle.def_transfer.specs.Pure.{pure, at}
+use Rattle.def_transfer.specs.Pure as Pure
 use Rattle.def_faithful.specs.Ranges.{Number, Fresh, IsSet, Pointing, Reasoned, Entered}
 use Rattle.def_faithful.specs.Faithful.{Faithful}
 
@@ -69,12 +70,18 @@ module _ {n : ℕ} {T : Tables} (F : Faithful n T) where
     pub freezeEntries : k .freezeEntries ≡ l .freezeEntries
     pub entries : F .Counts (k .entries) (l .entries)
 
+  -- no number from the next one on has a key
+  -- so that a fresh number takes nobody's place
+  abbrev pub Unused : Session → Pure.Context → Type 0
+  Unused s c = (v : ℕ) → s .next ≤ v → c .cached v ≡ none
+
   -- session, context and work
   -- the context means the plain one
   pub record SameRest (r : Rest T) (q : Rest pure) : Type 0 where
     pub session : SameSession (r .session) (q .session)
     pub fit : F .FitContext (r .context)
     pub context : F .meaning (r .context) ≡ q .context
+    pub unused : Unused (q .session) (q .context)
     pub work : SameWork (r .work) (q .work)
 
   -- two worlds as a call finds them
@@ -84,6 +91,7 @@ module _ {n : ℕ} {T : Tables} (F : Faithful n T) where
     pub session : SameSession (w .rest .session) (u .rest .session)
     pub fit : F .FitContext (w .rest .context)
     pub context : F .meaning (w .rest .context) ≡ u .rest .context
+    pub unused : Unused (u .rest .session) (u .rest .context)
 
   pub record Related (w : World T) (u : World pure) : Type 0 where
     pub state : SameState (w .state) (u .state)

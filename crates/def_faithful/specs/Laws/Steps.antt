@@ -147,6 +147,7 @@ module _ {n : ℕ} {T : Tables} {F : Faithful n T} where
         session = record { low = h .session .low; next = h .session .next; access = h .session .access; span = h .session .span; entries = h .work .entries };
         fit = h .fit;
         context = h .context;
+        unused = h .unused;
         work = h .work;
       }))))
 
@@ -158,6 +159,7 @@ module _ {n : ℕ} {T : Tables} {F : Faithful n T} where
         session = h .session;
         fit = h .fit;
         context = h .context;
+        unused = h .unused;
         work = record { initialized = F .none-marked; listed = F .none-listed; freezeEntries = refl; entries = F .none-counted };
       })) (atomically-means (run-means ins a l))
 
@@ -166,5 +168,5 @@ module _ {n : ℕ} {T : Tables} {F : Faithful n T} where
   unfolding applySignature startInstruction change _>>_ _>>=_ andThen
   call-means ins a l w u h = atomically-means (run-means ins a l) .runs _ _ (record {
     state = h .state;
-    rest = record { session = h .session; fit = h .fit; context = h .context; work = record { initialized = F .none-marked; listed = F .none-listed; freezeEntries = refl; entries = F .none-counted } };
+    rest = record { session = h .session; fit = h .fit; context = h .context; unused = h .unused; work = record { initialized = F .none-marked; listed = F .none-listed; freezeEntries = refl; entries = F .none-counted } };
   })

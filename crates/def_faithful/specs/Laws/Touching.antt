@@ -15,7 +15,8 @@ use Rattle.def_effects.specs.declared.MutateVariant.{MutateVariant}
 use Rattle.def_effects.specs.Places.{identifiers}
 use Rattle.def_effects.specs.Effects.{AliasingEffect}
 use Rattle.def_effects.specs.Keys.{EffectKey, effectKey}
-use Rattle.def_transfer.specs.Monad.{M, Done}
+use borrow.Author.Tests.{ne-eqb}
+use Rattle.def_transfer.specs.Monad.{M, Done, andThen, _>>=_, _>>_, return, refuse, if_then_else_}
 use Rattle.def_transfer.specs.Diagnostics.{Diagnostic}
 use Rattle.def_transfer.specs.Tables.{Tables, Rest, World}
 use Rattle.def_transfer.specs.State.{firstAccess, fromIdentifier, ask, change, recordAccess, kindWithSpan, kind, define, orInsert, assignSet, assign, freezeValue, toFreeze, freeze}
@@ -23,14 +24,14 @@ use Rattle.def_transfer.specs.Context.{refreshed, putEffect, internNew, internE
 use Rattle.def_transfer.specs.Walk.{freezeAndEnter, enterPlace, enterContext, freezeFunctionCapturesTransitive, walk}
 use Rattle.def_transfer.specs.Step.{Flow, Immutable, Same, Maybe, Nothing, create, isWritten, anyWritten, anyRef, updateContext, byFlow, mutate}
 use Rattle.def_transfer.specs.Instruction.{has}
-use Rattle.def_transfer.specs.Pure.{pure, firstCached, isKey}
+use Rattle.def_transfer.specs.Pure.{pure, at, firstCached, isKey}
 use Rattle.def_transfer.specs.Pure as Pure
 use Rattle.def_transfer.specs.Laws.Pure.{found-key}
 use Rattle.def_transfer.specs.Laws.Derived.{refreshed-key}
 use Rattle.def_faithful.specs.Ranges.{Number, Fresh, Pointing, Reasoned, Short}
 use Rattle.def_faithful.specs.Laws.Ranges.{fresh-number, own-number, single-reasoned, none-reasoned, default-reasoned, pointing-members, singleton-set}
 use Rattle.def_faithful.specs.Faithful.{Faithful}
-use Rattle.def_faithful.specs.Laws.Means.{Any, SameSession, SameRest, Means, plain, bind-means, then-means, bind-any, bind-fresh, bind-set, return-means, done-means, refuse-means, if-means, test-means, each-value, each-any, When, always, when-bind, when-then, when-ask, look, look-found, when-test, when-change, answer-means, ask-means, change-means}
+use Rattle.def_faithful.specs.Laws.Means.{Any, SameSession, SameRest, Related, Rel, Means, plain, bind-means, then-means, bind-any, bind-fresh, bind-set, return-means, done-means, refuse-means, if-means, test-means, each-value, each-any, When, always, when-bind, when-then, when-ask, look, look-found, when-test, when-change, answer-means, ask-means, change-means}
 
 -- ---- ranges
 
@@ -47,6 +48,23 @@ found-range (suc m) v c k x h = go (isKey k (c v)) (found-range m (suc v) c k x)
 -- a count that is not full
 room : (k m : ℕ) → leb k m ≡ false → m < k
 room k m e = nleb→lt k m (subst (λ (b : Bool). lib.Dec.T (not b)) (sym e) tt)
+
+-- what stands at another number than the one written
+other-number : {A : Type 0} (f : ℕ → A) (i : ℕ) (x : A) (j : ℕ) → (i ≡ j → ⊥) → at f i x j ≡ f j
+unfolding at
+other-number {A = A} f i x j n = ap (λ (b : Bool). elim b as (λ _. A) [ true ↦ x | false ↦ f j ]) (ne-eqb i j n)
+
+-- an access leaves the next number
+first-next : (a : ℕ) (span : Span) (t : Session) → firstAccess a span t .next ≡ t .next
+first-next a span t = go (eqb (t .access) 0)
+  where
+    go : (b : Bool) → (elim b as (λ x. Session) [ true ↦ record { next = t .next; access = a; span = span; entries = t .entries } | false ↦ t ]) .next ≡ t .next
+    go true = refl
+    go false = refl
+
+-- the number n, where it is fresh, is handed out under a key
+abbrev handOut : {T : Tables} → EffectKey → ℕ → M (World T) ℕ
+handOut k n = (if leb 512 n then refuse 9 else (setNext (suc n) >> return n)) >>= (λ v. cache k v >> return v)
 
 module _ {n : ℕ} {T : Tables} {F : Faithful n T} where
   -- ---- what is read of session, context and work
@@ -125,21 +143,17 @@ module _ {n : ℕ} {T : Tables} {F : Faithful n T} where
 
   -- ---- what is changed of them
 
-  on-context : {r : Rest T} {q : Rest pure} (c : T .Context) (d : Pure.Context) → F .FitContext c → F .meaning c ≡ d → SameRest F r q
+  on-context : {r : Rest T} {q : Rest pure} (c : T .Context) (d : Pure.Context) → F .FitContext c → F .meaning c ≡ d → d .cached ≡ q .context .cached → SameRest F r q
       → SameRest F (record { session = r .session; context = c; work = r .work }) (record { session = q .session; context = d; work = q .work })
-  on-context c d p e h = record { session = h .session; fit = p; context = e; work = h .work }
+  on-context c d p e k h = record { session = h .session; fit = p; context = e; unused = λ v l. ap (λ (f : ℕ → Option EffectKey). f v) k ∙ h .unused v l; work = h .work }
 
   pub linkTo-means : (v f : ℕ) → Fresh v → Means F Any (linkTo v f) (linkTo v f)
   unfolding linkTo
-  linkTo-means v f p = change-means _ _ (λ r q h. on-context _ _ (F .link-fit (r .context) v f (h .fit) p) (F .link-put (r .context) v f (h .fit) p ∙ ap (λ (c : Pure.Context). pure .putLink c v f) (h .context)) h)
-
-  cache-means : (k : EffectKey) (v : ℕ) → Short k → Fresh v → Means F Any (cache k v) (cache k v)
-  unfolding cache
-  cache-means k v s p = change-means _ _ (λ r q h. on-context _ _ (F .key-fit (r .context) v k (h .fit) p s) (F .key-put (r .context) v k (h .fit) p s ∙ ap (λ (c : Pure.Context). pure .putKey c v k) (h .context)) h)
+  linkTo-means v f p = change-means _ _ (λ r q h. on-context _ _ (F .link-fit (r .context) v f (h .fit) p) (F .link-put (r .context) v f (h .fit) p ∙ ap (λ (c : Pure.Context). pure .putLink c v f) (h .context)) refl h)
 
   pub makeRead-means : (f i : ℕ) → Means F Any (makeRead f i) (makeRead f i)
   unfolding makeRead
-  makeRead-means f i = change-means _ _ (λ r q h. on-context _ _ (F .read-fit (r .context) f i (h .fit)) (F .read-made (r .context) f i (h .fit) ∙ ap (λ (c : Pure.Context). pure .makeRead c f i) (h .context)) h)
+  makeRead-means f i = change-means _ _ (λ r q h. on-context _ _ (F .read-fit (r .context) f i (h .fit)) (F .read-made (r .context) f i (h .fit) ∙ ap (λ (c : Pure.Context). pure .makeRead c f i) (h .context)) refl h)
 
   pub emit-means : (e : AliasingEffect) → Short (effectKey e) → Means F Any (emit e) (emit e)
   unfolding emit
@@ -147,6 +161,7 @@ module _ {n : ℕ} {T : Tables} {F : Faithful n T} where
     session = h .session;
     fit = h .fit;
     context = h .context;
+    unused = h .unused;
     work = record { initialized = h .work .initialized; listed = F .list-put (r .work .listed) (q .work .listed) e (h .work .listed) s; freezeEntries = h .work .freezeEntries; entries = h .work .entries };
   })
 
@@ -160,6 +175,7 @@ module _ {n : ℕ} {T : Tables} {F : Faithful n T} where
     session = h .session;
     fit = h .fit;
     context = h .context;
+    unused = h .unused;
     work = record { initialized = F .mark-put (r .work .initialized) (q .work .initialized) i (h .work .initialized) l; listed = h .work .listed; freezeEntries = h .work .freezeEntries; entries = h .work .entries };
   })
 
@@ -173,6 +189,7 @@ module _ {n : ℕ} {T : Tables} {F : Faithful n T} where
     session = h .session;
     fit = h .fit;
     context = h .context;
+    unused = h .unused;
     work = record { initialized = h .work .initialized; listed = h .work .listed; freezeEntries = refl; entries = h .work .entries };
   })
 
@@ -182,6 +199,7 @@ module _ {n : ℕ} {T : Tables} {F : Faithful n T} where
     session = h .session;
     fit = h .fit;
     context = h .context;
+    unused = h .unused;
     work = record { initialized = h .work .initialized; listed = h .work .listed; freezeEntries = ap suc (h .work .freezeEntries); entries = F .one-more (r .work .entries) (q .work .entries) (h .work .entries) };
   })
 
@@ -201,7 +219,7 @@ module _ {n : ℕ} {T : Tables} {F : Faithful n T} where
 
   pub recordAccess-means : (i : ℕ) (span : Span) → i < n → Means F Any (recordAccess i span) (recordAccess i span)
   unfolding recordAccess
-  recordAccess-means i span l = change-means _ _ (λ r q h. record { session = first-same i span (r .session) (q .session) (h .session) l; fit = h .fit; context = h .context; work = h .work })
+  recordAccess-means i span l = change-means _ _ (λ r q h. record { session = first-same i span (r .session) (q .session) (h .session) l; fit = h .fit; context = h .context; unused = λ v m. h .unused v (subst (λ (x : ℕ). x ≤ v) (first-next (suc i) span (q .session)) m); work = h .work })
 
   -- ---- interned effects
 
@@ -210,7 +228,7 @@ module _ {n : ℕ} {T : Tables} {F : Faithful n T} where
   unfolding putEffect
   putEffect-when e s m l = when-change _ _ (λ r q h x.
       let room : T .internedCount (r .context) < 2048 = let y = x .1 in omega arith in
-      on-context _ _ (F .effect-fit (r .context) e (h .fit) room s (x .0)) (F .effect-add (r .context) e (h .fit) room s (x .0) ∙ ap (λ (c : Pure.Context). pure .addEffect c e) (h .context)) h)
+      on-context _ _ (F .effect-fit (r .context) e (h .fit) room s (x .0)) (F .effect-add (r .context) e (h .fit) room s (x .0) ∙ ap (λ (c : Pure.Context). pure .addEffect c e) (h .context)) refl h)
 
   -- the effect that is used has the key of the one that was given
   internNew-when : (e : AliasingEffect) → Short (effectKey e) → (o : Option AliasingEffect) → ((x : AliasingEffect) → o ≡ some x → effectKey e ≡ effectKey x)
@@ -225,28 +243,48 @@ module _ {n : ℕ} {T : Tables} {F : Faithful n T} where
 
   -- ---- value numbers
 
-  setNext-means : (v : ℕ) → 1 ≤ v → Means F Any (setNext v) (setNext v)
-  unfolding setNext
-  setNext-means v l = change-means _ _ (λ r q h. record { session = record { low = l; next = refl; access = h .session .access; span = h .session .span; entries = h .session .entries }; fit = h .fit; context = h .context; work = h .work })
+  handOut-when : (k : EffectKey) → Short k → (m : ℕ) → When F Fresh (λ r. (T .findNumber (r .context) k ≡ none) × (r .session .next ≡ m)) (handOut k m) (handOut k m)
+  unfolding setNext cache change return refuse if_then_else_ _>>=_ _>>_ andThen
+  handOut-when k s m = record { runs = λ w u h x. go w u h x (leb 512 m) refl }
+    where
+      go : (w : World T) (u : World pure) → Related F w u → (T .findNumber (w .rest .context) k ≡ none) × (w .rest .session .next ≡ m) → (b : Bool) → leb 512 m ≡ b
+          → Rel F Fresh (((if b then refuse 9 else (setNext (suc m) >> return m)) >>= (λ v. cache k v >> return v)) w) (((if b then refuse 9 else (setNext (suc m) >> return m)) >>= (λ v. cache k v >> return v)) u)
+      go w u h x true e = (refl, h)
+      go w u h x false e = (
+        refl,
+        fresh,
+        record {
+          state = h .state;
+          rest = record {
+            session = record { low = omega arith; next = refl; access = h .rest .session .access; span = h .rest .session .span; entries = h .rest .session .entries };
+            fit = F .key-fit (w .rest .context) m k (h .rest .fit) fresh s none-there (x .0);
+            context = F .key-put (w .rest .context) m k (h .rest .fit) fresh s none-there (x .0) ∙ ap (λ (c : Pure.Context). pure .putKey c m k) (h .rest .context);
+            unused = λ v l. other-number (u .rest .context .cached) m (some k) v (λ q. omega arith) ∙ h .rest .unused v (omega arith);
+            work = h .rest .work;
+          };
+        },
+      )
+        where
+          fresh : Fresh m
+          fresh = record { low = subst (λ (y : ℕ). 1 ≤ y) (x .1) (h .rest .session .low); high = room 512 m e }
 
-  freshNumber-means : Means F Fresh freshNumber freshNumber
-  unfolding freshNumber
-  freshNumber-means =
-      bind-means (answer-means {Q = λ v. 1 ≤ v} _ _ (λ r q h. (h .session .next, h .session .low))) (λ v l.
-      test-means (leb 512 v) (λ _. refuse-means 9) (λ z. then-means (setNext-means (suc v) (omega arith)) (return-means v (record { low = l; high = room 512 v z }))))
+          same-next : u .rest .session .next ≡ m
+          same-next = sym (h .rest .session .next) ∙ x .1
 
-  orFresh-means : (k : EffectKey) → Short k → (o : Option ℕ) → ((v : ℕ) → o ≡ some v → Fresh v) → Means F Fresh (orFresh k o) (orFresh k o)
-  unfolding orFresh
-  orFresh-means k s (some v) h = return-means v (h v refl)
-  orFresh-means k s none h = bind-fresh freshNumber-means (λ v f. then-means (cache-means k v s f) (return-means v f))
+          none-there : T .keyAt (w .rest .context) m ≡ none
+          none-there = F .key-is (w .rest .context) m (h .rest .fit) ∙ ap (λ (c : Pure.Context). pure .keyAt c m) (h .rest .context) ∙ h .rest .unused m (omega arith)
+
+  orFresh-when : (k : EffectKey) → Short k → (o : Option ℕ) → ((v : ℕ) → o ≡ some v → Fresh v) → When F Fresh (λ r. T .findNumber (r .context) k ≡ o) (orFresh k o) (orFresh k o)
+  unfolding orFresh freshNumber ask _>>=_ andThen
+  orFresh-when k s (some v) h = always (return-means v (h v refl))
+  orFresh-when k s none h = record {
+    runs = λ w u i x. subst (λ (m : ℕ). Rel F Fresh (handOut k (w .rest .session .next) w) (handOut k m u)) (i .rest .session .next) (handOut-when k s (w .rest .session .next) .runs w u i (x, refl));
+  }
 
   pub numberFor-means : (k : EffectKey) → Short k → Means F Fresh (getOrCreateValueId k) (getOrCreateValueId k)
   unfolding getOrCreateValueId
-  numberFor-means k s = bind-means (answer-means {Q = λ o. (v : ℕ) → o ≡ some v → Fresh v} _ _ (λ r q h. (
-    read-number k r q h,
-    λ v z.
-        let y = found-range 511 1 (q .context .cached) k v (sym (read-number k r q h) ∙ z) in let a = y .0 in let b = y .1 in record { low = a; high = omega arith },
-  ))) (orFresh-means k s)
+  numberFor-means k s = look-found _ _ (read-number k) (λ r q h v z.
+      let y = found-range 511 1 (q .context .cached) k v (sym (read-number k r q h) ∙ z) in let a = y .0 in let b = y .1 in record { low = a; high = omega arith }) (orFresh-when k s)
 
   -- ---- diagnostics
 
@@ -254,7 +292,7 @@ module _ {n : ℕ} {T : Tables} {F : Faithful n T} where
   unfolding putDiagnostic
   putDiagnostic-when i d m l = when-change _ _ (λ r q h x.
       let room : T .instanceCount (r .context) < 256 = let y = x .1 in omega arith in
-      on-context _ _ (F .diagnostic-fit (r .context) i d (h .fit) room (x .0)) (F .diagnostic-add (r .context) i d (h .fit) room (x .0) ∙ ap (λ (c : Pure.Context). pure .addDiagnostic c i d) (h .context)) h)
+      on-context _ _ (F .diagnostic-fit (r .context) i d (h .fit) room (x .0)) (F .diagnostic-add (r .context) i d (h .fit) room (x .0) ∙ ap (λ (c : Pure.Context). pure .addDiagnostic c i d) (h .context)) refl h)
 
   newIdentity-means : (o : Option ℕ) → Means F Any (newIdentity o) (newIdentity o)
   unfolding newIdentity

@@ -58,7 +58,7 @@ found-key (x ∷ xs) k e h = go (eqKey k (effectKey x)) (eqKey-eq k (effectKey x
     go true p q h = p tt ∙ ap effectKey (some-eq x e h)
     go false p q h = q h
 
-is-key : (k : EffectKey) (o : Option EffectKey) → lib.Dec.T (isKey k o) → o ≡ some k
+pub is-key : (k : EffectKey) (o : Option EffectKey) → lib.Dec.T (isKey k o) → o ≡ some k
 unfolding isKey
 is-key k none t = absurd t
 is-key k (some j) t = ap some (sym (eqKey-eq k j t))

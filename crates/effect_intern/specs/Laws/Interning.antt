@@ -81,6 +81,16 @@ module _ (vs ss cs os : List ℕ) (r : Run) (e : Head) (ps : List Place) (key : 
 
 -- ---- numbers under keys
 
+-- what the search ended at is what the definition finds
+pub number-asked : (cs : List ℕ) (k : EffectKey) (s : Spot) (f : Found) → s ≡ Lent.keySpot cs k → optionOf f ≡ Lent.numberAt cs s → optionOf f ≡ Lent.findNumber cs k
+unfolding Lent.findNumber
+number-asked cs k s f h g = g ∙ ap (Lent.numberAt cs) h
+
+-- and where it ended the new number takes its place
+pub number-put : (cs ds : List ℕ) (k : EffectKey) (s : Spot) (p n : ℕ) → s ≡ Lent.keySpot cs k → p ≡ Lent.placeOf s → ds ≡ Lent.cachedAt cs p n k → ds ≡ Lent.putKey cs n k
+unfolding Lent.putKey
+number-put cs ds k s p n h e g = g ∙ ap (λ (i : ℕ). Lent.cachedAt cs i n k) (e ∙ ap Lent.placeOf h)
+
 module _ (vs ss cs os : List ℕ) (r : Run) (k : EffectKey) (f : Found) (h : optionOf f ≡ Lent.findNumber cs k) where
   asks : (o : Option ℕ) → optionOf f ≡ o → (x : Res (World lent) ℕ) → orFresh k o (world vs ss cs os r) ≡ x → getOrCreateValueId k (world vs ss cs os r) ≡ x
   unfolding getOrCreateValueId ask

@@ -17,7 +17,7 @@ use Rattle.lent_functions.proofs.context_identifier.Reads as context-identifier
 use Rattle.lent_links.proofs.link_of.Reads as link-of-reads
 use Rattle.lent_members.proofs.next_member.Reads as next-member-reads
 use Rattle.effect_walk.proofs.freeze_value.Reads as freeze-value-reads
-use Rattle.effect_walk.proofs.one_more.Reads as one-more-reads
+use Rattle.lent_links.proofs.one_more.Reads as one-more-reads
 use Rattle.effect_walk.proofs.opens.Reads as opens-reads
 use Rattle.effect_walk.proofs.+freeze_function_captures_transitive.{statement}
 use Rattle.effect_walk.proofs.+freeze_function_captures_transitive.Tie.{close}

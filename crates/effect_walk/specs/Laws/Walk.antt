@@ -36,14 +36,6 @@ use Rattle.effect_walk.specs.Walks.{frozen, Still, walking, Enters}
 
 -- ---- the small functions
 
-pub more-one : (n : ℕ) → n < 4294967295 → n + 1 ≡ oneMore n
-unfolding oneMore
-more-one n h = add-one n ∙ sym (ite-lt n 4294967295 (suc n) n h)
-
-pub more-none : (n : ℕ) → 4294967295 ≤ n → n ≡ oneMore n
-unfolding oneMore
-more-none n h = sym (ite-ge n 4294967295 (suc n) n h)
-
 pub opens-not : (vs ss : List ℕ) (i : ℕ) (b : Bool) → b ≡ isSome (setAt ss i) → b ≡ false → false ≡ freezes vs ss i
 unfolding freezes
 opens-not vs ss i b e h = sym (ap (λ (x : Bool). x && freezable (kindOf (valueAt vs) (setAt ss i) .kind)) (sym e ∙ h))

@@ -84,15 +84,15 @@ module _ (w v s c x : ℕ) where
   wrong-sets f g h = wrong-here s 8192 _ h ∙ right-here v 1024 _ g ∙ right-here w 16384 _ f
 
   -- the context has
-  pub wrong-context : w ≡ 16384 → v ≡ 1024 → s ≡ 8192 → (c ≡ 238021 → ⊥) → true ≡ lentWrong w v s c x
+  pub wrong-context : w ≡ 16384 → v ≡ 1024 → s ≡ 8192 → (c ≡ 238534 → ⊥) → true ≡ lentWrong w v s c x
   unfolding lentWrong
-  wrong-context e f g h = wrong-here c 238021 _ h ∙ right-here s 8192 _ g ∙ right-here v 1024 _ f ∙ right-here w 16384 _ e
+  wrong-context e f g h = wrong-here c 238534 _ h ∙ right-here s 8192 _ g ∙ right-here v 1024 _ f ∙ right-here w 16384 _ e
 
   -- the candidates decide
   -- all else is right
-  pub wrong-candidates : w ≡ 16384 → v ≡ 1024 → s ≡ 8192 → c ≡ 238021 → not (eqb x 6272) ≡ lentWrong w v s c x
+  pub wrong-candidates : w ≡ 16384 → v ≡ 1024 → s ≡ 8192 → c ≡ 238534 → not (eqb x 6272) ≡ lentWrong w v s c x
   unfolding lentWrong
-  wrong-candidates d e f g = right-here c 238021 _ g ∙ right-here s 8192 _ f ∙ right-here v 1024 _ e ∙ right-here w 16384 _ d
+  wrong-candidates d e f g = right-here c 238534 _ g ∙ right-here s 8192 _ f ∙ right-here v 1024 _ e ∙ right-here w 16384 _ d
 
 -- ---- the bytes of an image
 

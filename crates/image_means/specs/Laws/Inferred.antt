@@ -216,15 +216,15 @@ module _ (im : Image) (small : (i : ℕ) → word im i < 4294967296) (good : ref
   abbrev c : List ℕ
   c = lentContext im
 
-  long : length (zeros 238021) ≡ 238021
-  long = zeros-length 238021
+  long : length (zeros 238534) ≡ 238534
+  long = zeros-length 238534
 
   function-in : (f : ℕ) → f < countOf im functions → functionIn c f ≡ functionAt im f
   unfolding functionAt Lent.contextOf Lent.mutatedInside
   function-in f l = λ j. record {
-    context = contexts-back im (zeros 238021) (let z = long in omega arith) (few-functions im good) (few-context im good) f l j;
-    inside = insides-back im (zeros 238021) (let z = long in omega arith) (few-functions im good) (few-inside im good) f l j;
-    tracked = (ap (λ (x : ℕ). eqb (x / 2 % 2) 1) (flags-back im (zeros 238021) (let z = long in omega arith) (few-functions im good) f l) ∙ flag-two (functionFlags im f)) j;
+    context = contexts-back im (zeros 238534) (let z = long in omega arith) (few-functions im good) (few-context im good) f l j;
+    inside = insides-back im (zeros 238534) (let z = long in omega arith) (few-functions im good) (few-inside im good) f l j;
+    tracked = (ap (λ (x : ℕ). eqb (x / 2 % 2) 1) (flags-back im (zeros 238534) (let z = long in omega arith) (few-functions im good) f l) ∙ flag-two (functionFlags im f)) j;
   }
 
   function-past : (f : ℕ) → countOf im functions ≤ f → functionIn c f ≡ noFunction
@@ -243,7 +243,7 @@ module _ (im : Image) (small : (i : ℕ) → word im i < 4294967296) (good : ref
   identifier-in : (i : ℕ) → i < countOf im identifiers → identifierIn c i ≡ identifierAt im i
   unfolding identifierAt
   identifier-in i l =
-      let w : (v : ℕ) → v < 4 → field Layout.identifiers c i v ≡ Rattle.def_image.specs.Layout.cell im identifiers i v = λ v q. identifiers-back im (zeros 238021) (let z = long in omega arith) (few-identifiers im good) i v l q in
+      let w : (v : ℕ) → v < 4 → field Layout.identifiers c i v ≡ Rattle.def_image.specs.Layout.cell im identifiers i v = λ v q. identifiers-back im (zeros 238534) (let z = long in omega arith) (few-identifiers im good) i v l q in
       λ j. record {
         ref = ap (λ (x : ℕ). eqb (x % 2) 1) (w 0 (omega arith)) j;
         hoisted = (ap (λ (x : ℕ). eqb (x / 2 % 2) 1) (w 0 (omega arith)) ∙ flag-two (identifierFlags im i)) j;
@@ -269,7 +269,7 @@ module _ (im : Image) (small : (i : ℕ) → word im i < 4294967296) (good : ref
     links = fun-ext {f = λ v. optionIn Layout.links c v 0} {g = λ v. none} (λ v. ap (λ (x : ℕ). ite (eqb x 0) none (some (field Layout.links c v 1))) (far-zero im Layout.links (omega arith) v 0)) j;
     functions = functions-is j;
     identifiers = identifiers-is j;
-    transitive = not (eqb (options-back im (zeros 238021) (let z = long in omega arith) j) 0);
+    transitive = not (eqb (options-back im (zeros 238534) (let z = long in omega arith) j) 0);
     diagnostics = Lent.diagnosticsIn c 0 (none-told im j);
   }
 
@@ -302,6 +302,7 @@ module _ (im : Image) (small : (i : ℕ) → word im i < 4294967296) (good : ref
     session = record { low = next-range im good .0; next = refl; access = refl; span = refl; entries = refl };
     fit = unknown;
     context = sym context-is;
+    unused = λ v l j. context-is j .cached v;
   })
 
   -- what is shown of the call is the listing of the image's run

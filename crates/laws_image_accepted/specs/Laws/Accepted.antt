@@ -24,7 +24,7 @@ use Rattle.laws_image_accepted.specs.Laws.Instruction.{instruction-right
 module _ (im : Image) (small : (i : ℕ) → word im i < 4294967296) (ok : refusalOfWords im ≡ 0) where
   -- the context says how many functions there are
   functions-count : getD (lentContext im) Layout.functionCount 0 ≡ countOf im functions
-  functions-count = function-count-back im (zeros 238021) (let z = zeros-length 238021 in omega arith)
+  functions-count = function-count-back im (zeros 238534) (let z = zeros-length 238534 in omega arith)
 
   -- the context, as the call tests it
   -- for the identifiers of the sets and the functions of the context

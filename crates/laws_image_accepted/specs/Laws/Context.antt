@@ -18,7 +18,10 @@ use Rattle.lent_tables.specs.declared.Table.{Table}
 use Rattle.lent_tables.specs.Words.{within, apart, end, index, field, placesIn, putPlaces}
 use Rattle.lent_tables.specs.Laws.Word.{put-record, put-apart, set-outside, places-record, places-apart, field-in, field-out, index-begins}
 use Rattle.lent_layout.specs.Layout as Layout
-use Rattle.lent_context.specs.Lent.{contextOf, mutatedInside, internedCount, instanceCount}
+use Rattle.lent_context.specs.Lent.{contextOf, mutatedInside, internedCount, instanceCount, isKeyed, keyCount}
+use Rattle.base_search.specs.Counting.{howMany}
+use Rattle.base_search.specs.Laws.Counting.{count-all, none-none}
+use Rattle.refuse_key_order.specs.KeyOrder.{keyPlaceClass, miscounted, keyOrderClass}
 use Rattle.lent_context.specs.Lent as Lent
 use Rattle.base_tests.specs.Laws.Bool.{or-neither}
 use Rattle.refuse_class.specs.Class.{lower}
@@ -127,7 +130,7 @@ module _ (im : Image) where
 
   -- zeros with the header
   abbrev headed : List ℕ
-  headed = decodedHeader im (zeros 238021)
+  headed = decodedHeader im (zeros 238534)
 
   -- and with the identifiers
   abbrev named : List ℕ
@@ -135,7 +138,7 @@ module _ (im : Image) where
 
   -- every record of a table is zero after the header
   headed-zero : (t : Table) → 3 ≤ t .base → (j : ℕ) → Zero t j headed
-  headed-zero t h j v = header-kept t (zeros 238021) j v h ∙ zero-record t j (zeros 238021) (zero-word 238021) v
+  headed-zero t h j v = header-kept t (zeros 238534) j v h ∙ zero-record t j (zeros 238534) (zero-word 238534) v
 
   -- and so it is after the identifiers, where the table is apart from them
   named-zero : (t : Table) → 3 ≤ t .base → apart Layout.identifiers t ≡ true → (j : ℕ) → Zero t j named
@@ -152,7 +155,7 @@ module _ (im : Image) where
   -- "Interned effects, cached numbers, links and diagnostics start empty"
   far : (p : ℕ) → 17605 ≤ p → getD (lentContext im) p 0 ≡ 0
   unfolding end
-  far p h = word-stays im (zeros 238021) p (omega arith) (inr (let z : 2051 ≤ p = omega arith in z)) (inr (let z : 12483 ≤ p = omega arith in z)) (inr (let z : 17605 ≤ p = omega arith in z)) ∙ zero-word 238021 p
+  far p h = word-stays im (zeros 238534) p (omega arith) (inr (let z : 2051 ≤ p = omega arith in z)) (inr (let z : 12483 ≤ p = omega arith in z)) (inr (let z : 17605 ≤ p = omega arith in z)) ∙ zero-word 238534 p
 
   -- every record of such a table is zero
   -- links, cached numbers, diagnostics, interned effects
@@ -166,12 +169,12 @@ module _ (im : Image) where
   -- nothing is interned
   pub none-interned : internedCount (lentContext im) ≡ 0
   unfolding end internedCount
-  none-interned = word-stays im (zeros 238021) 12483 (omega arith) (inr (let z : 2051 ≤ 12483 = omega arith in z)) (inr (let z : 12483 ≤ 12483 = omega arith in z)) (inl (let z : 12483 < 12485 = omega arith in z)) ∙ zero-word 238021 12483
+  none-interned = word-stays im (zeros 238534) 12483 (omega arith) (inr (let z : 2051 ≤ 12483 = omega arith in z)) (inr (let z : 12483 ≤ 12483 = omega arith in z)) (inl (let z : 12483 < 12485 = omega arith in z)) ∙ zero-word 238534 12483
 
   -- and there is no diagnostic
   pub none-told : instanceCount (lentContext im) ≡ 0
   unfolding end instanceCount
-  none-told = word-stays im (zeros 238021) 12484 (omega arith) (inr (let z : 2051 ≤ 12484 = omega arith in z)) (inr (let z : 12483 ≤ 12484 = omega arith in z)) (inl (let z : 12484 < 12485 = omega arith in z)) ∙ zero-word 238021 12484
+  none-told = word-stays im (zeros 238534) 12484 (omega arith) (inr (let z : 2051 ≤ 12484 = omega arith in z)) (inr (let z : 12483 ≤ 12484 = omega arith in z)) (inl (let z : 12484 < 12485 = omega arith in z)) ∙ zero-word 238534 12484
 
   -- ---- tables that are empty
 
@@ -200,11 +203,32 @@ module _ (im : Image) where
   links-right f m =
       lower-both _ _ (lowest-both (handedOut m) (linkClass f (lentContext im)) (λ k l. link-right f k)) (stray-none Layout.links (lentContext im) (handedOut m) (omega arith) (λ j l. far-zero Layout.links (omega arith) j))
 
+  -- no number has a key
+  keyless : (v : ℕ) → isKeyed (lentContext im) v ≡ false
+  unfolding isKeyed
+  keyless v = ap not (eq-eqb (field Layout.cached (lentContext im) v 0) 0 (far-zero Layout.cached (omega arith) v 0))
+
+  none-keyed : keyCount (lentContext im) ≡ 0
+  unfolding keyCount
+  none-keyed = far 37317 (omega arith)
+
+  -- so the order of no keys earns nothing
+  key-order-right : (m : ℕ) → keyOrderClass (lentContext im) m ≡ 0
+  unfolding keyOrderClass miscounted
+  key-order-right m =
+      lower-both _ _ (earns-not 4 _ (ap not (eq-eqb (howMany (isKeyed (lentContext im)) m) (keyCount (lentContext im)) (none-below m ∙ sym none-keyed))))
+      (lower-both _ _ (lowest-both (keyCount (lentContext im)) (keyPlaceClass (lentContext im) m (keyCount (lentContext im))) (λ k l. absurd (let z = none-keyed in omega arith)))
+      (stray-none Layout.keyOrder (lentContext im) (keyCount (lentContext im)) (omega arith) (λ j l. far-zero Layout.keyOrder (omega arith) j)))
+    where
+      none-below : (m : ℕ) → howMany (isKeyed (lentContext im)) m ≡ 0
+      none-below m = count-all (isKeyed (lentContext im)) 0 m (omega arith) (λ x a b. keyless x) ∙ none-none (isKeyed (lentContext im))
+
   -- nor do the cached numbers
   keys-right : (n f m : ℕ) → keysClass n f (lentContext im) m ≡ 0
   unfolding keysClass
   keys-right n f m =
-      lower-both _ _ (lowest-both (handedOut m) (cachedClass n f (lentContext im)) (λ k l. key-right n f k)) (stray-none Layout.cached (lentContext im) (handedOut m) (omega arith) (λ j l. far-zero Layout.cached (omega arith) j))
+      lower-both _ _ (lowest-both (handedOut m) (cachedClass n f (lentContext im)) (λ k l. key-right n f k))
+      (lower-both _ _ (stray-none Layout.cached (lentContext im) (handedOut m) (omega arith) (λ j l. far-zero Layout.cached (omega arith) j)) (key-order-right (handedOut m)))
 
   -- nor do the diagnostics
   diagnostics-right : (n : ℕ) → diagnosticsClass n (lentContext im) ≡ 0
@@ -260,8 +284,8 @@ module _ (im : Image) (small : (i : ℕ) → word im i < 4294967296) (ok : refus
   c = lentContext im
 
   -- it holds every table
-  long : 17605 ≤ length (zeros 238021)
-  long = let z = zeros-length 238021 in omega arith
+  long : 17605 ≤ length (zeros 238534)
+  long = let z = zeros-length 238534 in omega arith
 
   -- ---- identifiers
 
@@ -312,7 +336,7 @@ module _ (im : Image) (small : (i : ℕ) → word im i < 4294967296) (ok : refus
   identifiers-right =
       lower-both _ _
       (lowest-both n (identifierClass c)
-      (λ j l. ap (λ (x : ℕ). recordClass Layout.identifiers c (identifierLimit x) j) (identifiers-back im (zeros 238021) (let z = long in omega arith) (few-identifiers im ok) j 0 l (omega arith))
+      (λ j l. ap (λ (x : ℕ). recordClass Layout.identifiers c (identifierLimit x) j) (identifiers-back im (zeros 238534) (let z = long in omega arith) (few-identifiers im ok) j 0 l (omega arith))
       ∙ record-good Layout.identifiers j (naming j) c (identifiers-good j l)))
       (stray-none Layout.identifiers c n (omega arith) identifiers-after)
 
@@ -396,7 +420,7 @@ module _ (im : Image) (small : (i : ℕ) → word im i < 4294967296) (ok : refus
   unfolding contextOf
   count-context j l =
       sym (places-count Layout.contexts c j 0 0 (field Layout.functions c j 1))
-      ∙ ap length (contexts-back im (zeros 238021) long (few-functions im ok) (few-context im ok) j l)
+      ∙ ap length (contexts-back im (zeros 238534) long (few-functions im ok) (few-context im ok) j l)
       ∙ places-long im (contextFirst im j) (contextCount im j)
 
   -- and so is the count of its places mutated inside
@@ -404,7 +428,7 @@ module _ (im : Image) (small : (i : ℕ) → word im i < 4294967296) (ok : refus
   unfolding mutatedInside
   count-inside j l =
       sym (places-count Layout.functions c j 3 0 (field Layout.functions c j 2))
-      ∙ ap length (insides-back im (zeros 238021) long (few-functions im ok) (few-inside im ok) j l)
+      ∙ ap length (insides-back im (zeros 238534) long (few-functions im ok) (few-inside im ok) j l)
       ∙ places-long im (insideFirst im j) (insideCount im j)
 
   -- a function with a tracked side effect, or with a place mutated inside, has its effects known
@@ -418,7 +442,7 @@ module _ (im : Image) (small : (i : ℕ) → word im i < 4294967296) (ok : refus
   function-right : (j : ℕ) → j < f → functionClass n c j ≡ 0
   unfolding functionClass placesClass
   function-right j l =
-      (λ i. by (flags-back im (zeros 238021) long (few-functions im ok) j l i) (count-context j l i) (count-inside j l i))
+      (λ i. by (flags-back im (zeros 238534) long (few-functions im ok) j l i) (count-context j l i) (count-inside j l i))
       ∙ lower-both _ _ (earns-not 2 _ (or-neither (ltb 16 (contextCount im j)) _ (le-ltb 16 (contextCount im j) (few-context im ok j l)) (le-ltb 32 (insideCount im j) (few-inside im ok j l))))
       (lower-both _ _ (record-good Layout.functions j (shape j) c (functions-good j l .0))
       (lower-both _ _ (earns-not 3 _ (known j l)) (record-good Layout.contexts j (run j) c (functions-good j l .1))))
@@ -443,10 +467,11 @@ module _ (im : Image) (small : (i : ℕ) → word im i < 4294967296) (ok : refus
   counts-right : countsWrong n f c ≡ false
   unfolding countsWrong
   counts-right =
-      or-neither (not (eqb (getD c Layout.identifierCount 0) n)) _ (ap not (eq-eqb (getD c Layout.identifierCount 0) n (identifier-count-back im (zeros 238021) (let z = long in omega arith))))
-      (or-neither (not (eqb (getD c Layout.functionCount 0) f)) _ (ap not (eq-eqb (getD c Layout.functionCount 0) f (function-count-back im (zeros 238021) (let z = long in omega arith))))
+      or-neither (not (eqb (getD c Layout.identifierCount 0) n)) _ (ap not (eq-eqb (getD c Layout.identifierCount 0) n (identifier-count-back im (zeros 238534) (let z = long in omega arith))))
+      (or-neither (not (eqb (getD c Layout.functionCount 0) f)) _ (ap not (eq-eqb (getD c Layout.functionCount 0) f (function-count-back im (zeros 238534) (let z = long in omega arith))))
       (or-neither (ltb 64 f) _ (le-ltb 64 f (few-functions im ok))
-      (or-neither (ltb 2048 (internedCount c)) _ (le-ltb 2048 (internedCount c) (let z = none-interned im in omega arith)) (le-ltb 256 (instanceCount c) (let z = none-told im in omega arith)))))
+      (or-neither (ltb 2048 (internedCount c)) _ (le-ltb 2048 (internedCount c) (let z = none-interned im in omega arith))
+      (or-neither (ltb 256 (instanceCount c)) _ (le-ltb 256 (instanceCount c) (let z = none-told im in omega arith)) (le-ltb 511 (keyCount c) (let z = none-keyed im in omega arith))))))
 
   -- the context of an accepted image earns no class
   -- "The context is all but state and session"
@@ -454,7 +479,7 @@ module _ (im : Image) (small : (i : ℕ) → word im i < 4294967296) (ok : refus
   unfolding contextClass tablesClass
   context-right =
       ite-no (countsWrong n f c) 2 _ counts-right
-      ∙ lower-both _ _ (word-below 4 (getD c Layout.options 0) (let a = options-small im ok in let b = options-back im (zeros 238021) (let z = long in omega arith) in omega arith))
+      ∙ lower-both _ _ (word-below 4 (getD c Layout.options 0) (let a = options-small im ok in let b = options-back im (zeros 238534) (let z = long in omega arith) in omega arith))
       (lower-both _ _ identifiers-right
       (lower-both _ _ functions-right
       (lower-both _ _ (links-right im f (next im)) (lower-both _ _ (keys-right im n f (next im)) (lower-both _ _ (diagnostics-right im n) (effects-right im n f))))))

@@ -42,13 +42,13 @@ module _ (im : Image) where
   rows-length (suc n) = fit-set 512 (after (decodedPair im) n (zeros 8192)) _ _ (rows-length n)
 
   -- the context
-  pub context-length : length (decodedContext im (zeros 238021)) ≡ 238021
+  pub context-length : length (decodedContext im (zeros 238534)) ≡ 238534
   unfolding decodedContext decodedFunctions decodedIdentifiers
   context-length =
       after-length (decodedFunction im) (function-length im) (countOf im functions) _
       ∙ after-length (decodedIdentifier im) (identifier-length im) (countOf im identifiers) _
-      ∙ header-length im (zeros 238021)
-      ∙ zeros-length 238021
+      ∙ header-length im (zeros 238534)
+      ∙ zeros-length 238534
 
   -- the records of 64 candidates
   -- before those past the image's own are cut off
@@ -71,7 +71,7 @@ module _ (im : Image) where
   -- the context
   -- "The context is all but state and session"
   abbrev pub lentContext : List ℕ
-  lentContext = decodedContext im (zeros 238021)
+  lentContext = decodedContext im (zeros 238534)
 
   -- the records of the image's own candidates
   -- 98 words each
@@ -82,7 +82,7 @@ module _ (im : Image) where
   -- "the function-expression flag as no", an output list and scratch that are zero
   abbrev pub lentCall : Call
   lentCall =
-      call lentValues lentSets false lentContext (sessionOf im) lentCandidates (placeAt im (lvalue im)) (own im) (zeros 109760) (zeros (1024 + 16 * countOf im identifiers)) (zeros 24834)
+      call lentValues lentSets false lentContext (sessionOf im) lentCandidates (placeAt im (lvalue im)) (own im) (zeros 109760) (zeros (1024 + 16 * countOf im identifiers)) (zeros 25347)
 
   -- it is the call that the image makes
   pub call-is : imageCall im ≡ lentCall
@@ -91,14 +91,14 @@ module _ (im : Image) where
       call (decodedValues im (countOf im values) (zeros (zeros-length 1024 i)))
       (take (16 * countOf im identifiers) (decodedSets im (countOf im pairs) (zeros (zeros-length 8192 i))))
       false
-      (decodedContext im (zeros (zeros-length 238021 i)))
+      (decodedContext im (zeros (zeros-length 238534 i)))
       (sessionOf im)
       (take (98 * countOf im candidates) (decodedCandidates im (countOf im candidates) (zeros (zeros-length 6272 i))))
       (placeAt im (lvalue im))
       (own im)
       (zeros 109760)
       (zeros (1024 + 16 * countOf im identifiers))
-      (zeros 24834)
+      (zeros 25347)
 
   -- ---- of an accepted image
 
@@ -129,13 +129,13 @@ module _ (im : Image) where
 
     -- no list has the wrong length
     -- "1 a lent slice or image has the wrong length"
-    pub lengths-right : lengthsWrong (length lentSets) (wrongContext lentContext lentCandidates) (length lentCandidates) (length (zeros 109760)) (length (zeros (1024 + 16 * countOf im identifiers))) (length (zeros 24834)) ≡ false
+    pub lengths-right : lengthsWrong (length lentSets) (wrongContext lentContext lentCandidates) (length lentCandidates) (length (zeros 109760)) (length (zeros (1024 + 16 * countOf im identifiers))) (length (zeros 25347)) ≡ false
     unfolding lengthsWrong
     lengths-right =
         or-neither (wrongContext lentContext lentCandidates) _ (full-right lentContext lentCandidates context-length)
         (right (length lentCandidates % 98) 0 _ (ap (λ (x : ℕ). x % 98) candidates-length ∙ (let z : 98 * countOf im candidates % 98 ≡ 0 = omega arith in z))
         (right (length (zeros 109760)) 109760 _ (zeros-length 109760)
-        (right (length (zeros 24834)) 24834 _ (zeros-length 24834)
+        (right (length (zeros 25347)) 25347 _ (zeros-length 25347)
         (ap not (eq-eqb (length (zeros (1024 + 16 * countOf im identifiers))) (1024 + length lentSets) (zeros-length (1024 + 16 * countOf im identifiers) ∙ ap (λ (x : ℕ). 1024 + x) (sym sets-length)))))))
       where
         right : (a b : ℕ) (x : Bool) → a ≡ b → x ≡ false → (not (eqb a b) || x) ≡ false

@@ -6,7 +6,7 @@ use mathlib.Core.Logic.{inl, ⊎-elim}
 use mathlib.Core.List.{List}
 use mathlib.Core.Option.{some}
 use lib.ListN.{length, getD, set}
-use lib.Seq.{getD-set-same, set-out}
+use lib.Seq.{getD-set-same, getD-set-other, set-out}
 use Rattle.base_tests.specs.Laws.Order.{lt-or-ge}
 use Rattle.def_effects.specs.Effects.{AliasingEffect}
 use Rattle.def_effects.specs.Keys.{EffectKey, effectKey}
@@ -18,7 +18,8 @@ use Rattle.lent_effects.specs.Records.{putEffect}
 use Rattle.lent_effects.specs.Laws.EffectFrames.{effect-outside}
 use Rattle.lent_keys.specs.Laws.KeyFrames.{key-outside, option-outside}
 use Rattle.lent_layout.specs.Layout as Layout
-use Rattle.lent_context.specs.Lent.{internedCount, effectSpot, placeOf, addEffect, putKey, putLink, makeRead, addDiagnostic}
+use Rattle.lent_keys.specs.KeyRecords as Keys
+use Rattle.lent_context.specs.Lent.{internedCount, effectSpot, placeOf, addEffect, keyCount, keySpot, oneMore, cachedAt, putKey, putLink, makeRead, addDiagnostic}
 use Rattle.lent_context.specs.Laws.ReadMade.{read-keeps}
 use Rattle.lent_world.specs.World.{lent}
 use Rattle.lent_context.specs.Laws.Ordered.{found-under}
@@ -58,8 +59,11 @@ effect-counted c e = ⊎-elim {C = getD (set d Layout.internedCount (n + 1)) Lay
 
 -- a key cached is none
 pub key-counted : (c : List ℕ) (n : ℕ) (k : EffectKey) → internedCount (putKey c n k) ≡ internedCount c
-unfolding internedCount putKey
-key-counted c n k = key-outside Layout.cached c n k Layout.internedCount (inl (omega arith))
+unfolding internedCount putKey cachedAt
+key-counted c n k =
+    getD-set-other (inserted Layout.keyOrder (placeOf (keySpot c k)) n (keyCount c) (Keys.putKey Layout.cached c n k)) Layout.keyCount Layout.internedCount (oneMore (keyCount c)) 0 (λ q. omega arith)
+    ∙ insert-outside Layout.keyOrder (placeOf (keySpot c k)) n (keyCount c) (Keys.putKey Layout.cached c n k) Layout.internedCount (inl (omega arith))
+    ∙ key-outside Layout.cached c n k Layout.internedCount (inl (omega arith))
 
 -- a link is none
 pub link-counted : (c : List ℕ) (v f : ℕ) → internedCount (putLink c v f) ≡ internedCount c

@@ -4,7 +4,10 @@ use Prim.Native.Nat.{ℕ, _+_, _*_, _≤_}
 use native.Mathlib.Omega.{arith}
 use mathlib.Core.Path.{_≡_, refl, sym, ap, ap₂, subst, fun-ext, _∙_}
 use mathlib.Core.List.{List, _++_}
-use mathlib.Core.Option.{some}
+use mathlib.Core.Option.{none, some}
+use mathlib.Core.Bool.{Bool}
+use Rattle.base_tests.specs.Tests.{ite}
+use Rattle.lent_keys.specs.KeyRecords as Keys
 use lib.ListN.{length, set}
 use Rattle.def_effects.specs.Effects.{AliasingEffect}
 use Rattle.def_effects.specs.Keys.{EffectKey, effectKey}
@@ -24,11 +27,11 @@ use Rattle.base_search.specs.Search.{along}
 use Rattle.def_key_order.specs.KeyOrder.{compareKeys}
 use Rattle.lent_layout.specs.Layout as Layout
 use Rattle.lent_copies.specs.Copies.{zeros}
-use Rattle.lent_context.specs.Lent.{internedCount, internedKey, effectSpot, effectAt, placeOf, findEffect, addEffect, putKey, putLink, makeRead, readPlaces, instanceCount, putDiagnostic, addDiagnostic}
+use Rattle.lent_context.specs.Lent.{internedCount, internedKey, effectSpot, effectAt, placeOf, findEffect, addEffect, isKeyed, keyHere, keyCount, keySpot, numberAt, findNumber, oneMore, cachedAt, putKey, putLink, makeRead, readPlaces, instanceCount, putDiagnostic, addDiagnostic}
 use Rattle.lent_context.specs.Abstract.{abstract}
-use Rattle.lent_context.specs.Laws.Abstract.{key-is, number-is, link-is, places-is, inside-is, tracked-is, ref-is, hoisted-is, access-is, name-is, transitive-is, identities-is, identity-is, instance-is}
+use Rattle.lent_context.specs.Laws.Abstract.{key-is, link-is, places-is, inside-is, tracked-is, ref-is, hoisted-is, access-is, name-is, transitive-is, identities-is, identity-is, instance-is}
 use Rattle.lent_world.specs.World.{lent}
-use Rattle.lent_world.specs.Laws.Frames.{interned-same, cached-same, links-same, functions-same, identifiers-same, transitive-same, diagnostics-same}
+use Rattle.lent_world.specs.Laws.Frames.{keyed-same, here-same, interned-same, cached-same, links-same, functions-same, identifiers-same, transitive-same, diagnostics-same}
 use Rattle.laws_room.specs.Room.{size, needs}
 use Rattle.laws_room.specs.Laws.Near.{Padded, ended, beside, besides, Close}
 use Rattle.laws_room.specs.Laws.Steps.{signature-near}
@@ -112,10 +115,41 @@ module _ (room n : ℕ) where
           let k = count-alike p in
           omega arith)
 
+  -- how many numbers have a key
+  keys-alike : {c d : List ℕ} → Short c d → keyCount d ≡ keyCount c
+  unfolding keyCount
+  keys-alike p = word-alike p Layout.keyCount
+
+  -- where the order of the cached keys has a key, or would have it
+  key-spot-alike : {c d : List ℕ} → Short c d → (k : EffectKey) → keySpot d k ≡ keySpot c k
+  unfolding keySpot orderAt
+  key-spot-alike {c} {d} p k = ap₂ along (fun-ext (λ j. ap (compareKeys k) (here-alike j))) (keys-alike p)
+    where
+      here-alike : (j : ℕ) → keyHere d (field Layout.keyOrder d j 0) ≡ keyHere c (field Layout.keyOrder c j 0)
+      here-alike j =
+          ap (keyHere d) (field-alike p Layout.keyOrder j 0)
+          ∙ here-same c d (field Layout.keyOrder c j 0) (field-alike p Layout.cached (field Layout.keyOrder c j 0))
+
+  -- and the number that stands there
+  number-alike : {c d : List ℕ} → Short c d → (k : EffectKey) → findNumber d k ≡ findNumber c k
+  unfolding findNumber orderAt
+  number-alike {c} {d} p k = ap (numberAt d) (key-spot-alike p k) ∙ go (keySpot c k)
+    where
+      go : (s : Spot) → numberAt d s ≡ numberAt c s
+      go (At j) =
+          ap (λ (r : ℕ). ite (isKeyed d r) (some r) none) (field-alike p Layout.keyOrder j 0)
+          ∙ ap (λ (b : Bool). ite b (some (field Layout.keyOrder c j 0)) none) (keyed-same c d (field Layout.keyOrder c j 0) (field-alike p Layout.cached (field Layout.keyOrder c j 0)))
+      go (Before q) = refl
+
   -- a key
   key-pads : {c d : List ℕ} → Short c d → (v : ℕ) (k : EffectKey) → Short (putKey c v k) (putKey d v k)
-  unfolding putKey end
-  key-pads p v k = key-both Layout.cached v Short (before Layout.cached (omega arith) v) _ _ k p
+  unfolding putKey cachedAt end
+  key-pads {c} {d} p v k =
+      subst (λ (m : ℕ). Short (putKey c v k) (set (inserted Layout.keyOrder (placeOf (keySpot d k)) v m (Keys.putKey Layout.cached d v k)) Layout.keyCount (oneMore m))) (sym (keys-alike p))
+      (subst (λ (q : Spot). Short (putKey c v k) (set (inserted Layout.keyOrder (placeOf q) v (keyCount c) (Keys.putKey Layout.cached d v k)) Layout.keyCount (oneMore (keyCount c)))) (sym (key-spot-alike p k))
+      (set-alike
+      (insert-both Layout.keyOrder Short (λ a b q j. field-alike q Layout.keyOrder j 0) (λ a b j x q. before Layout.keyOrder (omega arith) j a b 0 x q) (placeOf (keySpot c k)) v (keyCount c) _ _
+      (key-both Layout.cached v Short (before Layout.cached (omega arith) v) _ _ k p)) Layout.keyCount (oneMore (keyCount c)) (omega arith)))
 
   -- a link
   link-pads : {c d : List ℕ} → Short c d → (v f : ℕ) → Short (putLink c v f) (putLink d v f)
@@ -148,7 +182,7 @@ module _ (room n : ℕ) where
     internedCount = count-alike;
     findEffect = found-alike;
     keyAt = λ {c} {d} p v. key-is d v ∙ ap (λ (x : Context). pure .keyAt x v) (pad-means p) ∙ sym (key-is c v);
-    findNumber = λ {c} {d} p k. number-is d k ∙ ap (λ (x : Context). pure .findNumber x k) (pad-means p) ∙ sym (number-is c k);
+    findNumber = number-alike;
     linkOf = λ {c} {d} p v. link-is d v ∙ ap (λ (x : Context). pure .linkOf x v) (pad-means p) ∙ sym (link-is c v);
     contextOf = λ {c} {d} p f. places-is d f ∙ ap (λ (x : Context). pure .contextOf x f) (pad-means p) ∙ sym (places-is c f);
     mutatedInside = λ {c} {d} p f. inside-is d f ∙ ap (λ (x : Context). pure .mutatedInside x f) (pad-means p) ∙ sym (inside-is c f);

@@ -1,9 +1,8 @@
 -- Every read of a lent context is the one of the plain tables that its words mean: a wrong word or flag is refused here.
--- (The search for an interned effect: `Laws/Ordered.antt`.) Assumes nothing.
+-- (The searches along an order: `Laws/Ordered.antt`, `Laws/Numbered.antt`.) Assumes nothing.
 use Prim.Native.Nat.{ℕ}
 use mathlib.Core.Path.{_≡_, refl}
 use mathlib.Core.List.{List}
-use Rattle.def_effects.specs.Keys.{EffectKey}
 use Rattle.def_transfer.specs.Diagnostics.{Diagnostic}
 use Rattle.def_transfer.specs.Pure.{pure}
 use Rattle.lent_context.specs.Lent as Lent
@@ -13,10 +12,6 @@ module _ (c : List ℕ) where
   pub key-is : (v : ℕ) → Lent.keyAt c v ≡ pure .keyAt (abstract c) v
   unfolding Lent.keyAt
   key-is v = refl
-
-  pub number-is : (k : EffectKey) → Lent.findNumber c k ≡ pure .findNumber (abstract c) k
-  unfolding Lent.findNumber Lent.keyAt
-  number-is k = refl
 
   pub link-is : (v : ℕ) → Lent.linkOf c v ≡ pure .linkOf (abstract c) v
   unfolding Lent.linkOf

@@ -100,7 +100,7 @@ module _ (c : List ℕ) (o : Ordered c) (k : EffectKey) where
   first-under = go (effectSpot c k) says
     where
       go : (s : Spot) → Says keys (internedKey c) (orderAt Layout.effectOrder c) (internedCount c) (o .ascends) (o .inside) k s → effectAt c s ≡ firstUnder (effectsIn Layout.interned c 0 (internedCount c)) k
-      go (At j) h = sym (first-at Layout.interned c k 0 (internedCount c) (orderAt Layout.effectOrder c j) (omega arith) (let z = h .1 in omega arith) (h .0) (λ s l e. h .2 s (omega arith) e))
+      go (At j) h = sym (first-at Layout.interned c k 0 (internedCount c) (orderAt Layout.effectOrder c j) (omega arith) (let z = o .inside j (h .1) in omega arith) (h .0) (λ s l e. h .2 s (omega arith) e))
       go (Before p) h = sym (first-none Layout.interned c k 0 (internedCount c) (λ s l e. h .1 s (omega arith) e))
 
   -- the search of a context in order is the plain one

@@ -82,7 +82,7 @@ module _ (f i : ℕ) where
   made p = record { identifier = p .identifier; effect = elim (eqb (p .identifier) i && eqb (p .effect) Capture) [ true ↦ Read | false ↦ p .effect ]; reactive = p .reactive; span = p .span }
 
   -- the place itself
-  read-at : (k : ℕ) (c : List ℕ) → length c ≡ 238021 → placeIn Layout.contexts (readPlace f i k c) f (k * 5) ≡ made (placeIn Layout.contexts c f (k * 5))
+  read-at : (k : ℕ) (c : List ℕ) → length c ≡ 238534 → placeIn Layout.contexts (readPlace f i k c) f (k * 5) ≡ made (placeIn Layout.contexts c f (k * 5))
   unfolding readPlace placeIn
   read-at k c long = go (test c k) (λ e. capture-within c f (k * 5 + 1) (and-second (eqb (field Layout.contexts c f (k * 5)) i) _ e))
     where
@@ -106,7 +106,7 @@ module _ (f i : ℕ) where
   places-from c d a k (suc n) l h =
       ap₂ (λ (p : Place) (ps : List Place). p ∷ ps) (place-same Layout.contexts f c d (0 + k * 5) (λ v x y. h v (omega arith))) (places-from c d a (suc k) n (omega arith) h)
 
-  reads-at : (k n : ℕ) (c : List ℕ) → length c ≡ 238021 → placesIn Layout.contexts (readPlaces f i k n c) f 0 k n ≡ readOnly i (placesIn Layout.contexts c f 0 k n)
+  reads-at : (k n : ℕ) (c : List ℕ) → length c ≡ 238534 → placesIn Layout.contexts (readPlaces f i k n c) f 0 k n ≡ readOnly i (placesIn Layout.contexts c f 0 k n)
   unfolding placesIn readPlaces readOnly
   reads-at k zero c long = refl
   reads-at k (suc n) c long =
@@ -121,6 +121,6 @@ module _ (f i : ℕ) where
   pub read-other : (c : List ℕ) (g : ℕ) → ¬ (f ≡ g) → (v : ℕ) → field Layout.contexts (makeRead c f i) g v ≡ field Layout.contexts c g v
   read-other c g n v = read-keeps f i (λ (d : List ℕ). field Layout.contexts d g v ≡ field Layout.contexts c g v) (λ d k x h. put-record Layout.contexts d f (k * 5 + 1) x g v n ∙ h) c refl
 
-  pub read-made : (c : List ℕ) → length c ≡ 238021 → placesIn Layout.contexts (makeRead c f i) f 0 0 (field Layout.functions c f 1) ≡ readOnly i (placesIn Layout.contexts c f 0 0 (field Layout.functions c f 1))
+  pub read-made : (c : List ℕ) → length c ≡ 238534 → placesIn Layout.contexts (makeRead c f i) f 0 0 (field Layout.functions c f 1) ≡ readOnly i (placesIn Layout.contexts c f 0 0 (field Layout.functions c f 1))
   unfolding makeRead
   read-made c long = reads-at 0 (field Layout.functions c f 1) c long

@@ -3,12 +3,12 @@ use Prim.Native.Nat.{ℕ, suc, _+_, _-_, _≤_, _<_}
 use native.Mathlib.Omega.{arith}
 use native.Mathlib.Numerals.{add-one}
 use mathlib.Core.Path.{_≡_, refl, sym, ap, ap₂, _∙_}
-use mathlib.Core.Bool.{Bool, true, false, _&&_}
+use mathlib.Core.Bool.{Bool, true, false, not, _&&_}
 use mathlib.Core.List.{List, [], _∷_}
 use mathlib.Core.Option.{Option, none, some}
 use lib.Dec.{eqb}
-use lib.ListN.{getD}
-use borrow.Author.Tests.{ne-eqb}
+use lib.ListN.{getD, set}
+use borrow.Author.Tests.{eq-eqb, ne-eqb}
 use Rattle.def_effects.specs.declared.Place.{Place}
 use Rattle.def_effects.specs.Places.{identifiers}
 use Rattle.def_effects.specs.Effects.{AliasingEffect, Freeze, Mutate, MutateConditionally, MutateTransitive, MutateTransitiveConditionally, Capture, Alias, MaybeAlias, Assign, Create, CreateFrom, ImmutableCapture, CreateFunction, MutateFrozen, MutateGlobal, Impure, Render, codeOf}
@@ -21,7 +21,12 @@ use Rattle.lent_keys.specs.declared.Key.{Key}
 use Rattle.lent_keys.specs.KeyRecords.{keyWith, keyIn}
 use Rattle.lent_keys.specs.KeyRecords as Keys
 use Rattle.lent_layout.specs.Layout as Layout
-use Rattle.lent_context.specs.Lent.{effectsIn, internedCount, findEffect, keyAt, findNumber, putKey}
+use Rattle.lent_context.specs.Lent.{effectsIn, internedCount, findEffect, isKeyed, keyCount, numberAt, oneMore, cachedAt}
+use Rattle.lent_order.specs.Order.{orderAt, inserted}
+use Rattle.base_tests.specs.Laws.Choice.{ite-lt, ite-ge}
+use Rattle.lent_tables.specs.Words.{field}
+use Rattle.base_tests.specs.Tests.{ite}
+use Rattle.base_search.specs.declared.Spot.the-variants.{At}
 
 -- ---- interned effects
 
@@ -62,45 +67,36 @@ pub search-none : (k : EffectKey) → firstUnder [] k ≡ none
 unfolding firstUnder
 search-none k = refl
 
--- ---- the search of cached numbers
+-- ---- cached numbers
 
-module _ (c : List ℕ) (key : EffectKey) (n : ℕ) where
-  -- the numbers that are left, with one to look at
-  numbers-more : n < 512 → firstCached (512 - n) n (keyAt c) key ≡ elim (isKey key (keyAt c n)) as (λ x. Option ℕ) [ true ↦ some n | false ↦ firstCached (512 - (n + 1)) (n + 1) (keyAt c) key ]
-  unfolding firstCached
-  numbers-more l =
-      let m : 512 - n ≡ suc (512 - (n + 1)) = omega arith in
-      ap (λ (z : ℕ). firstCached z n (keyAt c) key) m
-      ∙ ap (λ (z : ℕ). elim (isKey key (keyAt c n)) as (λ x. Option ℕ) [ true ↦ some n | false ↦ firstCached (512 - (n + 1)) z (keyAt c) key ]) (sym (add-one n))
+-- the count of numbers with a key is a word
+pub keys-counted : (c : List ℕ) (x : ℕ) → x ≡ getD c 37317 0 → x ≡ keyCount c
+unfolding keyCount
+keys-counted c x e = e
 
-  -- the key that the code reads is the number's
-  key-read : (b : Bool) (i : ℕ) → i ≡ n → b ≡ isKey key (keyIn Layout.cached c i) → isKey key (keyAt c n) ≡ b
-  unfolding keyAt
-  key-read b i e h = ap (λ (j : ℕ). isKey key (keyIn Layout.cached c j)) (sym e) ∙ sym h
+-- the number at a place of the order: one with a key, or none
+pub number-there : (c : List ℕ) (j r w : ℕ) → r ≡ orderAt Layout.keyOrder c j → w ≡ field Layout.cached c r 0 → (w ≡ 0 → ⊥) → some r ≡ numberAt c (At j)
+unfolding isKeyed
+number-there c j r w e h n =
+    sym (ap (λ (x : ℕ). ite (not (eqb (field Layout.cached c x 0) 0)) (some x) none) (sym e) ∙ ap (λ (b : Bool). ite (not b) (some r) none) (ne-eqb (field Layout.cached c r 0) 0 (λ z. n (h ∙ z))))
 
-  -- a turn passes over number n
-  pub number-passed : (b : Bool) (i : ℕ) → n < 512 → i ≡ n → b ≡ isKey key (keyIn Layout.cached c i) → b ≡ false
-      → firstCached (512 - n) n (keyAt c) key ≡ firstCached (512 - (n + 1)) (n + 1) (keyAt c) key
-  number-passed b i l e h z =
-      numbers-more l
-      ∙ ap (λ (t : Bool). elim t as (λ x. Option ℕ) [ true ↦ some n | false ↦ firstCached (512 - (n + 1)) (n + 1) (keyAt c) key ]) (key-read b i e h ∙ z)
+pub number-nowhere : (c : List ℕ) (j r w : ℕ) → r ≡ orderAt Layout.keyOrder c j → w ≡ field Layout.cached c r 0 → w ≡ 0 → none ≡ numberAt c (At j)
+unfolding isKeyed
+number-nowhere c j r w e h z =
+    sym (ap (λ (x : ℕ). ite (not (eqb (field Layout.cached c x 0) 0)) (some x) none) (sym e) ∙ ap (λ (b : Bool). ite (not b) (some r) none) (eq-eqb (field Layout.cached c r 0) 0 (sym h ∙ z)))
 
-  module _ (inv : firstCached (512 - 1) 1 (keyAt c) key ≡ firstCached (512 - n) n (keyAt c) key) where
-    -- the search ends at number n
-    pub number-found : (b : Bool) (i : ℕ) → n < 512 → i ≡ n → b ≡ isKey key (keyIn Layout.cached c i) → b ≡ true → some n ≡ findNumber c key
-    unfolding findNumber
-    number-found b i l e h z =
-        sym (inv ∙ numbers-more l
-        ∙ ap (λ (t : Bool). elim t as (λ x. Option ℕ) [ true ↦ some n | false ↦ firstCached (512 - (n + 1)) (n + 1) (keyAt c) key ]) (key-read b i e h ∙ z))
+-- one more, as far as a word can count
+pub more-one : (n : ℕ) → n < 4294967295 → n + 1 ≡ oneMore n
+unfolding oneMore
+more-one n h = add-one n ∙ sym (ite-lt n 4294967295 (suc n) n h)
 
-    -- the search ends without a number
-    pub number-nowhere : 512 ≤ n → none ≡ findNumber c key
-    unfolding findNumber firstCached
-    number-nowhere l =
-        let m : 512 - n ≡ 0 = omega arith in
-        sym (inv ∙ ap (λ (z : ℕ). firstCached z n (keyAt c) key) m)
+pub more-none : (n : ℕ) → 4294967295 ≤ n → n ≡ oneMore n
+unfolding oneMore
+more-none n h = sym (ite-ge n 4294967295 (suc n) n h)
 
--- a number gets a key
-pub key-put : (c d : List ℕ) (n : ℕ) (key : EffectKey) (i : ℕ) → i ≡ n → d ≡ Keys.putKey Layout.cached c i key → d ≡ putKey c n key
-unfolding putKey
-key-put c d n key i e h = h ∙ ap (λ (j : ℕ). Keys.putKey Layout.cached c j key) e
+-- a number cached at a place of the order
+pub put-cached : (c d e f : List ℕ) (p n i k m : ℕ) (key : EffectKey) → i ≡ n → k ≡ keyCount c → d ≡ Keys.putKey Layout.cached c i key → e ≡ inserted Layout.keyOrder p n k d → m ≡ oneMore k → f ≡ set e 37317 m → f ≡ cachedAt c p n key
+unfolding cachedAt
+put-cached c d e f p n i k m key hi hk hd he hm hf =
+    hf ∙ ap₂ (λ (l : List ℕ) (x : ℕ). set l 37317 x)
+    (he ∙ ap₂ (λ (x : ℕ) (l : List ℕ). inserted Layout.keyOrder p n x l) hk (hd ∙ ap (λ (j : ℕ). Keys.putKey Layout.cached c j key) hi)) (hm ∙ ap oneMore hk)

@@ -4,12 +4,13 @@ use Prim.Native.Nat.{_-_, _≤_}
 use mathlib.Core.Path.{_≡_, sym, _∙_}
 use Rattle.base_search.specs.Comparings.{compareLists}
 use Rattle.lent_keys.specs.KeyRecords.{numbersIn}
-use Rattle.lent_key_order.specs.Laws.Runs.{left, left-all, second-done, one-less, one-more, one-same, first-done, both-done}
+use Rattle.lent_key_order.specs.Laws.Runs.{left, left-all, second-done, past-both, one-less, one-more, one-same, first-done, both-done}
 use Rattle.lent_key_order.proofs.compare_runs.Statement.{statement}
 use Rattle.lent_key_order.proofs.compare_runs.Tie as tie
 use Rattle.lent_key_order.proofs.compare_runs.Reads as reads
 use Rattle.lent_key_order.proofs.compare_runs.Lts as lts
 use Rattle.base_search.proofs.compare_numbers.Reads as compare-numbers-reads
+use Rattle.lent_key_order.proofs.is_past.Reads as is-past-reads
 use Rattle.lent_keys.proofs.number_in.Reads as number-in-reads
 
 abbrev Inv-loop : tie.InvT-loop
@@ -24,20 +25,29 @@ loop-holds c = (omega arith, left-all (c .before .before .args .t) (c .before .b
 returns : tie.Need-returns Inv-loop μ-loop
 returns c = second-done (c .before .before .before .before .before .args .t) (c .before .before .before .before .before .args .xs .now) (c .before .before .before .before .before .args .i) (c .before .before .before .before .before .args .w) (c .before .before .before .before .before .args .s) (c .before .before .before .before .before .args .u) (c .before .before .before .before .before .args .ys .now) (c .before .before .before .before .before .args .j) (c .before .before .before .before .before .args .v) (c .before .before .before .before .before .args .r) (c .before .before .loop .k) (c .before .before .before .before .before .args .n) (c .before .before .before .before .before .args .m) (c .before .loop-test .taken) (c .if1 .taken) ∙ sym (c .before .before .loop .inv .1)
 
+is-past-requires : tie.Need-is-past-requires Inv-loop μ-loop
+is-past-requires c κs = search needs
+
+compare-numbers-requires : tie.Need-compare-numbers-requires Inv-loop μ-loop
+compare-numbers-requires c κs = search needs
+
+returns-2 : tie.Need-returns-2 Inv-loop μ-loop
+returns-2 c = past-both (c .before .before .before .before .before .before .before .before .args .t) (c .before .before .before .before .before .before .before .before .args .xs .now) (c .before .before .before .before .before .before .before .before .args .i) (c .before .before .before .before .before .before .before .before .args .w) (c .before .before .before .before .before .before .before .before .args .s) (c .before .before .before .before .before .before .before .before .args .u) (c .before .before .before .before .before .before .before .before .args .ys .now) (c .before .before .before .before .before .before .before .before .args .j) (c .before .before .before .before .before .before .before .before .args .v) (c .before .before .before .before .before .before .before .before .args .r) (c .before .before .before .before .before .loop .k) (c .before .before .before .before .before .before .before .before .args .n) (c .before .before .before .before .before .before .before .before .args .m) _ (c .before .before .before .before .loop-test .taken) (c .before .before .before .if1 .left) (c .before .before .is-past .ensures (c .before .if2 .taken)) (c .compare-numbers .ensures) ∙ sym (c .before .before .before .before .before .loop .inv .1)
+
 number-in-requires : tie.Need-number-in-requires Inv-loop μ-loop
 number-in-requires c κs = search needs
 
 number-in-requires-2 : tie.Need-number-in-requires-2 Inv-loop μ-loop
 number-in-requires-2 c κs = search needs
 
-compare-numbers-requires : tie.Need-compare-numbers-requires Inv-loop μ-loop
-compare-numbers-requires c κs = search needs
+compare-numbers-requires-2 : tie.Need-compare-numbers-requires-2 Inv-loop μ-loop
+compare-numbers-requires-2 c κs = search needs
 
 enum-told : tie.Need-enum-told Inv-loop μ-loop
 enum-told c = search needs
 
-returns-2 : tie.Need-returns-2 Inv-loop μ-loop
-returns-2 c = one-less (c .before .before .before .before .before .before .before .before .before .before .args .t) (c .before .before .before .before .before .before .before .before .before .before .args .xs .now) (c .before .before .before .before .before .before .before .before .before .before .args .i) (c .before .before .before .before .before .before .before .before .before .before .args .w) (c .before .before .before .before .before .before .before .before .before .before .args .s) (c .before .before .before .before .before .before .before .before .before .before .args .u) (c .before .before .before .before .before .before .before .before .before .before .args .ys .now) (c .before .before .before .before .before .before .before .before .before .before .args .j) (c .before .before .before .before .before .before .before .before .before .before .args .v) (c .before .before .before .before .before .before .before .before .before .before .args .r) (c .before .before .before .before .before .before .before .loop .k) (c .before .before .before .before .before .before .before .before .before .before .args .n) (c .before .before .before .before .before .before .before .before .before .before .args .m) (c .before .before .before .before .before .before .loop-test .taken) (c .before .before .before .before .before .if1 .left) _ _ (c .before .before .before .before .number-in .ensures) (c .before .before .before .number-in2 .ensures) _ (c .before .before .compare-numbers .ensures) (c .enum-told .given .1) ∙ sym (c .before .before .before .before .before .before .before .loop .inv .1)
+returns-3 : tie.Need-returns-3 Inv-loop μ-loop
+returns-3 c = one-less (c .before .before .before .before .before .before .before .before .before .before .before .before .args .t) (c .before .before .before .before .before .before .before .before .before .before .before .before .args .xs .now) (c .before .before .before .before .before .before .before .before .before .before .before .before .args .i) (c .before .before .before .before .before .before .before .before .before .before .before .before .args .w) (c .before .before .before .before .before .before .before .before .before .before .before .before .args .s) (c .before .before .before .before .before .before .before .before .before .before .before .before .args .u) (c .before .before .before .before .before .before .before .before .before .before .before .before .args .ys .now) (c .before .before .before .before .before .before .before .before .before .before .before .before .args .j) (c .before .before .before .before .before .before .before .before .before .before .before .before .args .v) (c .before .before .before .before .before .before .before .before .before .before .before .before .args .r) (c .before .before .before .before .before .before .before .before .before .loop .k) (c .before .before .before .before .before .before .before .before .before .before .before .before .args .n) (c .before .before .before .before .before .before .before .before .before .before .before .before .args .m) (c .before .before .before .before .before .before .before .before .loop-test .taken) (c .before .before .before .before .before .before .before .if1 .left) _ _ (c .before .before .before .before .number-in .ensures) (c .before .before .before .number-in2 .ensures) _ (c .before .before .compare-numbers2 .ensures) (c .enum-told .given .1) ∙ sym (c .before .before .before .before .before .before .before .before .before .loop .inv .1)
 
 enum-told-2 : tie.Need-enum-told-2 Inv-loop μ-loop
 enum-told-2 c = search needs
@@ -49,19 +59,19 @@ loop-less : tie.Need-loop-less Inv-loop μ-loop
 loop-less c = omega arith
 
 loop-again : tie.Need-loop-again Inv-loop μ-loop
-loop-again c = (omega arith, c .before .before .before .before .before .before .before .loop .inv .1 ∙ one-same (c .before .before .before .before .before .before .before .before .before .before .args .t) (c .before .before .before .before .before .before .before .before .before .before .args .xs .now) (c .before .before .before .before .before .before .before .before .before .before .args .i) (c .before .before .before .before .before .before .before .before .before .before .args .w) (c .before .before .before .before .before .before .before .before .before .before .args .s) (c .before .before .before .before .before .before .before .before .before .before .args .u) (c .before .before .before .before .before .before .before .before .before .before .args .ys .now) (c .before .before .before .before .before .before .before .before .before .before .args .j) (c .before .before .before .before .before .before .before .before .before .before .args .v) (c .before .before .before .before .before .before .before .before .before .before .args .r) (c .before .before .before .before .before .before .before .loop .k) (c .before .before .before .before .before .before .before .before .before .before .args .n) (c .before .before .before .before .before .before .before .before .before .before .args .m) (c .before .before .before .before .before .before .loop-test .taken) (c .before .before .before .before .before .if1 .left) _ _ (c .before .before .before .before .number-in .ensures) (c .before .before .before .number-in2 .ensures) _ (c .before .before .compare-numbers .ensures) (c .enum-told2 .given .1))
+loop-again c = (omega arith, c .before .before .before .before .before .before .before .before .before .loop .inv .1 ∙ one-same (c .before .before .before .before .before .before .before .before .before .before .before .before .args .t) (c .before .before .before .before .before .before .before .before .before .before .before .before .args .xs .now) (c .before .before .before .before .before .before .before .before .before .before .before .before .args .i) (c .before .before .before .before .before .before .before .before .before .before .before .before .args .w) (c .before .before .before .before .before .before .before .before .before .before .before .before .args .s) (c .before .before .before .before .before .before .before .before .before .before .before .before .args .u) (c .before .before .before .before .before .before .before .before .before .before .before .before .args .ys .now) (c .before .before .before .before .before .before .before .before .before .before .before .before .args .j) (c .before .before .before .before .before .before .before .before .before .before .before .before .args .v) (c .before .before .before .before .before .before .before .before .before .before .before .before .args .r) (c .before .before .before .before .before .before .before .before .before .loop .k) (c .before .before .before .before .before .before .before .before .before .before .before .before .args .n) (c .before .before .before .before .before .before .before .before .before .before .before .before .args .m) (c .before .before .before .before .before .before .before .before .loop-test .taken) (c .before .before .before .before .before .before .before .if1 .left) _ _ (c .before .before .before .before .number-in .ensures) (c .before .before .before .number-in2 .ensures) _ (c .before .before .compare-numbers2 .ensures) (c .enum-told2 .given .1))
 
 enum-told-3 : tie.Need-enum-told-3 Inv-loop μ-loop
 enum-told-3 c = search needs
 
-returns-3 : tie.Need-returns-3 Inv-loop μ-loop
-returns-3 c = one-more (c .before .before .before .before .before .before .before .before .before .before .args .t) (c .before .before .before .before .before .before .before .before .before .before .args .xs .now) (c .before .before .before .before .before .before .before .before .before .before .args .i) (c .before .before .before .before .before .before .before .before .before .before .args .w) (c .before .before .before .before .before .before .before .before .before .before .args .s) (c .before .before .before .before .before .before .before .before .before .before .args .u) (c .before .before .before .before .before .before .before .before .before .before .args .ys .now) (c .before .before .before .before .before .before .before .before .before .before .args .j) (c .before .before .before .before .before .before .before .before .before .before .args .v) (c .before .before .before .before .before .before .before .before .before .before .args .r) (c .before .before .before .before .before .before .before .loop .k) (c .before .before .before .before .before .before .before .before .before .before .args .n) (c .before .before .before .before .before .before .before .before .before .before .args .m) (c .before .before .before .before .before .before .loop-test .taken) (c .before .before .before .before .before .if1 .left) _ _ (c .before .before .before .before .number-in .ensures) (c .before .before .before .number-in2 .ensures) _ (c .before .before .compare-numbers .ensures) (c .enum-told3 .given .1) ∙ sym (c .before .before .before .before .before .before .before .loop .inv .1)
-
 returns-4 : tie.Need-returns-4 Inv-loop μ-loop
-returns-4 c = first-done (c .before .before .before .before .before .args .t) (c .before .before .before .before .before .args .xs .now) (c .before .before .before .before .before .args .i) (c .before .before .before .before .before .args .w) (c .before .before .before .before .before .args .s) (c .before .before .before .before .before .args .u) (c .before .before .before .before .before .args .ys .now) (c .before .before .before .before .before .args .j) (c .before .before .before .before .before .args .v) (c .before .before .before .before .before .args .r) (c .before .before .loop .k) (c .before .before .before .before .before .args .n) (c .before .before .before .before .before .args .m) (c .before .loop-test .left) (omega arith) ∙ sym (c .before .before .loop .inv .1)
+returns-4 c = one-more (c .before .before .before .before .before .before .before .before .before .before .before .before .args .t) (c .before .before .before .before .before .before .before .before .before .before .before .before .args .xs .now) (c .before .before .before .before .before .before .before .before .before .before .before .before .args .i) (c .before .before .before .before .before .before .before .before .before .before .before .before .args .w) (c .before .before .before .before .before .before .before .before .before .before .before .before .args .s) (c .before .before .before .before .before .before .before .before .before .before .before .before .args .u) (c .before .before .before .before .before .before .before .before .before .before .before .before .args .ys .now) (c .before .before .before .before .before .before .before .before .before .before .before .before .args .j) (c .before .before .before .before .before .before .before .before .before .before .before .before .args .v) (c .before .before .before .before .before .before .before .before .before .before .before .before .args .r) (c .before .before .before .before .before .before .before .before .before .loop .k) (c .before .before .before .before .before .before .before .before .before .before .before .before .args .n) (c .before .before .before .before .before .before .before .before .before .before .before .before .args .m) (c .before .before .before .before .before .before .before .before .loop-test .taken) (c .before .before .before .before .before .before .before .if1 .left) _ _ (c .before .before .before .before .number-in .ensures) (c .before .before .before .number-in2 .ensures) _ (c .before .before .compare-numbers2 .ensures) (c .enum-told3 .given .1) ∙ sym (c .before .before .before .before .before .before .before .before .before .loop .inv .1)
 
 returns-5 : tie.Need-returns-5 Inv-loop μ-loop
-returns-5 c = both-done (c .before .before .before .before .before .args .t) (c .before .before .before .before .before .args .xs .now) (c .before .before .before .before .before .args .i) (c .before .before .before .before .before .args .w) (c .before .before .before .before .before .args .s) (c .before .before .before .before .before .args .u) (c .before .before .before .before .before .args .ys .now) (c .before .before .before .before .before .args .j) (c .before .before .before .before .before .args .v) (c .before .before .before .before .before .args .r) (c .before .before .loop .k) (c .before .before .before .before .before .args .n) (c .before .before .before .before .before .args .m) (c .before .loop-test .left) (omega arith) ∙ sym (c .before .before .loop .inv .1)
+returns-5 c = first-done (c .before .before .before .before .before .args .t) (c .before .before .before .before .before .args .xs .now) (c .before .before .before .before .before .args .i) (c .before .before .before .before .before .args .w) (c .before .before .before .before .before .args .s) (c .before .before .before .before .before .args .u) (c .before .before .before .before .before .args .ys .now) (c .before .before .before .before .before .args .j) (c .before .before .before .before .before .args .v) (c .before .before .before .before .before .args .r) (c .before .before .loop .k) (c .before .before .before .before .before .args .n) (c .before .before .before .before .before .args .m) (c .before .loop-test .left) (omega arith) ∙ sym (c .before .before .loop .inv .1)
+
+returns-6 : tie.Need-returns-6 Inv-loop μ-loop
+returns-6 c = both-done (c .before .before .before .before .before .args .t) (c .before .before .before .before .before .args .xs .now) (c .before .before .before .before .before .args .i) (c .before .before .before .before .before .args .w) (c .before .before .before .before .before .args .s) (c .before .before .before .before .before .args .u) (c .before .before .before .before .before .args .ys .now) (c .before .before .before .before .before .args .j) (c .before .before .before .before .before .args .v) (c .before .before .before .before .before .args .r) (c .before .before .loop .k) (c .before .before .before .before .before .args .n) (c .before .before .before .before .before .args .m) (c .before .loop-test .left) (omega arith) ∙ sym (c .before .before .loop .inv .1)
 
 pub compare-runs-spec : {M : Type 1} → statement M
 compare-runs-spec =
@@ -71,16 +81,19 @@ compare-runs-spec =
     μ-loop
     loop-holds
     returns
+    is-past-requires
+    compare-numbers-requires
+    returns-2
     number-in-requires
     number-in-requires-2
-    compare-numbers-requires
+    compare-numbers-requires-2
     enum-told
-    returns-2
+    returns-3
     enum-told-2
     add-k
     loop-less
     loop-again
     enum-told-3
-    returns-3
     returns-4
-    returns-5)
+    returns-5
+    returns-6)

@@ -21,7 +21,7 @@ use Rattle.lent_key_order.specs.Heads.{compareHeads}
 
 -- ---- numbers that may be absent
 
-both-suc : (x y : ℕ) → compareNumbers (suc x) (suc y) ≡ compareNumbers x y
+pub both-suc : (x y : ℕ) → compareNumbers (suc x) (suc y) ≡ compareNumbers x y
 both-suc x y = ⊎-elim
     (λ h. less-is (suc x) (suc y) (omega arith) ∙ sym (less-is x y h))
     (λ h. ⊎-elim

@@ -22,10 +22,10 @@ pub option-cong : (t : Table) (c d : List ℕ) (i w : ℕ) → ((v : ℕ) → fi
 unfolding optionIn
 option-cong t c d i w h = λ j. ite (eqb (h w j) 0) none (some (h (w + 1) j))
 
--- and the same key
-pub key-cong : (t : Table) (c d : List ℕ) (i : ℕ) → ((v : ℕ) → field t d i v ≡ field t c i v) → keyIn t d i ≡ keyIn t c i
-unfolding keyIn keyHeadIn
-key-cong t c d i h = λ j. ite (eqb (h 0 j) 0) none (some (record {
+-- and the same words of a key
+pub head-cong : (t : Table) (c d : List ℕ) (i : ℕ) → ((v : ℕ) → field t d i v ≡ field t c i v) → keyHeadIn t d i (numbersIn t d i 12 1 0 (field t d i 11)) ≡ keyHeadIn t c i (numbersIn t c i 12 1 0 (field t c i 11))
+unfolding keyHeadIn
+head-cong t c d i h = λ j. record {
   code = h 1 j;
   from = option-cong t c d i 2 h j;
   into = option-cong t c d i 4 h j;
@@ -34,7 +34,12 @@ key-cong t c d i h = λ j. ite (eqb (h 0 j) 0) none (some (record {
   function = option-cong t c d i 8 h j;
   identity = h 10 j;
   captures = (numbers-cong t c d i 12 1 0 (field t d i 11) h ∙ ap (numbersIn t c i 12 1 0) (h 11)) j;
-}))
+}
+
+-- and the same key
+pub key-cong : (t : Table) (c d : List ℕ) (i : ℕ) → ((v : ℕ) → field t d i v ≡ field t c i v) → keyIn t d i ≡ keyIn t c i
+unfolding keyIn
+key-cong t c d i h = λ j. ite (eqb (h 0 j) 0) none (some (head-cong t c d i h j))
 
 -- ---- what a write of a key leaves
 

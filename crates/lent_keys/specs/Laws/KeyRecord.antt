@@ -1,30 +1,25 @@
--- A key as a record of words: compared with that of another record, read, written. Assumes nothing.
+-- A key as a record of words: its captures, read, written. Assumes nothing.
 use Prim.Native.Nat.{ℕ, suc, _+_, _-_, _*_, _≤_, _<_}
 use mathlib.Core.Path.{_≡_, sym, ap, ap₂, _∙_}
-use mathlib.Core.Bool.{Bool, true, false, not}
+use mathlib.Core.Bool.{Bool, true}
 use mathlib.Core.List.{List, []}
-use mathlib.Core.Option.{none, some}
 use native.Mathlib.Omega.{arith}
 use lib.ListN.{length}
-use Rattle.base_tests.specs.Laws.Bool.{not-true, not-false}
 use Rattle.base_tests.specs.Tests.{ite}
-use Rattle.base_tests.specs.Laws.Choice.{ite-eq, ite-ne}
 use Rattle.def_effects.specs.declared.Place.{Place}
 use Rattle.def_effects.specs.Places.{identifiers}
-use Rattle.def_effects.specs.Keys.{EffectKey, effectKey, eqList, eqKey}
+use Rattle.def_effects.specs.Keys.{effectKey}
 use Rattle.lent_tables.specs.declared.Table.{Table}
 use Rattle.lent_tables.specs.Words.{field, putField}
-use Rattle.def_transfer.specs.Pure.{isKey}
 use Rattle.lent_effects.specs.declared.AliasingEffect.{AliasingEffect as Head}
 use Rattle.lent_effects.specs.Records.{countedPlaces, capturesOf, effectWith, headIn, effectIn}
 use Rattle.lent_keys.specs.declared.Found.{Found}
 use Rattle.lent_keys.specs.declared.Key.{Key}
-use Rattle.lent_keys.specs.KeyRecords.{optionOf, keyWith, sameHead, numbersIn, putNumbers, optionIn, putOption, keyHeadIn, keyIn, putHead, putKey}
-use Rattle.lent_keys.specs.Laws.SameKey.{keys-differ, keys-captures}
+use Rattle.lent_keys.specs.KeyRecords.{optionOf, keyWith, numbersIn, putNumbers, optionIn, putOption, keyHeadIn, putHead, putKey}
 use Rattle.lent_keys.specs.Laws.Number.{numbers-more, numbers-none, numbers-all, numbers-count, numbers-taken, places-numbers}
 use Rattle.lent_layout.specs.Layout.{oneRun}
 
--- ---- a key compared with that of a record
+-- ---- the captures of a key
 
 -- the identifiers of the captures beside a key, of those that it takes
 pub taken-numbers : (b : Bool) (ws : List ℕ) (x n : ℕ) → x ≡ field oneRun ws 0 0 → n ≡ ite b x 0 → ite b (identifiers (capturesOf ws)) [] ≡ numbersIn oneRun ws 0 1 5 0 n
@@ -42,26 +37,12 @@ record-numbers b t c i x n h e =
     ∙ numbers-taken t c i 18 5 b (field t c i 17)
     ∙ ap (numbersIn t c i 18 5 0) (sym (e ∙ ap (λ (y : ℕ). ite b y 0) h))
 
-module _ (t : Table) (c : List ℕ) (i : ℕ) (key other : Key) (ws : List ℕ) (e : Head)
+module _ (t : Table) (c : List ℕ) (i : ℕ) (other : Key) (e : Head)
     (g : e ≡ headIn t c i) (h : (cs : List Place) → keyWith other (identifiers cs) ≡ effectKey (effectWith e cs)) where
   -- the key of a record's effect
   pub effect-key : keyWith other (identifiers (countedPlaces t c i 17)) ≡ effectKey (effectIn t c i)
   unfolding effectIn
   effect-key = h (countedPlaces t c i 17) ∙ ap (λ (x : Head). effectKey (effectWith x (countedPlaces t c i 17))) g
-
-  -- the record's effect has another key
-  pub effect-differs : (x : Bool) → x ≡ sameHead key other → not x ≡ true → false ≡ eqKey (keyWith key (identifiers (capturesOf ws))) (effectKey (effectIn t c i))
-  effect-differs x p n =
-      keys-differ key other (identifiers (capturesOf ws)) (identifiers (countedPlaces t c i 17)) (sym p ∙ not-true x n)
-      ∙ ap (eqKey (keyWith key (identifiers (capturesOf ws)))) effect-key
-
-  -- the record's effect has the key where the captures are the same
-  pub effect-compared : (x r : Bool) (y n z m : ℕ) → x ≡ sameHead key other → not x ≡ false → y ≡ field oneRun ws 0 0 → n ≡ ite (key .captured) y 0 → z ≡ field t c i 17 → m ≡ ite (other .captured) z 0
-      → r ≡ eqList (numbersIn oneRun ws 0 1 5 0 n) (numbersIn t c i 18 5 0 m) → r ≡ eqKey (keyWith key (identifiers (capturesOf ws))) (effectKey (effectIn t c i))
-  effect-compared x r y n z m p q hy hn hz hm k =
-      keys-captures key other (identifiers (capturesOf ws)) (identifiers (countedPlaces t c i 17)) r (sym p ∙ not-false x q)
-      (k ∙ sym (ap₂ eqList (taken-numbers (key .captured) ws y n hy hn) (record-numbers (other .captured) t c i z m hz hm)))
-      ∙ ap (eqKey (keyWith key (identifiers (capturesOf ws)))) effect-key
 
 -- ---- a key as a record
 
@@ -80,42 +61,6 @@ reads-head t c i n k r d f o g h1 h2 h3 h4 h5 h6 h7 is = λ j. record {
   identity = h7 j;
   captures = is;
 }
-
--- a record without a key
--- its first word is 0
-pub no-key : (t : Table) (c : List ℕ) (i x : ℕ) (key : EffectKey) → x ≡ field t c i 0 → x ≡ 0 → false ≡ isKey key (keyIn t c i)
-unfolding keyIn isKey
-no-key t c i x key h z = sym (ap (isKey key) (ite-eq (field t c i 0) 0 none (some (keyHeadIn t c i (numbersIn t c i 12 1 0 (field t c i 11)))) (sym h ∙ z)))
-
-module _ (t : Table) (c : List ℕ) (i : ℕ) (key other : Key) (ws : List ℕ) (x : ℕ)
-    (f : x ≡ field t c i 0) (z : x ≡ 0 → ⊥) (h : (is : List ℕ) → keyWith other is ≡ keyHeadIn t c i is) where
-  -- the key of a record that has one
-  -- its first word is not 0
-  some-key : (k : EffectKey) → eqKey k (keyWith other (numbersIn t c i 12 1 0 (field t c i 11))) ≡ isKey k (keyIn t c i)
-  unfolding keyIn isKey
-  some-key k =
-      ap (eqKey k) (h (numbersIn t c i 12 1 0 (field t c i 11)))
-      ∙ sym (ap (isKey k) (ite-ne (field t c i 0) 0 none (some (keyHeadIn t c i (numbersIn t c i 12 1 0 (field t c i 11)))) (λ e. z (f ∙ e))))
-
-  -- all its captures count
-  all-taken : (is : List ℕ) → ite (other .captured) is [] ≡ is
-  unfolding keyWith keyHeadIn
-  all-taken is = ap (λ (k : EffectKey). k .captures) (h is)
-
-  -- the record holds another key
-  pub record-differs : (y : Bool) → y ≡ sameHead key other → not y ≡ true → false ≡ isKey (keyWith key (identifiers (capturesOf ws))) (keyIn t c i)
-  record-differs y p n =
-      keys-differ key other (identifiers (capturesOf ws)) (numbersIn t c i 12 1 0 (field t c i 11)) (sym p ∙ not-true y n)
-      ∙ some-key (keyWith key (identifiers (capturesOf ws)))
-
-  -- the record holds the key where the captures are the same
-  -- the key's, of those that it takes
-  pub record-compared : (y r : Bool) (a n m : ℕ) → y ≡ sameHead key other → not y ≡ false → a ≡ field oneRun ws 0 0 → n ≡ ite (key .captured) a 0 → m ≡ field t c i 11
-      → r ≡ eqList (numbersIn oneRun ws 0 1 5 0 n) (numbersIn t c i 12 1 0 m) → r ≡ isKey (keyWith key (identifiers (capturesOf ws))) (keyIn t c i)
-  record-compared y r a n m p q ha hn hm k =
-      keys-captures key other (identifiers (capturesOf ws)) (numbersIn t c i 12 1 0 (field t c i 11)) r (sym p ∙ not-false y q)
-      (k ∙ ap₂ eqList (sym (taken-numbers (key .captured) ws a n ha hn)) (ap (numbersIn t c i 12 1 0) hm ∙ sym (all-taken (numbersIn t c i 12 1 0 (field t c i 11)))))
-      ∙ some-key (keyWith key (identifiers (capturesOf ws)))
 
 -- ---- a key written
 

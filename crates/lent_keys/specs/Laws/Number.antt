@@ -1,20 +1,16 @@
--- Runs of numbers in a record, and two such runs compared. Assumes nothing.
+-- Runs of numbers in a record. Assumes nothing.
 use Prim.Native.Nat.{ℕ, zero, suc, _+_, _-_, _*_, _≤_, _<_}
 use mathlib.Core.Path.{_≡_, refl, sym, ap, ap₂, _∙_}
-use mathlib.Core.Bool.{Bool, true, false, _&&_}
+use mathlib.Core.Bool.{Bool, true, false}
 use mathlib.Core.List.{List, [], _∷_}
 use native.Mathlib.Nat.{mul-le-mul}
 use native.Mathlib.Omega.{arith}
-use lib.Dec.{eqb}
 use lib.ListN.{length}
-use borrow.Author.Tests.{eq-eqb, ne-eqb}
 use Rattle.base_tests.specs.Tests.{ite}
 use Rattle.def_effects.specs.Places.{identifiers}
-use Rattle.def_effects.specs.Keys.{eqList}
 use Rattle.lent_tables.specs.declared.Table.{Table}
 use Rattle.lent_tables.specs.Words.{field, placeIn, placesIn}
 use Rattle.lent_keys.specs.KeyRecords.{numbersIn}
-use Rattle.lent_keys.specs.Laws.Option.{stop, pass}
 
 -- ---- runs of numbers
 
@@ -77,59 +73,3 @@ pub numbers-cong : (t : Table) (c d : List ℕ) (i w s k n : ℕ) → ((v : ℕ)
 unfolding numbersIn
 numbers-cong t c d i w s k zero h = refl
 numbers-cong t c d i w s k (suc n) h = ap₂ (λ (x : ℕ) (l : List ℕ). x ∷ l) (h (w + k * s)) (numbers-cong t c d i w s (suc k) n h)
-
--- lists of other lengths differ
-lengths-differ : (xs ys : List ℕ) → (length xs ≡ length ys → ⊥) → false ≡ eqList xs ys
-unfolding eqList
-lengths-differ [] [] n = absurd (n refl)
-lengths-differ [] (y ∷ ys) n = refl
-lengths-differ (x ∷ xs) [] n = refl
-lengths-differ (x ∷ xs) (y ∷ ys) n = last (eqb x y) (eqList xs ys) (lengths-differ xs ys (λ e. n (ap suc e)))
-  where
-    -- a chain whose last test failed
-    last : (p q : Bool) → false ≡ q → false ≡ (p && q)
-    last true q e = e
-    last false q e = refl
-
--- two runs of numbers, compared
--- a loop's invariant is that what is left decides
-module _ (t : Table) (c : List ℕ) (i w s : ℕ) (u : Table) (d : List ℕ) (j v r : ℕ) where
-  -- whether what is left of both is equal
-  unfoldable pub alike : ℕ → ℕ → Bool
-  alike k n = eqList (numbersIn t c i w s k (n - k)) (numbersIn u d j v r k (n - k))
-
-  -- runs of other counts differ
-  -- one way through `same_numbers`
-  pub counts-differ : (n m : ℕ) → (n ≡ m → ⊥) → false ≡ eqList (numbersIn t c i w s 0 n) (numbersIn u d j v r 0 m)
-  counts-differ n m h =
-      lengths-differ (numbersIn t c i w s 0 n) (numbersIn u d j v r 0 m)
-      (λ e. h (sym (numbers-count t c i w s 0 n) ∙ e ∙ numbers-count u d j v r 0 m))
-
-  -- the loop begins with all numbers
-  pub alike-start : (n m : ℕ) → n ≡ m → alike 0 n ≡ eqList (numbersIn t c i w s 0 n) (numbersIn u d j v r 0 m)
-  unfolding alike
-  alike-start n m e = ap₂ eqList (numbers-all t c i w s n) (numbers-all u d j v r n ∙ ap (λ (k : ℕ). numbersIn u d j v r 0 k) e)
-
-  -- what is left begins with the k-th of each
-  alike-more : (k n : ℕ) → k < n → alike k n ≡ (eqb (field t c i (w + k * s)) (field u d j (v + k * r)) && alike (k + 1) n)
-  unfolding alike eqList
-  alike-more k n l = ap₂ eqList (numbers-more t c i w s k n l) (numbers-more u d j v r k n l)
-
-  -- they are equal
-  pub alike-next : (k n x y : ℕ) → k < n → x ≡ field t c i (w + k * s) → y ≡ field u d j (v + k * r) → x ≡ y → alike (k + 1) n ≡ alike k n
-  alike-next k n x y l e f g =
-      pass (eqb (field t c i (w + k * s)) (field u d j (v + k * r))) (alike (k + 1) n) (alike (k + 1) n)
-      (eq-eqb (field t c i (w + k * s)) (field u d j (v + k * r)) (sym e ∙ g ∙ f)) refl
-      ∙ sym (alike-more k n l)
-
-  -- they differ
-  pub alike-not : (k n x y : ℕ) → k < n → x ≡ field t c i (w + k * s) → y ≡ field u d j (v + k * r) → (x ≡ y → ⊥) → false ≡ alike k n
-  alike-not k n x y l e f g =
-      stop (eqb (field t c i (w + k * s)) (field u d j (v + k * r))) (alike (k + 1) n)
-      (ne-eqb (field t c i (w + k * s)) (field u d j (v + k * r)) (λ q. g (e ∙ q ∙ sym f)))
-      ∙ sym (alike-more k n l)
-
-  -- none is left
-  pub alike-end : (k n : ℕ) → n ≤ k → true ≡ alike k n
-  unfolding alike eqList
-  alike-end k n l = sym (ap₂ eqList (numbers-none t c i w s k n l) (numbers-none u d j v r k n l))

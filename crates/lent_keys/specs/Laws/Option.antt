@@ -1,4 +1,4 @@
--- Numbers that may be absent: compared, read and written. Assumes nothing.
+-- Numbers that may be absent: read and written. Assumes nothing.
 use Prim.Native.Nat.{ℕ, _+_}
 use mathlib.Core.Path.{_≡_, refl, sym, ap, ap₂, _∙_}
 use mathlib.Core.Bool.{Bool, true, false, _&&_}
@@ -7,52 +7,13 @@ use mathlib.Core.Option.{none, some}
 use native.Mathlib.Omega.{arith}
 use lib.Dec.{eqb}
 use Rattle.base_tests.specs.Laws.Choice.{ite-eq, ite-ne}
-use Rattle.def_effects.specs.Keys.{eqOption}
 use Rattle.lent_tables.specs.declared.Table.{Table}
 use Rattle.lent_tables.specs.Words.{field, putField}
 use Rattle.lent_keys.specs.declared.Found.{Found}
 use Rattle.lent_keys.specs.declared.Found.the-variants.{Nowhere, At}
 use Rattle.lent_keys.specs.KeyRecords.{optionOf, optionIn, putOption}
 
--- ---- tests, one after the other
-
--- a test that failed ends a chain of tests
-pub stop : (p q : Bool) → p ≡ false → false ≡ (p && q)
-stop true q e = sym e ∙ absurd (let z : _≡_ {A = ℕ} 0 1 = cc in omega arith)
-stop false q e = refl
-
--- a test that passed leaves the rest of the chain
-pub pass : (p q r : Bool) → p ≡ true → r ≡ q → r ≡ (p && q)
-pass true q r e h = h
-pass false q r e h = absurd (let z : _≡_ {A = ℕ} 0 1 = cc in omega arith)
-
--- the chain of tests may be split anywhere
--- `eqKey` has one test more than `sameHead`
-pub and-assoc : (p q r : Bool) → ((p && q) && r) ≡ (p && (q && r))
-and-assoc true q r = refl
-and-assoc false q r = refl
-
 -- ---- numbers that may be absent
-
--- both absent
-pub option-none : (a b : Found) → a ≡ Nowhere → b ≡ Nowhere → true ≡ eqOption (optionOf a) (optionOf b)
-unfolding eqOption
-option-none a b p q = sym (ap₂ (λ (x y : Found). eqOption (optionOf x) (optionOf y)) p q)
-
--- the first is absent
-pub option-left : (a b : Found) (y : ℕ) → a ≡ Nowhere → b ≡ At y → false ≡ eqOption (optionOf a) (optionOf b)
-unfolding eqOption
-option-left a b y p q = sym (ap₂ (λ (x y : Found). eqOption (optionOf x) (optionOf y)) p q)
-
--- the second is absent
-pub option-right : (a b : Found) (x : ℕ) → a ≡ At x → b ≡ Nowhere → false ≡ eqOption (optionOf a) (optionOf b)
-unfolding eqOption
-option-right a b x p q = sym (ap₂ (λ (x y : Found). eqOption (optionOf x) (optionOf y)) p q)
-
--- none is absent
-pub option-both : (a b : Found) (x y : ℕ) → a ≡ At x → b ≡ At y → eqb x y ≡ eqOption (optionOf a) (optionOf b)
-unfolding eqOption
-option-both a b x y p q = sym (ap₂ (λ (x y : Found). eqOption (optionOf x) (optionOf y)) p q)
 
 -- an absent number is read
 -- its first word is 0

@@ -125,16 +125,20 @@ module _ (t : Table) where
           ap₂ (λ (x y : ℕ). C .compare (key x) (key y)) (insert-is j (omega arith)) (insert-is (suc j) (omega arith))
           ∙ inserted-ascends C key (orderAt t c) n p r l up b j m
 
+      -- what holds of the number put in and of those that were there holds of each
+      pub insert-each : (P : ℕ → Type 0) → P r → ((j : ℕ) → j < n → P (orderAt t c j)) → (j : ℕ) → j < suc n → P (orderAt t (inserted t p r n c) j)
+      insert-each P e h j m = subst P (sym (insert-is j (omega arith))) (⊎-elim low (λ q. high j q m) (lt-or-ge j p))
+        where
+          low : j < p → P (Inserting.inserted (orderAt t c) p r j)
+          low q = subst P (sym (inserted-before (orderAt t c) p r j q)) (h j (omega arith))
+
+          at-p : (j : ℕ) → j ≡ p → P (Inserting.inserted (orderAt t c) p r j)
+          at-p j q = subst (λ (x : ℕ). P (Inserting.inserted (orderAt t c) p r x)) (sym q) (subst P (sym (inserted-there (orderAt t c) p r)) e)
+
+          high : (j : ℕ) → p ≤ j → j < suc n → P (Inserting.inserted (orderAt t c) p r j)
+          high zero q m = at-p zero (omega arith)
+          high (suc j) q m = ⊎-elim (λ a. subst P (sym (inserted-after (orderAt t c) p r j (omega arith))) (h j (omega arith))) (λ a. at-p (suc j) (omega arith)) (lt-or-ge p (suc j))
+
       -- and each place names one of n + 1 records, where each named one of n
       pub insert-inside : r ≤ n → ((j : ℕ) → j < n → orderAt t c j < n) → (j : ℕ) → j < suc n → orderAt t (inserted t p r n c) j < suc n
-      insert-inside e h j m = subst (λ (x : ℕ). x < suc n) (sym (insert-is j (omega arith))) (⊎-elim low (λ q. high j q m) (lt-or-ge j p))
-        where
-          low : j < p → Inserting.inserted (orderAt t c) p r j < suc n
-          low q = subst (λ (x : ℕ). x < suc n) (sym (inserted-before (orderAt t c) p r j q)) (let z = h j (omega arith) in omega arith)
-
-          high : (j : ℕ) → p ≤ j → j < suc n → Inserting.inserted (orderAt t c) p r j < suc n
-          high zero q m = let z : 0 ≡ p = omega arith in subst (λ (x : ℕ). Inserting.inserted (orderAt t c) p r x < suc n) (sym z) (subst (λ (x : ℕ). x < suc n) (sym (inserted-there (orderAt t c) p r)) (omega arith))
-          high (suc j) q m = ⊎-elim
-              (λ a. subst (λ (x : ℕ). x < suc n) (sym (inserted-after (orderAt t c) p r j (omega arith))) (let z = h j (omega arith) in omega arith))
-              (λ a. let z : suc j ≡ p = omega arith in subst (λ (x : ℕ). Inserting.inserted (orderAt t c) p r x < suc n) (sym z) (subst (λ (x : ℕ). x < suc n) (sym (inserted-there (orderAt t c) p r)) (omega arith)))
-              (lt-or-ge p (suc j))
+      insert-inside e h = insert-each (λ x. x < suc n) (omega arith) (λ j l. let z = h j l in omega arith)

@@ -6,8 +6,10 @@ use Rattle.base_search.specs.Search.{halving}
 use Rattle.def_effects.specs.Places.{identifiers}
 use Rattle.lent_effects.specs.Records.{capturesOf}
 use Rattle.lent_keys.specs.KeyRecords.{keyWith}
-use Rattle.lent_context.specs.Lent.{effectSpot}
-use Rattle.lent_search.specs.Laws.Find.{sought, search-starts, search-down, search-up, search-at, search-over}
+use Rattle.lent_context.specs.Lent.{internedKey, effectSpot}
+use Rattle.lent_layout.specs.Layout as Layout
+use Rattle.lent_order.specs.Order.{orderAt}
+use Rattle.lent_search.specs.Laws.Find.{sought, search-starts, search-down, search-up, search-at, search-over, effect-search}
 use Rattle.lent_search.proofs.find_effect.Statement.{statement}
 use Rattle.lent_search.proofs.find_effect.Tie as tie
 use Rattle.lent_search.proofs.find_effect.Reads as reads
@@ -17,7 +19,7 @@ use Rattle.lent_order.proofs.order_at.Reads as order-at-reads
 use Rattle.lent_search.proofs.compare_effect.Reads as compare-effect-reads
 
 abbrev Inv-loop : tie.InvT-loop
-Inv-loop context key captures n lo₀ hi₀ lo hi = (lo ≤ hi) × (hi ≤ n) × (effectSpot context (keyWith key (identifiers (capturesOf captures))) ≡ halving (hi - lo) (sought context (keyWith key (identifiers (capturesOf captures)))) lo hi)
+Inv-loop context key captures n lo₀ hi₀ lo hi = (lo ≤ hi) × (hi ≤ n) × (effectSpot context (keyWith key (identifiers (capturesOf captures))) ≡ halving (hi - lo) (sought (internedKey context) (orderAt Layout.effectOrder context) (keyWith key (identifiers (capturesOf captures)))) lo hi)
 
 abbrev μ-loop : tie.MeasureT-loop
 μ-loop context key captures n lo₀ hi₀ lo hi = hi - lo
@@ -26,7 +28,7 @@ interned-count-requires : tie.Need-interned-count-requires Inv-loop μ-loop
 interned-count-requires c κs = search needs
 
 loop-holds : tie.Need-loop-holds Inv-loop μ-loop
-loop-holds c = (omega arith, omega arith, search-starts _ (keyWith (c .before .before .before .args .key) (identifiers (capturesOf (c .before .before .before .args .captures .now)))) _ (c .interned-count .ensures))
+loop-holds c = (omega arith, omega arith, search-starts (internedKey (c .before .before .before .args .context .now)) (orderAt Layout.effectOrder (c .before .before .before .args .context .now)) _ _ _ _ (effect-search (c .before .before .before .args .context .now) (keyWith (c .before .before .before .args .key) (identifiers (capturesOf (c .before .before .before .args .captures .now))))) (c .interned-count .ensures))
 
 sub-mid : tie.Need-sub-mid Inv-loop μ-loop
 sub-mid c = omega arith
@@ -47,13 +49,13 @@ loop-less : tie.Need-loop-less Inv-loop μ-loop
 loop-less c = omega arith
 
 loop-again : tie.Need-loop-again Inv-loop μ-loop
-loop-again c = (omega arith, omega arith, search-down (c .before .before .before .before .before .before .before .before .before .args .context .now) (keyWith (c .before .before .before .before .before .before .before .before .before .args .key) (identifiers (capturesOf (c .before .before .before .before .before .before .before .before .before .args .captures .now)))) (c .before .before .before .before .before .loop .lo) (c .before .before .before .before .before .loop .hi) _ _ _ (c .before .before .before .before .loop-test .taken) refl (c .before .before .before .order-at .ensures) (c .before .before .compare-effect .ensures) (c .before .before .before .before .before .loop .inv .2) (c .enum-told .given .1))
+loop-again c = (omega arith, omega arith, search-down (internedKey (c .before .before .before .before .before .before .before .before .before .args .context .now)) (orderAt Layout.effectOrder (c .before .before .before .before .before .before .before .before .before .args .context .now)) (keyWith (c .before .before .before .before .before .before .before .before .before .args .key) (identifiers (capturesOf (c .before .before .before .before .before .before .before .before .before .args .captures .now)))) _ (c .before .before .before .before .before .loop .lo) (c .before .before .before .before .before .loop .hi) _ _ _ (c .before .before .before .before .loop-test .taken) refl (c .before .before .before .order-at .ensures) (c .before .before .compare-effect .ensures) (c .before .before .before .before .before .loop .inv .2) (c .enum-told .given .1))
 
 enum-told-2 : tie.Need-enum-told-2 Inv-loop μ-loop
 enum-told-2 c = search needs
 
 returns : tie.Need-returns Inv-loop μ-loop
-returns c = search-at (c .before .before .before .before .before .before .before .before .before .args .context .now) (keyWith (c .before .before .before .before .before .before .before .before .before .args .key) (identifiers (capturesOf (c .before .before .before .before .before .before .before .before .before .args .captures .now)))) (c .before .before .before .before .before .loop .lo) (c .before .before .before .before .before .loop .hi) _ _ _ (c .before .before .before .before .loop-test .taken) refl (c .before .before .before .order-at .ensures) (c .before .before .compare-effect .ensures) (c .before .before .before .before .before .loop .inv .2) (c .enum-told2 .given .1)
+returns c = search-at (internedKey (c .before .before .before .before .before .before .before .before .before .args .context .now)) (orderAt Layout.effectOrder (c .before .before .before .before .before .before .before .before .before .args .context .now)) (keyWith (c .before .before .before .before .before .before .before .before .before .args .key) (identifiers (capturesOf (c .before .before .before .before .before .before .before .before .before .args .captures .now)))) _ (c .before .before .before .before .before .loop .lo) (c .before .before .before .before .before .loop .hi) _ _ _ (c .before .before .before .before .loop-test .taken) refl (c .before .before .before .order-at .ensures) (c .before .before .compare-effect .ensures) (c .before .before .before .before .before .loop .inv .2) (c .enum-told2 .given .1)
 
 enum-told-3 : tie.Need-enum-told-3 Inv-loop μ-loop
 enum-told-3 c = search needs
@@ -65,10 +67,10 @@ loop-less-2 : tie.Need-loop-less-2 Inv-loop μ-loop
 loop-less-2 c = omega arith
 
 loop-again-2 : tie.Need-loop-again-2 Inv-loop μ-loop
-loop-again-2 c = (omega arith, omega arith, search-up (c .before .before .before .before .before .before .before .before .before .args .context .now) (keyWith (c .before .before .before .before .before .before .before .before .before .args .key) (identifiers (capturesOf (c .before .before .before .before .before .before .before .before .before .args .captures .now)))) (c .before .before .before .before .before .loop .lo) (c .before .before .before .before .before .loop .hi) _ _ _ (c .before .before .before .before .loop-test .taken) refl (c .before .before .before .order-at .ensures) (c .before .before .compare-effect .ensures) (c .before .before .before .before .before .loop .inv .2) (c .enum-told3 .given .1))
+loop-again-2 c = (omega arith, omega arith, search-up (internedKey (c .before .before .before .before .before .before .before .before .before .args .context .now)) (orderAt Layout.effectOrder (c .before .before .before .before .before .before .before .before .before .args .context .now)) (keyWith (c .before .before .before .before .before .before .before .before .before .args .key) (identifiers (capturesOf (c .before .before .before .before .before .before .before .before .before .args .captures .now)))) _ (c .before .before .before .before .before .loop .lo) (c .before .before .before .before .before .loop .hi) _ _ _ (c .before .before .before .before .loop-test .taken) refl (c .before .before .before .order-at .ensures) (c .before .before .compare-effect .ensures) (c .before .before .before .before .before .loop .inv .2) (c .enum-told3 .given .1))
 
 returns-2 : tie.Need-returns-2 Inv-loop μ-loop
-returns-2 c = search-over _ (keyWith (c .before .before .before .before .before .args .key) (identifiers (capturesOf (c .before .before .before .before .before .args .captures .now)))) _ _ (c .loop-test .left) (c .before .loop .inv .2)
+returns-2 c = search-over (internedKey (c .before .before .before .before .before .args .context .now)) (orderAt Layout.effectOrder (c .before .before .before .before .before .args .context .now)) (keyWith (c .before .before .before .before .before .args .key) (identifiers (capturesOf (c .before .before .before .before .before .args .captures .now)))) _ _ _ (c .loop-test .left) (c .before .loop .inv .2)
 
 pub find-effect-spec : {M : Type 1} → statement M
 find-effect-spec =

@@ -1,4 +1,4 @@
--- What each of the five changes of a context leaves of cached keys, links and context places, and that what is found was asked for.
+-- What each of the five changes of a context leaves of cached keys, links and context places.
 -- Each change writes into one table, and the tables stand apart. Assumes nothing.
 use Prim.Native.Nat.{ℕ, zero, suc, _+_, _*_, _≤_, _<_}
 use mathlib.Core.Path.{_≡_, refl, sym, ap, ap₂, _∙_}
@@ -16,7 +16,6 @@ use Rattle.def_effects.specs.Effects.{AliasingEffect}
 use Rattle.def_effects.specs.Keys.{EffectKey}
 use Rattle.def_transfer.specs.Diagnostics.{Diagnostic}
 use Rattle.def_transfer.specs.Lawful.{SameLinks}
-use Rattle.def_transfer.specs.Laws.Pure.{found-number}
 use Rattle.lent_tables.specs.declared.Table.{Table}
 use Rattle.lent_tables.specs.Words.{index, end, apart, field, putField, placeIn, placesIn}
 use Rattle.lent_tables.specs.Laws.Word.{put-length, put-out, put-same, put-other, put-apart, set-outside, places-cong, within-yes, within-no-record}
@@ -26,7 +25,7 @@ use Rattle.lent_order.specs.Laws.Order.{insert-apart}
 use Rattle.lent_keys.specs.KeyRecords.{optionIn, putOption}
 use Rattle.lent_keys.specs.KeyRecords as Keys
 use Rattle.lent_layout.specs.Layout as Layout
-use Rattle.lent_context.specs.Lent.{internedCount, addEffect, keyAt, findNumber, putKey, linkOf, putLink, contextOf, makeRead, instanceCount, putDiagnostic, addDiagnostic}
+use Rattle.lent_context.specs.Lent.{internedCount, addEffect, keyAt, keyCount, oneMore, cachedAt, putKey, linkOf, putLink, contextOf, makeRead, instanceCount, putDiagnostic, addDiagnostic}
 use Rattle.lent_world.specs.World.{lent}
 use Rattle.lent_keys.specs.Laws.KeyFrames.{option-cong, key-cong, key-apart, key-record, option-apart, option-record}
 use Rattle.lent_context.specs.Laws.ReadMade.{read-keeps}
@@ -145,32 +144,34 @@ read-same c f i = record {
 
 -- ---- cached numbers
 
--- what is found under a key has that key
--- the search is the definition's own
-pub number-found : (c : List ℕ) (k : EffectKey) (n : ℕ) → findNumber c k ≡ some n → keyAt c n ≡ some k
-unfolding findNumber
-number-found c k n h = found-number 511 1 (keyAt c) k n h
+-- a key written leaves every table that stands apart from the keys and from their order, and has no count in it
+pub key-leaves : (u : Table) (c : List ℕ) (n : ℕ) (k : EffectKey) → apart Layout.cached u ≡ true → apart Layout.keyOrder u ≡ true → (Layout.keyCount < u .base) ⊎ (end u ≤ Layout.keyCount) → Same u c (putKey c n k)
+unfolding putKey cachedAt
+key-leaves u c n k a b o j v =
+    set-outside u _ Layout.keyCount (oneMore (keyCount c)) j v o
+    ∙ insert-apart Layout.keyOrder u _ _ _ _ j v b
+    ∙ key-apart Layout.cached u c n k j v a
 
--- a key written leaves every table that stands apart
-pub key-leaves : (u : Table) (c : List ℕ) (n : ℕ) (k : EffectKey) → apart Layout.cached u ≡ true → Same u c (putKey c n k)
-unfolding putKey
-key-leaves u c n k a j v = key-apart Layout.cached u c n k j v a
+-- the words of the keys, with one written
+pub key-fields : (c : List ℕ) (n : ℕ) (k : EffectKey) (j v : ℕ) → field Layout.cached (putKey c n k) j v ≡ field Layout.cached (Keys.putKey Layout.cached c n k) j v
+unfolding putKey cachedAt apart end
+key-fields c n k j v = set-outside Layout.cached _ Layout.keyCount (oneMore (keyCount c)) j v (inr (omega arith)) ∙ insert-apart Layout.keyOrder Layout.cached _ _ _ _ j v refl
 
 -- a key written leaves the other keys
 pub key-put : (c : List ℕ) (n m : ℕ) (k j : EffectKey) → keyAt (putKey c n k) m ≡ some j → (n ≡ m) ⊎ (keyAt c m ≡ some j)
-unfolding keyAt putKey
+unfolding keyAt
 key-put c n m k j e =
-    ⊎-elim inl (λ d. inr (sym (key-cong Layout.cached c (Keys.putKey Layout.cached c n k) m (λ v. key-record Layout.cached c n k m v d)) ∙ e)) (same-or-not n m)
+    ⊎-elim inl (λ d. inr (sym (key-cong Layout.cached c (putKey c n k) m (λ v. key-fields c n k m v ∙ key-record Layout.cached c n k m v d)) ∙ e)) (same-or-not n m)
 
 -- and it leaves the links
 pub key-links : (c : List ℕ) (n : ℕ) (k : EffectKey) (v f : ℕ) → linkOf (putKey c n k) v ≡ some f → linkOf c v ≡ some f
 unfolding apart end
-key-links c n k v f e = sym (links-same c (putKey c n k) (key-leaves Layout.links c n k refl) v) ∙ e
+key-links c n k v f e = sym (links-same c (putKey c n k) (key-leaves Layout.links c n k refl refl (inr (omega arith))) v) ∙ e
 
 -- and the context places
 pub key-contexts : (c : List ℕ) (n : ℕ) (k : EffectKey) (g : ℕ) → identifiers (contextOf (putKey c n k) g) ≡ identifiers (contextOf c g)
 unfolding apart end
-key-contexts c n k g = ap identifiers (contexts-same c (putKey c n k) (key-leaves Layout.contexts c n k refl) (key-leaves Layout.functions c n k refl) g)
+key-contexts c n k g = ap identifiers (contexts-same c (putKey c n k) (key-leaves Layout.contexts c n k refl refl (inr (omega arith))) (key-leaves Layout.functions c n k refl refl (inr (omega arith))) g)
 
 -- ---- function links
 

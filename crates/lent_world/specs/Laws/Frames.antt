@@ -2,7 +2,7 @@
 use Prim.Native.Nat.{ℕ, zero, suc, _+_, _/_, _%_, _≤_, _<_}
 use mathlib.Core.Path.{_≡_, refl, sym, ap, ap₂, _∙_, subst, fun-ext}
 use mathlib.Core.Bool.{true, not}
-use mathlib.Core.Logic.{_⊎_, inl}
+use mathlib.Core.Logic.{_⊎_, inl, inr}
 use mathlib.Core.List.{List, _∷_}
 use mathlib.Core.Option.{Option}
 use lib.Dec.{eqb}
@@ -20,12 +20,14 @@ use Rattle.lent_tables.specs.Laws.Word.{put-apart, put-outside, set-outside, pl
 use Rattle.lent_effects.specs.Records.{effectIn, putEffect}
 use Rattle.lent_effects.specs.Laws.EffectFrames.{effect-cong, effect-outside}
 use Rattle.lent_keys.specs.KeyRecords.{optionIn, keyIn}
-use Rattle.lent_keys.specs.Laws.KeyFrames.{option-cong, key-cong}
+use Rattle.lent_keys.specs.Laws.KeyFrames.{option-cong, head-cong, key-cong}
 use Rattle.lent_layout.specs.Layout as Layout
-use Rattle.lent_context.specs.Lent.{effectsIn, internedCount, internedKey, effectSpot, placeOf, addEffect, diagnosticIn, diagnosticsIn, instanceCount, putDiagnostic, addDiagnostic}
+use Rattle.lent_context.specs.Lent.{effectsIn, internedCount, internedKey, effectSpot, placeOf, addEffect, isKeyed, keyHere, keyCount, diagnosticIn, diagnosticsIn, instanceCount, putDiagnostic, addDiagnostic}
 use Rattle.lent_world.specs.Laws.Context.{Same, diagnostic-keeps}
 use Rattle.lent_context.specs.Abstract.{functionIn, identifierIn}
 use Rattle.lent_context.specs.Laws.Ordered.{OrderedTo, Ordered}
+use Rattle.lent_context.specs.Laws.Numbered.{NumberedTo, Numbered}
+use Rattle.base_search.specs.Laws.Counting.{count-same}
 use Rattle.lent_order.specs.Order.{orderAt, inserted}
 use Rattle.lent_order.specs.Laws.Order.{insert-outside}
 
@@ -76,6 +78,15 @@ module _ (c d : List ℕ) where
   pub diagnostics-same : Same Layout.diagnostics c d → getD d 12484 0 ≡ getD c 12484 0 → diagnosticsIn d 0 (getD d 12484 0) ≡ diagnosticsIn c 0 (getD c 12484 0)
   diagnostics-same h e = diagnostics-cong c d 0 (getD d 12484 0) h ∙ ap (diagnosticsIn c 0) e
 
+-- a number whose words stay
+pub keyed-same : (c d : List ℕ) (v : ℕ) → ((w : ℕ) → field Layout.cached d v w ≡ field Layout.cached c v w) → isKeyed d v ≡ isKeyed c v
+unfolding isKeyed
+keyed-same c d v h = ap (λ (x : ℕ). not (eqb x 0)) (h 0)
+
+pub here-same : (c d : List ℕ) (v : ℕ) → ((w : ℕ) → field Layout.cached d v w ≡ field Layout.cached c v w) → keyHere d v ≡ keyHere c v
+unfolding keyHere
+here-same c d v h = head-cong Layout.cached c d v h
+
 -- an order of effects whose words and records stay
 pub ordered-same : (c d : List ℕ) → Same Layout.interned c d → Same Layout.effectOrder c d → getD d 12483 0 ≡ getD c 12483 0 → Ordered c → Ordered d
 unfolding internedCount orderAt
@@ -87,6 +98,23 @@ ordered-same c d h g e o = subst (λ (n : ℕ). OrderedTo n d) (sym e) (record {
     at : (j : ℕ) → internedKey d (field Layout.effectOrder d j 0) ≡ internedKey c (field Layout.effectOrder c j 0)
     at j = ap effectKey (effect-cong Layout.interned c d (field Layout.effectOrder d j 0) (h (field Layout.effectOrder d j 0)) ∙ ap (effectIn Layout.interned c) (g j 0))
 
+-- an order of cached keys whose words and records stay
+pub numbered-same : (c d : List ℕ) → Same Layout.cached c d → Same Layout.keyOrder c d → getD d 37317 0 ≡ getD c 37317 0 → Numbered c → Numbered d
+unfolding keyCount orderAt
+numbered-same c d h g e o = subst (λ (n : ℕ). NumberedTo n d) (sym e) (record {
+  inside = λ j l. subst (λ (x : ℕ). x < 512) (sym (g j 0)) (o .inside j l);
+  there = λ j l. ap (isKeyed d) (g j 0) ∙ keyed (field Layout.keyOrder c j 0) ∙ o .there j l;
+  ascends = λ j l. ap₂ (keys .compare) (at j) (at (suc j)) ∙ o .ascends j l;
+  counted = count-same (isKeyed c) (isKeyed d) 512 (λ x l. keyed x) ∙ o .counted;
+  zero-none = keyed 0 ∙ o .zero-none;
+})
+  where
+    keyed : (v : ℕ) → isKeyed d v ≡ isKeyed c v
+    keyed v = keyed-same c d v (h v)
+
+    at : (j : ℕ) → keyHere d (field Layout.keyOrder d j 0) ≡ keyHere c (field Layout.keyOrder c j 0)
+    at j = ap (keyHere d) (g j 0) ∙ here-same c d (field Layout.keyOrder c j 0) (h (field Layout.keyOrder c j 0))
+
 -- ---- an effect added, a diagnostic added
 
 pub effect-word : (c : List ℕ) (e : AliasingEffect) (k : ℕ) → k < 35269 → (k ≡ 12483 → ⊥) → getD (addEffect c e) k 0 ≡ getD c k 0
@@ -95,6 +123,14 @@ effect-word c e k l n =
     getD-set-other (inserted Layout.effectOrder (placeOf (effectSpot c (effectKey e))) (internedCount c) (internedCount c) (putEffect Layout.interned c (internedCount c) e)) 12483 k (internedCount c + 1) 0 n
     ∙ insert-outside Layout.effectOrder (placeOf (effectSpot c (effectKey e))) (internedCount c) (internedCount c) (putEffect Layout.interned c (internedCount c) e) k (inl l)
     ∙ effect-outside Layout.interned c (internedCount c) e k (inl (omega arith))
+
+-- the count of cached keys stands between the order of the effects and the effects
+pub effect-keys : (c : List ℕ) (e : AliasingEffect) → getD (addEffect c e) 37317 0 ≡ getD c 37317 0
+unfolding addEffect end
+effect-keys c e =
+    getD-set-other (inserted Layout.effectOrder (placeOf (effectSpot c (effectKey e))) (internedCount c) (internedCount c) (putEffect Layout.interned c (internedCount c) e)) 12483 37317 (internedCount c + 1) 0 (λ q. omega arith)
+    ∙ insert-outside Layout.effectOrder (placeOf (effectSpot c (effectKey e))) (internedCount c) (internedCount c) (putEffect Layout.interned c (internedCount c) e) 37317 (inr (omega arith))
+    ∙ effect-outside Layout.interned c (internedCount c) e 37317 (inl (omega arith))
 
 pub diagnostic-leaves : (u : Table) (c : List ℕ) (n : ℕ) (d : Diagnostic) → apart Layout.diagnostics u ≡ true → (12484 < u .base) ⊎ (end u ≤ 12484) → Same u c (addDiagnostic c n d)
 unfolding addDiagnostic
@@ -107,3 +143,9 @@ unfolding addDiagnostic
 diagnostic-word c n d k l o =
     getD-set-other (putDiagnostic c (instanceCount c) n d) 12484 k (instanceCount c + 1) 0 o
     ∙ diagnostic-keeps (instanceCount c) (λ (b : List ℕ). getD b k 0 ≡ getD c k 0) (λ b w x h. put-outside Layout.diagnostics b (instanceCount c) w x k (inl l) ∙ h) c n d refl
+
+pub diagnostic-keys : (c : List ℕ) (n : ℕ) (d : Diagnostic) → getD (addDiagnostic c n d) 37317 0 ≡ getD c 37317 0
+unfolding addDiagnostic end
+diagnostic-keys c n d =
+    getD-set-other (putDiagnostic c (instanceCount c) n d) 12484 37317 (instanceCount c + 1) 0 (λ q. omega arith)
+    ∙ diagnostic-keeps (instanceCount c) (λ (b : List ℕ). getD b 37317 0 ≡ getD c 37317 0) (λ b w x h. put-outside Layout.diagnostics b (instanceCount c) w x 37317 (inr (omega arith)) ∙ h) c n d refl

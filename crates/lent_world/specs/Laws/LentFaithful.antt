@@ -39,8 +39,9 @@ use Rattle.lent_world.specs.Laws.StateFaithful.{value-word, value-put, s
 use Rattle.lent_context.specs.Abstract.{abstract}
 use Rattle.lent_world.specs.Laws.Back.{effect-appended, effects-length, diagnostics-length}
 use Rattle.lent_world.specs.Laws.ContextFaithful.{FitContext, effect-fit, effect-add, key-fit, key-put, link-fit, link-put, read-fit, read-means, diagnostic-fit, diagnostic-add}
-use Rattle.lent_context.specs.Laws.Abstract.{key-is, number-is, link-is, places-is, inside-is, tracked-is, ref-is, hoisted-is, access-is, name-is, transitive-is, identities-is, identity-is, instance-is}
+use Rattle.lent_context.specs.Laws.Abstract.{key-is, link-is, places-is, inside-is, tracked-is, ref-is, hoisted-is, access-is, name-is, transitive-is, identities-is, identity-is, instance-is}
 use Rattle.lent_context.specs.Laws.Ordered.{effect-is}
+use Rattle.lent_context.specs.Laws.Numbered.{number-is}
 use Rattle.lent_layout.specs.Layout.{output}
 
 -- ---- marks
@@ -174,7 +175,7 @@ lent-faithful n few = record {
   count-is = λ c h. sym (effects-length Layout.interned c 0 (getD c 12483 0));
   effect-is = λ c k h. effect-is c (h .ordered) k;
   key-is = λ c v h. key-is c v;
-  number-is = λ c k h. number-is c k;
+  number-is = λ c k h. number-is c (h .numbered) k;
   link-is = λ c v h. link-is c v;
   places-is = λ c f h. places-is c f;
   inside-is = λ c f h. inside-is c f;
@@ -190,8 +191,8 @@ lent-faithful n few = record {
   instance-is = λ c m d h. instance-is c m d;
   effect-fit = effect-fit;
   effect-add = λ c e h l s z. effect-add c e h l s;
-  key-fit = λ c v k h p s. key-fit c v k h;
-  key-put = key-put;
+  key-fit = key-fit;
+  key-put = λ c v k h p s z f. key-put c v k h p s;
   link-fit = λ c v f h p. link-fit c v f h;
   link-put = link-put;
   read-fit = read-fit;

@@ -24,13 +24,15 @@ use Rattle.lent_tables.specs.Laws.Word.{put-length, put-outside}
 use Rattle.lent_effects.specs.Records.{putEffect}
 use Rattle.lent_effects.specs.Laws.EffectFrames.{effect-length, effect-outside, effect-before, effect-after}
 use Rattle.lent_layout.specs.Layout as Layout
-use Rattle.lent_context.specs.Lent.{internedCount, effectSpot, placeOf, addEffect, putKey, putLink, makeRead, instanceCount, putDiagnostic, addDiagnostic}
+use Rattle.lent_context.specs.Lent.{internedCount, effectSpot, placeOf, addEffect, keyCount, keySpot, oneMore, cachedAt, putKey, putLink, makeRead, instanceCount, putDiagnostic, addDiagnostic}
+use Rattle.lent_keys.specs.KeyRecords as Keys
 use Rattle.lent_keys.specs.Laws.KeyFrames.{key-length, key-outside, option-length, option-outside}
 use Rattle.lent_world.specs.World.{lent}
 use Rattle.lent_world.specs.Laws.State.{FitValues, fit-value, value-cong, value-other, FitSets, fit-set, set-cong, set-other, set-has}
-use Rattle.lent_world.specs.Laws.Context.{diagnostic-keeps, number-found, effect-same, diagnostic-same, read-same, key-put, key-links, key-contexts, link-put, link-keys, link-contexts}
+use Rattle.lent_world.specs.Laws.Context.{diagnostic-keeps, effect-same, diagnostic-same, read-same, key-put, key-links, key-contexts, link-put, link-keys, link-contexts}
 use Rattle.lent_context.specs.Laws.ReadMade.{read-keeps}
 use Rattle.lent_context.specs.Laws.Ordered.{found-under}
+use Rattle.lent_context.specs.Laws.Numbered.{number-found}
 use Rattle.lent_order.specs.Order.{inserted}
 use Rattle.lent_order.specs.Laws.Order.{insert-length, insert-outside}
 
@@ -39,7 +41,7 @@ use Rattle.lent_order.specs.Laws.Order.{insert-length, insert-outside}
 -- the places of a context's list that no instruction writes: options, identifiers, functions, and the effects already interned
 -- 98 words each
 abbrev pub Fixed : List ℕ → ℕ → Type 0
-Fixed c₀ k = (k < 12483) ⊎ ((37317 ≤ k) × (k < 37317 + internedCount c₀ * 98))
+Fixed c₀ k = (k < 12483) ⊎ ((37830 ≤ k) × (k < 37830 + internedCount c₀ * 98))
 
 -- a context that instructions made of c₀
 -- effects are only appended: those of c₀ keep their numbers, and after the last nothing is written
@@ -47,19 +49,19 @@ pub record KeptFrom (c₀ c : List ℕ) : Type 0 where
   pub long : length c ≡ length c₀
   pub grown : internedCount c₀ ≤ internedCount c
   pub fixed : (k : ℕ) → Fixed c₀ k → getD c k 0 ≡ getD c₀ k 0
-  pub after : (k : ℕ) → 37317 + internedCount c * 98 ≤ k → getD c k 0 ≡ getD c₀ k 0
+  pub after : (k : ℕ) → 37830 + internedCount c * 98 ≤ k → getD c k 0 ≡ getD c₀ k 0
 
 -- every context is made of itself
 pub kept-start : (c : List ℕ) → KeptFrom c c
 kept-start c = record { long = refl; grown = omega arith; fixed = λ k f. refl; after = λ k l. refl }
 
 -- what keeps every place but those from the count of diagnostics to the interned effects keeps all this
-kept-apart : (c₀ c d : List ℕ) → length d ≡ length c → ((k : ℕ) → (k < 12484) ⊎ (37317 ≤ k) → getD d k 0 ≡ getD c k 0) → KeptFrom c₀ c → KeptFrom c₀ d
+kept-apart : (c₀ c d : List ℕ) → length d ≡ length c → ((k : ℕ) → (k < 12484) ⊎ (37830 ≤ k) → getD d k 0 ≡ getD c k 0) → KeptFrom c₀ c → KeptFrom c₀ d
 unfolding internedCount
 kept-apart c₀ c d l h p = record {
   long = l ∙ p .long;
   grown = let e : getD d 12483 0 ≡ getD c 12483 0 = h 12483 (inl (omega arith)) in let g = p .grown in omega arith;
-  fixed = λ k f. h k (⊎-elim {C = (k < 12484) ⊎ (37317 ≤ k)} (λ a. inl (omega arith)) (λ a. inr (a .0)) f) ∙ p .fixed k f;
+  fixed = λ k f. h k (⊎-elim {C = (k < 12484) ⊎ (37830 ≤ k)} (λ a. inl (omega arith)) (λ a. inr (a .0)) f) ∙ p .fixed k f;
   after = λ k f. let e : getD d 12483 0 ≡ getD c 12483 0 = h 12483 (inl (omega arith)) in h k (inr (omega arith)) ∙ p .after k (omega arith);
 }
 
@@ -71,7 +73,7 @@ unfolding addEffect internedCount end index
 effect-kept c₀ c e p = record {
   long = length-set d 12483 (n + 1) ∙ d-long ∙ p .long;
   grown = ⊎-elim {C = getD c₀ 12483 0 ≤ getD (set d 12483 (n + 1)) 12483 0} inside past (lt-or-ge 12483 (length d));
-  fixed = λ k f. getD-set-other d 12483 k (n + 1) 0 (other k f) ∙ d-word k (⊎-elim {C = (k < 35269) ⊎ (37317 ≤ k)} (λ a. inl (omega arith)) (λ a. inr (a .0)) f) ∙ effect-before Layout.interned c n e k (before k f) ∙ p .fixed k f;
+  fixed = λ k f. getD-set-other d 12483 k (n + 1) 0 (other k f) ∙ d-word k (⊎-elim {C = (k < 35269) ⊎ (37830 ≤ k)} (λ a. inl (omega arith)) (λ a. inr (a .0)) f) ∙ effect-before Layout.interned c n e k (before k f) ∙ p .fixed k f;
   after = λ k l. ⊎-elim {C = getD (set d 12483 (n + 1)) k 0 ≡ getD c₀ k 0} (λ h. beyond h k l) (λ h. short h k l) (lt-or-ge 12483 (length d));
 }
   where
@@ -88,8 +90,8 @@ effect-kept c₀ c e p = record {
     d-long : length d ≡ length c
     d-long = insert-length Layout.effectOrder _ n n b ∙ effect-length Layout.interned c n e
 
-    d-word : (k : ℕ) → (k < 35269) ⊎ (37317 ≤ k) → getD d k 0 ≡ getD b k 0
-    d-word k o = insert-outside Layout.effectOrder _ n n b k o
+    d-word : (k : ℕ) → (k < 35269) ⊎ (37830 ≤ k) → getD d k 0 ≡ getD b k 0
+    d-word k o = insert-outside Layout.effectOrder _ n n b k (⊎-elim {C = (k < 35269) ⊎ (37317 ≤ k)} (λ a. inl a) (λ a. inr (omega arith)) o)
 
     inside : 12483 < length d → getD c₀ 12483 0 ≤ getD (set d 12483 (n + 1)) 12483 0
     inside h = let g = p .grown in let z : getD (set d 12483 (n + 1)) 12483 0 ≡ n + 1 = getD-set-same d 12483 (n + 1) 0 h in omega arith
@@ -104,24 +106,24 @@ effect-kept c₀ c e p = record {
     other : (k : ℕ) → Fixed c₀ k → k ≡ 12483 → ⊥
     other k f q = ⊎-elim {C = ⊥} (λ a. omega arith) (λ a. let b = a .0 in omega arith) f
 
-    beyond : 12483 < length d → (k : ℕ) → 37317 + getD (set d 12483 (n + 1)) 12483 0 * 98 ≤ k → getD (set d 12483 (n + 1)) k 0 ≡ getD c₀ k 0
+    beyond : 12483 < length d → (k : ℕ) → 37830 + getD (set d 12483 (n + 1)) 12483 0 * 98 ≤ k → getD (set d 12483 (n + 1)) k 0 ≡ getD c₀ k 0
     beyond h k l =
         let z : getD (set d 12483 (n + 1)) 12483 0 ≡ n + 1 = getD-set-same d 12483 (n + 1) 0 h in
         getD-set-other d 12483 k (n + 1) 0 (λ q. omega arith) ∙ d-word k (inr (omega arith)) ∙ effect-after Layout.interned c n e k (omega arith) ∙ p .after k (omega arith)
 
-    short : length d ≤ 12483 → (k : ℕ) → 37317 + getD (set d 12483 (n + 1)) 12483 0 * 98 ≤ k → getD (set d 12483 (n + 1)) k 0 ≡ getD c₀ k 0
+    short : length d ≤ 12483 → (k : ℕ) → 37830 + getD (set d 12483 (n + 1)) 12483 0 * 98 ≤ k → getD (set d 12483 (n + 1)) k 0 ≡ getD c₀ k 0
     short h k l =
         let a : length (set d 12483 (n + 1)) ≡ length d = length-set d 12483 (n + 1) in
         let b : length d ≡ length c = d-long in
         let g = p .long in
         List·getD-eq-default (set d 12483 (n + 1)) 0 {n = k} (omega arith) ∙ sym (List·getD-eq-default c₀ 0 {n = k} (omega arith))
 
-    before : (k : ℕ) → Fixed c₀ k → k < 37317 + n * 98 + 0
-    before k f = let g = p .grown in ⊎-elim {C = k < 37317 + n * 98 + 0} (λ a. omega arith) (λ a. let b = a .1 in omega arith) f
+    before : (k : ℕ) → Fixed c₀ k → k < 37830 + n * 98 + 0
+    before k f = let g = p .grown in ⊎-elim {C = k < 37830 + n * 98 + 0} (λ a. omega arith) (λ a. let b = a .1 in omega arith) f
 
 -- a place outside of what four of the changes write is outside of each table between
 -- as `put-outside` asks
-outside : (b m k : ℕ) → 12484 ≤ b → m ≤ 37317 → (k < 12484) ⊎ (37317 ≤ k) → (k < b) ⊎ (m ≤ k)
+outside : (b m k : ℕ) → 12484 ≤ b → m ≤ 37830 → (k < 12484) ⊎ (37830 ≤ k) → (k < b) ⊎ (m ≤ k)
 outside b m k p q o = ⊎-elim {C = (k < b) ⊎ (m ≤ k)} (λ a. inl (omega arith)) (λ a. inr (omega arith)) o
 
 -- a diagnostic added is a record of its table, and their count
@@ -142,10 +144,10 @@ diagnostic-kept c₀ c n d p = kept-apart c₀ c (set b 12484 (m + 1)) (length-s
     word : (k : ℕ) → (k < 32965) ⊎ (end Layout.diagnostics ≤ k) → getD b k 0 ≡ getD c k 0
     word k o = diagnostic-keeps m (λ (x : List ℕ). getD x k 0 ≡ getD c k 0) (λ x w y h. put-outside Layout.diagnostics x m w y k o ∙ h) c n d refl
 
-    other : (k : ℕ) → (k < 12484) ⊎ (37317 ≤ k) → k ≡ 12484 → ⊥
+    other : (k : ℕ) → (k < 12484) ⊎ (37830 ≤ k) → k ≡ 12484 → ⊥
     other k o e = ⊎-elim {C = ⊥} (λ a. omega arith) (λ a. omega arith) o
 
-    rest : (k : ℕ) → (k < 12484) ⊎ (37317 ≤ k) → getD (set b 12484 (m + 1)) k 0 ≡ getD c k 0
+    rest : (k : ℕ) → (k < 12484) ⊎ (37830 ≤ k) → getD (set b 12484 (m + 1)) k 0 ≡ getD c k 0
     rest k o = getD-set-other b 12484 k (m + 1) 0 (other k o) ∙ word k (outside 32965 35269 k (omega arith) (omega arith) o)
 
 -- context places made Read are words of their table
@@ -158,10 +160,22 @@ read-kept c₀ c f i p =
 
 -- a key written is a record of its table
 pub key-kept : (c₀ c : List ℕ) (n : ℕ) (k : EffectKey) → KeptFrom c₀ c → KeptFrom c₀ (putKey c n k)
-unfolding putKey end
+unfolding putKey cachedAt end
 key-kept c₀ c n k p =
-    kept-apart c₀ c (putKey c n k) (key-length Layout.cached c n k)
-    (λ m o. key-outside Layout.cached c n k m (outside 18629 32965 m (omega arith) (omega arith) o)) p
+    kept-apart c₀ c (putKey c n k)
+    (length-set (inserted Layout.keyOrder (placeOf (keySpot c k)) n (keyCount c) b) 37317 (oneMore (keyCount c)) ∙ insert-length Layout.keyOrder (placeOf (keySpot c k)) n (keyCount c) b ∙ key-length Layout.cached c n k) rest p
+  where
+    b : List ℕ
+    b = Keys.putKey Layout.cached c n k
+
+    other : (m : ℕ) → (m < 12484) ⊎ (37830 ≤ m) → m ≡ 37317 → ⊥
+    other m o e = ⊎-elim {C = ⊥} (λ a. omega arith) (λ a. omega arith) o
+
+    rest : (m : ℕ) → (m < 12484) ⊎ (37830 ≤ m) → getD (putKey c n k) m 0 ≡ getD c m 0
+    rest m o =
+        getD-set-other (inserted Layout.keyOrder (placeOf (keySpot c k)) n (keyCount c) b) 37317 m (oneMore (keyCount c)) 0 (other m o)
+        ∙ insert-outside Layout.keyOrder (placeOf (keySpot c k)) n (keyCount c) b m (outside 37318 37830 m (omega arith) (omega arith) o)
+        ∙ key-outside Layout.cached c n k m (outside 18629 32965 m (omega arith) (omega arith) o)
 
 -- a link written is a record of its table
 pub link-kept : (c₀ c : List ℕ) (v f : ℕ) → KeptFrom c₀ c → KeptFrom c₀ (putLink c v f)

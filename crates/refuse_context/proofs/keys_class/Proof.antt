@@ -2,9 +2,20 @@ use Rattle.refuse_records.specs.Laws.Accepting.{keys-are}
 use borrow.Author.Needs.{needs}
 use Rattle.refuse_context.proofs.keys_class.Statement.{statement}
 use Rattle.refuse_context.proofs.keys_class.Tie as tie
+use Rattle.refuse_context.proofs.keys_class.Reads as reads
+use Rattle.refuse_context.proofs.keys_class.Lts as lts
+use Rattle.lent_slices.proofs.wide32.Reads as wide32-reads
+use Rattle.refuse_class.proofs.lower.Reads as lower-reads
+use Rattle.refuse_context.proofs.handed_out.Reads as handed-out-reads
+use Rattle.refuse_key_order.proofs.key_order_class.Reads as key-order-class-reads
+use Rattle.refuse_records.proofs.key_records.Reads as key-records-reads
+use Rattle.refuse_words.proofs.stray_after.Reads as stray-after-reads
 
 handed-out-requires : tie.Need-handed-out-requires
 handed-out-requires c κs = search needs
+
+wide32-requires : tie.Need-wide32-requires
+wide32-requires c κs = search needs
 
 key-records-requires : tie.Need-key-records-requires
 key-records-requires c κs = search needs
@@ -12,13 +23,27 @@ key-records-requires c κs = search needs
 stray-after-requires : tie.Need-stray-after-requires
 stray-after-requires c κs = search needs
 
+key-order-class-requires : tie.Need-key-order-class-requires
+key-order-class-requires c κs = search needs
+
 lower-requires : tie.Need-lower-requires
 lower-requires c κs = search needs
 
+lower-requires-2 : tie.Need-lower-requires-2
+lower-requires-2 c κs = search needs
+
 returns : tie.Need-returns
-returns c = keys-are _ _ _ _ _ _ _ _ (c .before .before .before .handed-out .ensures) (c .before .before .key-records .ensures) (c .before .stray-after .ensures) (c .lower .ensures)
+returns c = keys-are _ _ _ _ _ _ _ _ _ _ _ (c .before .before .before .before .before .before .handed-out .ensures) (c .before .before .before .before .before .wide32 .ensures) (c .before .before .before .before .key-records .ensures) (c .before .before .before .stray-after .ensures) (c .before .before .key-order-class .ensures) (c .before .lower .ensures) (c .lower2 .ensures)
 
 pub keys-class-spec : {M : Type 1} → statement M
 keys-class-spec =
     tie.close
-    (tie.spec handed-out-requires key-records-requires stray-after-requires lower-requires returns)
+    (tie.spec
+    handed-out-requires
+    wide32-requires
+    key-records-requires
+    stray-after-requires
+    key-order-class-requires
+    lower-requires
+    lower-requires-2
+    returns)

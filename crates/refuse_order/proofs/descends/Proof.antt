@@ -1,3 +1,6 @@
+use Rattle.lent_context.specs.Lent.{internedKey}
+use Rattle.lent_layout.specs.Layout as Layout
+use Rattle.lent_order.specs.Order.{orderAt}
 use native.Mathlib.Omega.{arith}
 use mathlib.Core.Path.{refl}
 use Rattle.refuse_order.specs.Laws.Order.{last-place, next-place}
@@ -11,13 +14,13 @@ use Rattle.refuse_order.proofs.compare_records.Reads as compare-records
 use Rattle.refuse_order.proofs.is_less.Reads as is-less-reads
 
 returns : tie.Need-returns
-returns c = last-place (c .before .before .args .context .now) (c .before .before .args .n) (c .before .before .args .j) (omega arith)
+returns c = last-place (internedKey (c .before .before .args .context .now)) (orderAt Layout.effectOrder (c .before .before .args .context .now)) (c .before .before .args .n) (c .before .before .args .j) (omega arith)
 
 sub-if2 : tie.Need-sub-if2
 sub-if2 c = search needs
 
 returns-2 : tie.Need-returns-2
-returns-2 c = last-place (c .before .before .before .args .context .now) (c .before .before .before .args .n) (c .before .before .before .args .j) (omega arith)
+returns-2 c = last-place (internedKey (c .before .before .before .args .context .now)) (orderAt Layout.effectOrder (c .before .before .before .args .context .now)) (c .before .before .before .args .n) (c .before .before .before .args .j) (omega arith)
 
 order-at-requires : tie.Need-order-at-requires
 order-at-requires c κs = search needs
@@ -35,7 +38,7 @@ is-less-requires : tie.Need-is-less-requires
 is-less-requires c κs = search needs
 
 returns-3 : tie.Need-returns-3
-returns-3 c = next-place (c .before .before .before .before .before .before .before .args .context .now) (c .before .before .before .before .before .before .before .args .n) (c .before .before .before .before .before .before .before .args .j) _ _ _ _ _ (omega arith) (c .before .before .before .order-at .ensures) (omega arith) (c .before .before .order-at2 .ensures) (c .before .compare-records .ensures) (c .is-less .ensures)
+returns-3 c = next-place (internedKey (c .before .before .before .before .before .before .before .args .context .now)) (orderAt Layout.effectOrder (c .before .before .before .before .before .before .before .args .context .now)) (c .before .before .before .before .before .before .before .args .n) (c .before .before .before .before .before .before .before .args .j) _ _ _ _ _ (omega arith) (c .before .before .before .order-at .ensures) (omega arith) (c .before .before .order-at2 .ensures) (c .before .compare-records .ensures) (c .is-less .ensures)
 
 pub descends-spec : {M : Type 1} → statement M
 descends-spec =

@@ -13,7 +13,7 @@ use Rattle.base_search.specs.declared.Order.the-variants.{Less, Same, More}
 use Rattle.base_search.specs.Comparings.{compareLists}
 use Rattle.def_effects.specs.declared.Place.{Place}
 use Rattle.def_effects.specs.Places.{identifiers}
-use Rattle.def_effects.specs.Keys.{effectKey}
+use Rattle.def_effects.specs.Keys.{EffectKey, effectKey}
 use Rattle.def_key_order.specs.KeyOrder.{compareKeys}
 use Rattle.lent_tables.specs.Words.{field}
 use Rattle.lent_effects.specs.declared.AliasingEffect.{AliasingEffect as Head}
@@ -38,10 +38,10 @@ module _ (c : List ℕ) (a i b j : ℕ) (hi : i ≡ a) (hj : j ≡ b) (key other
   captured r = identifiers (countedPlaces Layout.interned c r 17)
 
   first-key : keyWith key (captured i) ≡ internedKey c a
-  first-key = effect-key Layout.interned c i key key [] d gd kd ∙ ap (internedKey c) hi
+  first-key = effect-key Layout.interned c i key d gd kd ∙ ap (internedKey c) hi
 
   second-key : keyWith other (captured j) ≡ internedKey c b
-  second-key = effect-key Layout.interned c j key other [] e ge ke ∙ ap (internedKey c) hj
+  second-key = effect-key Layout.interned c j other e ge ke ∙ ap (internedKey c) hj
 
   pub two-less : o ≡ Less → Less ≡ compareKeys (internedKey c a) (internedKey c b)
   two-less p = head-less key other (captured i) (captured j) (internedKey c b) second-key o heads p ∙ ap (λ k. compareKeys k (internedKey c b)) first-key
@@ -62,20 +62,21 @@ module _ (c : List ℕ) (a i b j : ℕ) (hi : i ≡ a) (hj : j ≡ b) (key other
 pub limit-next : (n : ℕ) → limitOf (n + 1) ≡ some n
 limit-next n = ap limitOf (let z : n + 1 ≡ suc n = omega arith in z)
 
-module _ (c : List ℕ) (n j : ℕ) where
+module _ (key : ℕ → EffectKey) (ord : ℕ → ℕ) (n j : ℕ) where
   -- the last place has no next one
-  pub last-place : n ≤ suc j → false ≡ descends c n j
+  pub last-place : n ≤ suc j → false ≡ descends key ord n j
   unfolding descends
-  last-place h = sym (ap (λ (b : Bool). b && not (isLess (compareKeys (internedKey c (orderAt Layout.effectOrder c j)) (internedKey c (orderAt Layout.effectOrder c (suc j)))))) (le-ltb (suc j) n h))
+  last-place h = sym (ap (λ (b : Bool). b && not (isLess (compareKeys (key (ord j)) (key (ord (suc j)))))) (le-ltb (suc j) n h))
 
   -- any other is compared with it
-  pub next-place : (a b k : ℕ) (o : Order) (x : Bool) → suc j < n → a ≡ orderAt Layout.effectOrder c j → k ≡ suc j → b ≡ orderAt Layout.effectOrder c k → o ≡ compareKeys (internedKey c a) (internedKey c b) → x ≡ isLess o → not x ≡ descends c n j
+  pub next-place : (a b k : ℕ) (o : Order) (x : Bool) → suc j < n → a ≡ ord j → k ≡ suc j → b ≡ ord k → o ≡ compareKeys (key a) (key b) → x ≡ isLess o → not x ≡ descends key ord n j
   unfolding descends
   next-place a b k o x l ha hk hb ho hx =
-      ap not (hx ∙ ap isLess (ho ∙ ap₂ (λ (u v : ℕ). compareKeys (internedKey c u) (internedKey c v)) ha (hb ∙ ap (orderAt Layout.effectOrder c) hk)))
-      ∙ sym (ap (λ (b : Bool). b && not (isLess (compareKeys (internedKey c (orderAt Layout.effectOrder c j)) (internedKey c (orderAt Layout.effectOrder c (suc j)))))) (lt-ltb (suc j) n l))
+      ap not (hx ∙ ap isLess (ho ∙ ap₂ (λ (u v : ℕ). compareKeys (key u) (key v)) ha (hb ∙ ap ord hk)))
+      ∙ sym (ap (λ (b : Bool). b && not (isLess (compareKeys (key (ord j)) (key (ord (suc j)))))) (lt-ltb (suc j) n l))
 
-  pub place-is : (w x y r m : ℕ) (t : Bool) → limitOf m ≡ some n → w ≡ orderAt Layout.effectOrder c j → x ≡ wordClass (limitOf m) w → t ≡ descends c n j → y ≡ earns 4 t → r ≡ lower x y → r ≡ placeClass c n j
+module _ (c : List ℕ) (n j : ℕ) where
+  pub place-is : (w x y r m : ℕ) (t : Bool) → limitOf m ≡ some n → w ≡ orderAt Layout.effectOrder c j → x ≡ wordClass (limitOf m) w → t ≡ descends (internedKey c) (orderAt Layout.effectOrder c) n j → y ≡ earns 4 t → r ≡ lower x y → r ≡ placeClass c n j
   unfolding placeClass
   place-is w x y r m t hm hw hx ht hy h = h ∙ ap₂ lower (hx ∙ ap₂ wordClass hm hw) (hy ∙ ap (earns 4) ht)
 

@@ -11,7 +11,7 @@ use borrow.Author.Tests.{lt-ltb, le-ltb, eq-eqb, ne-eqb}
 use Rattle.def_effects.specs.Places.{noSpan, eqSpan}
 use Rattle.lent_tables.specs.Words.{field}
 use Rattle.lent_layout.specs.Layout as Layout
-use Rattle.lent_context.specs.Lent.{internedCount, instanceCount}
+use Rattle.lent_context.specs.Lent.{internedCount, instanceCount, keyCount}
 use Rattle.base_tests.specs.Laws.Choice.{ite-lt, ite-ge, ite-yes, ite-no}
 use Rattle.base_tests.specs.Laws.Bool.{or-first, or-second, or-neither}
 use Rattle.refuse_class.specs.Class.{lower}
@@ -20,8 +20,9 @@ use Rattle.refuse_words.specs.Classes.{lowestBelow, earns, wordClass, strayAfte
 use Rattle.refuse_words.specs.Laws.Order.{Class, class-later, earns-class, record-class, lower-keeps, two-first, four-last}
 use Rattle.refuse_instruction.specs.EffectClasses.{effectClass}
 use Rattle.refuse_tables.specs.TableClasses.{identifierClass, functionClass, linkClass, keyLimit, keyLacks, keyClass, noKeyClass, diagnosticLimit, labelClass, messageClass}
-use Rattle.refuse_repeats.specs.Repeats.{keyTwice, diagnosticTwice}
+use Rattle.refuse_repeats.specs.Repeats.{diagnosticTwice}
 use Rattle.refuse_order.specs.Order.{orderClass}
+use Rattle.refuse_key_order.specs.KeyOrder.{keyOrderClass}
 use Rattle.refuse_records.specs.Accepting.{tooManyCaptures, cachedClass, handedOut, diagnosticClass, internedClass, identifiersClass, functionsClass, linksClass, keysClass, diagnosticsClass, effectsClass, countsWrong, tablesClass, contextClass}
 
 -- ---- a class, and 4 where a record repeats another
@@ -84,7 +85,7 @@ module _ (identifiers functions : ℕ) (c : List ℕ) (v : ℕ) where
 
   -- a key, beside its count
   abbrev keyed : ℕ
-  keyed = lower (keyClass identifiers functions c v) (earns 4 (keyTwice c v))
+  keyed = keyClass identifiers functions c v
 
   -- no key at all
   keyless : (r : ℕ) → (eqb v 0 || eqb (field Layout.cached c v 0) 0) ≡ true → r ≡ noKeyClass c v → r ≡ cachedClass identifiers functions c v
@@ -109,24 +110,13 @@ module _ (identifiers functions : ℕ) (c : List ℕ) (v : ℕ) where
         (or-neither (eqb v 0) (eqb (field Layout.cached c v 0) 0) (ne-eqb v 0 n) (ne-eqb (field Layout.cached c v 0) 0 (λ e. z (f ∙ e)))))
 
     -- too many captures
-    -- the third way: nothing else earns 1
+    -- nothing else earns 1
     pub cached-many : many ≡ true → 2 ≡ cachedClass identifiers functions c v
-    cached-many l =
-        two-first keyed (class-later keyed (lower-keeps Class (keyClass identifiers functions c v) (earns 4 (keyTwice c v)) key-class (earns-class 4 (keyTwice c v) (omega arith) (omega arith))))
-        ∙ present true l
+    cached-many l = two-first keyed (class-later keyed key-class) ∙ present true l
 
-    module _ (l : many ≡ false) (y : ℕ) (h : y ≡ keyClass identifiers functions c v) where
-      -- not too many: the rest decides
-      counted : keyed ≡ cachedClass identifiers functions c v
-      counted = lower-none 0 keyed refl ∙ present false l
-
-      -- a key that is refused by its words
-      pub cached-wrong : (y ≡ 0 → ⊥) → y ≡ cachedClass identifiers functions c v
-      cached-wrong d = first-wrong (keyClass identifiers functions c v) y (keyTwice c v) h d key-class ∙ counted
-
-      -- a key that is not
-      pub cached-right : (r : ℕ) (t : Bool) → y ≡ 0 → t ≡ keyTwice c v → r ≡ earns 4 t → r ≡ cachedClass identifiers functions c v
-      cached-right r t d e q = first-right (keyClass identifiers functions c v) y r (keyTwice c v) t h d e q ∙ counted
+    -- not too many: the rest decides
+    pub cached-counted : (y : ℕ) → many ≡ false → y ≡ keyClass identifiers functions c v → y ≡ cachedClass identifiers functions c v
+    cached-counted y l h = h ∙ lower-none 0 keyed refl ∙ present false l
 
 -- ---- the tables
 
@@ -143,14 +133,15 @@ functions-are identifiers functions c n a b d l r e h g k p q =
     q ∙ ap₂ lower h (p ∙ ap₂ lower g k) ∙ ap (λ (m : ℕ). lower (lowestBelow m (functionClass identifiers c)) (lower (strayAfter Layout.functions c m) (strayAfter Layout.contexts c m))) e
 
 -- links
-pub links-are : (functions : ℕ) (c : List ℕ) (next n a b r : ℕ) → n ≡ handedOut next → a ≡ lowestBelow n (linkClass functions c) → b ≡ strayAfter Layout.links c n → r ≡ lower a b → r ≡ linksClass functions c next
+pub links-are : (functions : ℕ) (c : List ℕ) (next n m a b r : ℕ) → n ≡ handedOut next → m ≡ n → a ≡ lowestBelow m (linkClass functions c) → b ≡ strayAfter Layout.links c m → r ≡ lower a b → r ≡ linksClass functions c next
 unfolding linksClass
-links-are functions c next n a b r e h g q = q ∙ ap₂ lower h g ∙ ap (λ (m : ℕ). lower (lowestBelow m (linkClass functions c)) (strayAfter Layout.links c m)) e
+links-are functions c next n m a b r e f h g q = q ∙ ap₂ lower h g ∙ ap (λ (x : ℕ). lower (lowestBelow x (linkClass functions c)) (strayAfter Layout.links c x)) (f ∙ e)
 
 -- keys
-pub keys-are : (identifiers functions : ℕ) (c : List ℕ) (next n a b r : ℕ) → n ≡ handedOut next → a ≡ lowestBelow n (cachedClass identifiers functions c) → b ≡ strayAfter Layout.cached c n → r ≡ lower a b → r ≡ keysClass identifiers functions c next
+pub keys-are : (identifiers functions : ℕ) (c : List ℕ) (next n m a b o r s : ℕ) → n ≡ handedOut next → m ≡ n → a ≡ lowestBelow m (cachedClass identifiers functions c) → b ≡ strayAfter Layout.cached c m → o ≡ keyOrderClass c n → s ≡ lower b o → r ≡ lower a s → r ≡ keysClass identifiers functions c next
 unfolding keysClass
-keys-are identifiers functions c next n a b r e h g q = q ∙ ap₂ lower h g ∙ ap (λ (m : ℕ). lower (lowestBelow m (cachedClass identifiers functions c)) (strayAfter Layout.cached c m)) e
+keys-are identifiers functions c next n m a b o r s e f h g k p q =
+    q ∙ ap₂ lower (h ∙ ap (λ (x : ℕ). lowestBelow x (cachedClass identifiers functions c)) (f ∙ e)) (p ∙ ap₂ lower (g ∙ ap (strayAfter Layout.cached c) (f ∙ e)) (k ∙ ap (keyOrderClass c) e))
 
 -- diagnostics
 pub diagnostics-are : (identifiers : ℕ) (c : List ℕ) (n m a b r : ℕ) → n ≡ instanceCount c → m ≡ n → a ≡ lowestBelow n (diagnosticClass identifiers c) → b ≡ strayAfter Layout.diagnostics c m → r ≡ lower a b → r ≡ diagnosticsClass identifiers c
@@ -167,9 +158,13 @@ effects-are identifiers functions c n m a b o r s e f h g k p q =
 -- ---- the whole
 
 module _ (identifiers functions : ℕ) (c : List ℕ) (i : ℕ) (hi : i ≡ getD c 1 0) where
-  -- the tests that are left after the functions
+  -- the tests that are left after the interned effects
+  abbrev after4 : Bool
+  after4 = ltb 256 (instanceCount c) || ltb 511 (keyCount c)
+
+  -- and after the functions
   abbrev after3 : Bool
-  after3 = ltb 2048 (internedCount c) || ltb 256 (instanceCount c)
+  after3 = ltb 2048 (internedCount c) || after4
 
   -- and after the numbers of the call
   abbrev after2 : Bool
@@ -207,22 +202,28 @@ module _ (identifiers functions : ℕ) (c : List ℕ) (i : ℕ) (hi : i ≡ getD
         -- too many interned effects
         pub counts-effects : 2048 < n → true ≡ countsWrong identifiers functions c
         counts-effects k =
-            sym (or-second (ltb 64 functions) after3 (le-ltb 64 functions l) ∙ or-first (ltb 2048 (internedCount c)) (ltb 256 (instanceCount c)) (ap (ltb 2048) (sym hn) ∙ lt-ltb 2048 n k))
+            sym (or-second (ltb 64 functions) after3 (le-ltb 64 functions l) ∙ or-first (ltb 2048 (internedCount c)) after4 (ap (ltb 2048) (sym hn) ∙ lt-ltb 2048 n k))
             ∙ past-functions
 
-        -- too many diagnostics, or nothing is wrong
-        pub counts-diagnostics : (m : ℕ) → n ≤ 2048 → m ≡ instanceCount c → ltb 256 m ≡ countsWrong identifiers functions c
-        counts-diagnostics m k hm =
-            ap (ltb 256) hm
-            ∙ sym (or-second (ltb 64 functions) after3 (le-ltb 64 functions l) ∙ or-second (ltb 2048 (internedCount c)) (ltb 256 (instanceCount c)) (ap (ltb 2048) (sym hn) ∙ le-ltb 2048 n k))
-            ∙ past-functions
+        module _ (k : n ≤ 2048) (m : ℕ) (hm : m ≡ instanceCount c) where
+          -- the number of interned effects is right
+          past-effects : after4 ≡ countsWrong identifiers functions c
+          past-effects = sym (or-second (ltb 64 functions) after3 (le-ltb 64 functions l) ∙ or-second (ltb 2048 (internedCount c)) after4 (ap (ltb 2048) (sym hn) ∙ le-ltb 2048 n k)) ∙ past-functions
+
+          -- too many diagnostics
+          pub counts-diagnostics : 256 < m → true ≡ countsWrong identifiers functions c
+          counts-diagnostics g = sym (or-first (ltb 256 (instanceCount c)) (ltb 511 (keyCount c)) (ap (ltb 256) (sym hm) ∙ lt-ltb 256 m g)) ∙ past-effects
+
+          -- too many cached keys, or nothing is wrong
+          pub counts-keys : (x : ℕ) → m ≤ 256 → x ≡ keyCount c → ltb 511 x ≡ countsWrong identifiers functions c
+          counts-keys x g hx = ap (ltb 511) hx ∙ sym (or-second (ltb 256 (instanceCount c)) (ltb 511 (keyCount c)) (ap (ltb 256) (sym hm) ∙ le-ltb 256 m g)) ∙ past-effects
 
 -- next lies past the last fresh number, or not
 pub handed-all : (next : ℕ) → 512 < next → 512 ≡ handedOut next
 handed-all next l = sym (ite-lt 512 next 512 next l)
 
-pub handed-some : (next n : ℕ) → next ≤ 512 → n ≡ next → n ≡ handedOut next
-handed-some next n l e = e ∙ sym (ite-ge 512 next 512 next l)
+pub handed-some : (next : ℕ) → next ≤ 512 → next ≡ handedOut next
+handed-some next l = sym (ite-ge 512 next 512 next l)
 
 -- the options and all tables
 -- the lowest class of seven

@@ -2,7 +2,8 @@
 use Prim.Native.Nat.{ℕ, suc, max, _+_, _-_, _≤_, _<_}
 use native.Mathlib.Omega.{arith}
 use native.Mathlib.Numerals.{add-one}
-use mathlib.Core.Path.{_≡_, sym, ap, ap₂, _∙_}
+use mathlib.Core.Path.{_≡_, refl, sym, ap, ap₂, _∙_}
+use mathlib.Core.Logic.{⊎-elim}
 use mathlib.Core.Bool.{Bool, true, false, not, _&&_}
 use mathlib.Core.List.{List, [], _∷_}
 use mathlib.Core.Option.{Option, none, some}
@@ -21,6 +22,7 @@ use Rattle.lent_context.specs.Lent.{diagnosticIn, diagnosticsIn}
 use Rattle.lent_diagnostics.specs.declared.Numbered.{Numbered}
 use Rattle.lent_diagnostics.specs.Numbered.{internedOf}
 use Rattle.base_tests.specs.Laws.Bool.{or-first, or-second}
+use Rattle.base_tests.specs.Laws.Order.{same-or-not}
 use Rattle.refuse_repeats.specs.Repeats.{numberOr, rightIdentity, diagnosticTwice}
 
 -- the diagnostics that are left, with one to look at
@@ -70,12 +72,12 @@ module _ (c : List ℕ) (d : Diagnostic) (k n : ℕ) (inv : findIdentity (diagno
 
 module _ (c : List ℕ) (n : ℕ) (d : Diagnostic) (o : Found) (h : optionOf o ≡ findIdentity (diagnosticsIn c 0 n) d) where
   -- no message is equal
-  pub right-next : (r : ℕ) → o ≡ Nowhere → r ≡ identities (diagnosticsIn c 0 n) → r ≡ rightIdentity c n d
+  right-next : (r : ℕ) → o ≡ Nowhere → r ≡ identities (diagnosticsIn c 0 n) → r ≡ rightIdentity c n d
   unfolding rightIdentity
   right-next r e g = g ∙ ap (numberOr (identities (diagnosticsIn c 0 n))) (sym (ap optionOf e) ∙ h)
 
   -- a message is equal
-  pub right-found : (x : ℕ) → o ≡ At x → x ≡ rightIdentity c n d
+  right-found : (x : ℕ) → o ≡ At x → x ≡ rightIdentity c n d
   unfolding rightIdentity
   right-found x e = ap (numberOr (identities (diagnosticsIn c 0 n))) (sym (ap optionOf e) ∙ h)
 
@@ -98,6 +100,14 @@ module _ (c : List ℕ) (m : ℕ) (d : Diagnostic) (k n : ℕ) (inv : findInstan
   instance-nowhere l =
       sym (ap isSome (ap (λ (ds : List Interned). findInstance 0 ds m d) (diagnostics-all c n) ∙ inv ∙ ap (λ (ds : List Interned). findInstance k ds m d) (diagnostics-none c k n l)))
 
+-- an identity that is not below those of some records is none of theirs
+none-yet : (i : ℕ) (ds : List Interned) (n : ℕ) (d : Diagnostic) → identities ds ≤ n → findInstance i ds n d ≡ none
+unfolding findInstance identities
+none-yet i [] n d l = refl
+none-yet i (x ∷ xs) n d l =
+    ap (λ (b : Bool). elim (b && sameLabels d (x .diagnostic)) as (λ _. Option ℕ) [ true ↦ some i | false ↦ findInstance (suc i) xs n d ]) (ne-eqb n (x .identity) (λ e. omega arith))
+    ∙ none-yet (suc i) xs n d (omega arith)
+
 module _ (c : List ℕ) (k : ℕ) (x : Numbered) (g : internedOf x ≡ diagnosticIn c k) where
   -- the identity of a record that was read
   identity-is : x .identity ≡ field Layout.diagnostics c k 0
@@ -113,16 +123,37 @@ module _ (c : List ℕ) (k : ℕ) (x : Numbered) (g : internedOf x ≡ diagnosti
   same-test m h = ap₂ eqb identity-is (h ∙ ap (rightIdentity c k) diagnostic-is)
 
   -- another identity than it has to have
-  pub diagnostic-wrong : (m : ℕ) → m ≡ rightIdentity c k (x .diagnostic) → (x .identity ≡ m → ⊥) → true ≡ diagnosticTwice c k
+  diagnostic-wrong : (m : ℕ) → m ≡ rightIdentity c k (x .diagnostic) → (x .identity ≡ m → ⊥) → true ≡ diagnosticTwice c k
   unfolding diagnosticTwice
   diagnostic-wrong m h n =
       sym (or-first (not (eqb (field Layout.diagnostics c k 0) (rightIdentity c k (diagnosticIn c k .diagnostic)))) (isSome (findInstance 0 (diagnosticsIn c 0 k) (field Layout.diagnostics c k 0) (diagnosticIn c k .diagnostic)))
       (ap not (sym (same-test m h) ∙ ne-eqb (x .identity) m n)))
 
   -- the right identity: an equal record decides
-  pub diagnostic-right : (m : ℕ) (r : Bool) → m ≡ rightIdentity c k (x .diagnostic) → x .identity ≡ m → r ≡ isSome (findInstance 0 (diagnosticsIn c 0 k) (x .identity) (x .diagnostic)) → r ≡ diagnosticTwice c k
+  diagnostic-right : (m : ℕ) (r : Bool) → m ≡ rightIdentity c k (x .diagnostic) → x .identity ≡ m → r ≡ isSome (findInstance 0 (diagnosticsIn c 0 k) (x .identity) (x .diagnostic)) → r ≡ diagnosticTwice c k
   unfolding diagnosticTwice
   diagnostic-right m r h e q =
       q ∙ ap₂ (λ (i : ℕ) (d : Diagnostic). isSome (findInstance 0 (diagnosticsIn c 0 k) i d)) identity-is diagnostic-is
       ∙ sym (or-second (not (eqb (field Layout.diagnostics c k 0) (rightIdentity c k (diagnosticIn c k .diagnostic)))) (isSome (findInstance 0 (diagnosticsIn c 0 k) (field Layout.diagnostics c k 0) (diagnosticIn c k .diagnostic)))
       (ap not (sym (same-test m h) ∙ eq-eqb (x .identity) m e)))
+
+  -- a message that is new: it has the next identity, or another
+  pub diagnostic-new : (o : Found) (m : ℕ) → optionOf o ≡ findIdentity (diagnosticsIn c 0 k) (x .diagnostic) → o ≡ Nowhere → m ≡ identities (diagnosticsIn c 0 k) → not (eqb (x .identity) m) ≡ diagnosticTwice c k
+  diagnostic-new o m h e q = ⊎-elim next other (same-or-not (x .identity) m)
+    where
+      right : m ≡ rightIdentity c k (x .diagnostic)
+      right = right-next c k (x .diagnostic) o h m e q
+
+      next : x .identity ≡ m → not (eqb (x .identity) m) ≡ diagnosticTwice c k
+      next z = ap not (eq-eqb (x .identity) m z) ∙ diagnostic-right m false right z (sym (ap isSome (none-yet 0 (diagnosticsIn c 0 k) (x .identity) (x .diagnostic) (omega arith))))
+
+      other : (x .identity ≡ m → ⊥) → not (eqb (x .identity) m) ≡ diagnosticTwice c k
+      other n = ap not (ne-eqb (x .identity) m n) ∙ diagnostic-wrong m right n
+
+  -- a message that is not: another identity, or an equal record before it
+  module _ (o : Found) (m : ℕ) (h : optionOf o ≡ findIdentity (diagnosticsIn c 0 k) (x .diagnostic)) (e : o ≡ At m) where
+    pub diagnostic-other : (x .identity ≡ m → ⊥) → true ≡ diagnosticTwice c k
+    diagnostic-other n = diagnostic-wrong m (right-found c k (x .diagnostic) o h m e) n
+
+    pub diagnostic-same : (r : Bool) → x .identity ≡ m → r ≡ isSome (findInstance 0 (diagnosticsIn c 0 k) (x .identity) (x .diagnostic)) → r ≡ diagnosticTwice c k
+    diagnostic-same r z q = diagnostic-right m r (right-found c k (x .diagnostic) o h m e) z q

@@ -1,0 +1,17 @@
+use Prim.Native.Nat.{_-_}
+use Rattle.lent_context.specs.Laws.Search.{more-one, more-none}
+use borrow.Author.Needs.{needs}
+use Rattle.lent_links.proofs.one_more.Statement.{statement}
+use Rattle.lent_links.proofs.one_more.Tie as tie
+
+add-result : tie.Need-add-result
+add-result c = search needs
+
+returns : tie.Need-returns
+returns c = more-one _ (c .if1 .taken)
+
+returns-2 : tie.Need-returns-2
+returns-2 c = more-none _ (c .if1 .left)
+
+pub one-more-spec : {M : Type 1} → statement M
+one-more-spec = tie.close (tie.spec add-result returns returns-2)
