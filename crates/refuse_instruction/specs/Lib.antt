@@ -1,2 +1,3 @@
 pub mod EffectClasses
+pub mod Parts
 pub mod Laws

@@ -6,6 +6,7 @@ ghost use mathlib.Core.Bool.{not};
 ghost use Rattle.base_tests.specs.Tests.{ite};
 ghost use Rattle.refuse_words.specs.Classes.{limitOf, lowestBelow, recordClass, wordsBelow};
 ghost use Rattle.refuse_words.specs.Classes as Classes;
+ghost use Rattle.refuse_instruction.specs.Parts.{placeWord, middleWord};
 ghost use Rattle.refuse_instruction.specs.EffectClasses.{uses, middleLimit, effectLimit, countClass, numbersClass, effectClass, placeClass, instructionClass};
 ghost use Rattle.lent_slices.specs.Lent.{old};
 use def_effects::Place;
@@ -180,7 +181,73 @@ fn all_words(
     worst
 }
 
-// The class of the first 18 words, those before the captures.
+// The class of a place of five words, from word `first` of record i on; u is 1 where it is used, else 0.
+// Each word for itself: this is the most frequent test of a call.
+fn place_words(t: Table, xs: &[u32], i: usize, first: u32, u: u32, identifiers: u32) -> u32
+    ensures { λ r. ⌜ r ≡ lowestBelow 5 (placeWord t (old xs) i first u identifiers) ⌝ }
+{
+    let w = wide32(first);
+    let a = field(t, xs, i, w);
+    let b = field(t, xs, i, w + 1);
+    let c = field(t, xs, i, w + 2);
+    let d = field(t, xs, i, w + 3);
+    let e = field(t, xs, i, w + 4);
+    let identifier = word_class(used_if(u, place_limit(identifiers, 0)), a);
+    let effect = word_class(used_if(u, place_limit(identifiers, 1)), b);
+    let reactive = word_class(used_if(u, place_limit(identifiers, 2)), c);
+    let start = word_class(used_if(u, place_limit(identifiers, 3)), d);
+    let end = word_class(used_if(u, place_limit(identifiers, 4)), e);
+    lower(
+        identifier,
+        lower(effect, lower(reactive, lower(start, end))),
+    )
+}
+
+// The class of the seven words after both places.
+fn middle_words(t: Table, xs: &[u32], i: usize, functions: u32, diagnostics: u32, code: u32) -> u32
+    ensures { λ r. ⌜ r ≡ lowestBelow 7 (middleWord t (old xs) i functions diagnostics code) ⌝ }
+{
+    let kind = word_class(
+        middle_limit(functions, diagnostics, code, 0),
+        field(t, xs, i, 11),
+    );
+    let reason = word_class(
+        middle_limit(functions, diagnostics, code, 1),
+        field(t, xs, i, 12),
+    );
+    let mutation = word_class(
+        middle_limit(functions, diagnostics, code, 2),
+        field(t, xs, i, 13),
+    );
+    let function = word_class(
+        middle_limit(functions, diagnostics, code, 3),
+        field(t, xs, i, 14),
+    );
+    let identity = word_class(
+        middle_limit(functions, diagnostics, code, 4),
+        field(t, xs, i, 15),
+    );
+    let instance = word_class(
+        middle_limit(functions, diagnostics, code, 5),
+        field(t, xs, i, 16),
+    );
+    let count = word_class(
+        middle_limit(functions, diagnostics, code, 6),
+        field(t, xs, i, 17),
+    );
+    lower(
+        kind,
+        lower(
+            reason,
+            lower(
+                mutation,
+                lower(function, lower(identity, lower(instance, count))),
+            ),
+        ),
+    )
+}
+
+// The class of the first 18 words, those before the captures: the code, two places, and what stands after them.
 fn head_words(
     t: Table,
     xs: &[u32],
@@ -193,14 +260,11 @@ fn head_words(
 ) -> u32
     ensures { λ r. ⌜ r ≡ wordsBelow t (old xs) (effectLimit identifiers functions diagnostics code n) i 18 ⌝ }
 {
-    let mut worst: u32 = 0;
-    let mut w: usize = 0;
-    while w < 18 {
-        let limit = effect_limit(identifiers, functions, diagnostics, code, n, w);
-        worst = lower(worst, word_class(limit, field(t, xs, i, w)));
-        w += 1;
-    }
-    worst
+    let tag = word_class(19, field(t, xs, i, 0));
+    let first = place_words(t, xs, i, 1, uses_place(code), identifiers);
+    let second = place_words(t, xs, i, 6, uses_destination(code), identifiers);
+    let rest = middle_words(t, xs, i, functions, diagnostics, code);
+    lower(tag, lower(first, lower(second, rest)))
 }
 
 // The class of the words of an effect's record. Only a CreateFunction has captures;

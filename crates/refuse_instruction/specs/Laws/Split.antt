@@ -46,7 +46,7 @@ module _ (a b c : ℕ) (h : a ≡ 0 → ⊥) (k : b ≡ 0 → ⊥) (l : c ≡ 0 
           (λ q. sym (lower-first a c h l (omega arith)) ∙ lower-first a b h k p ∙ ap (lower a) (lower-first b c k l q))
           (lt-or-ge c b)
 
-lower-assoc : (a b c : ℕ) → lower (lower a b) c ≡ lower a (lower b c)
+pub lower-assoc : (a b c : ℕ) → lower (lower a b) c ≡ lower a (lower b c)
 lower-assoc a b c = ⊎-elim
     (λ e. ap (λ (x : ℕ). lower x c) (sym (lower-none a b e)) ∙ lower-none a (lower b c) e)
     (λ h. ⊎-elim
@@ -59,7 +59,7 @@ lower-assoc a b c = ⊎-elim
     (same-or-not a 0)
 
 -- the lowest of some, and of those after them
-lowest-split : (f : ℕ → ℕ) (m n : ℕ) → lowestBelow (m + n) f ≡ lower (lowestBelow m f) (lowestBelow n (λ k. f (m + k)))
+pub lowest-split : (f : ℕ → ℕ) (m n : ℕ) → lowestBelow (m + n) f ≡ lower (lowestBelow m f) (lowestBelow n (λ k. f (m + k)))
 unfolding lowestBelow
 lowest-split f m zero = ap (λ (x : ℕ). lowestBelow x f) (let z : m + 0 ≡ m = omega arith in z) ∙ alone (lowestBelow m f)
   where
@@ -98,10 +98,6 @@ module _ (t : Table) (xs : List ℕ) (i identifiers functions diagnostics code n
 -- the code of an effect without captures
 pub no-captures : (code u : ℕ) → u ≡ ite (eqb code 13) 1 0 → u ≡ 0 → uses code 7 ≡ 0
 no-captures code u h z = sym (only-captures code) ∙ sym h ∙ z
-
--- all of the first 18 words
-pub words-done : (t : Table) (xs : List ℕ) (limit : ℕ → Option ℕ) (i w x : ℕ) → w ≡ 18 → x ≡ wordsBelow t xs limit i w → x ≡ wordsBelow t xs limit i 18
-words-done t xs limit i w x e h = h ∙ ap (wordsBelow t xs limit i) e
 
 -- where the rest begins
 pub split-from : (t : Table) (i a : ℕ) → a ≡ t .base → t .width ≡ 98 → a + i * 98 + 18 ≡ index t i 18

@@ -52,6 +52,7 @@ module _ (vs ss : List ℕ) (s : Session) (z : stateRefusal vs ss (s .next) (s .
           session = record { low = l .next-low; next = refl; access = refl; span = refl; entries = refl };
           fit = tt;
           context = refl;
+          unused = λ v l. refl;
           work = record { initialized = refl; listed = refl; freezeEntries = refl; entries = refl };
         };
       }
