@@ -9,7 +9,6 @@ use Rattle.def_transfer.specs.Tables.{Tables, World}
 use Rattle.lent_values.specs.Cells.{valueAt, putValue}
 use Rattle.lent_sets.specs.Rows.{setAt, putSet}
 pub use Rattle.lent_copies.specs.Copies.{zeros}
-use Rattle.lent_tables.specs.declared.Table.{Table}
 use Rattle.lent_effects.specs.Records.{putEffect}
 use Rattle.lent_work.specs.declared.Marks.{Marks}
 use Rattle.lent_work.specs.Access.{accessOf}

@@ -1,14 +1,13 @@
 -- An order table: places 0 to n - 1, each with the number of a record. Where neighbours ascend by their keys and each number lies below n,
 -- the table is a permutation of the records, no two records have one key, a search by halves finds a record just if there is one under the key,
 -- and what is put in where the search ended keeps all that. Assumes nothing.
-use Prim.Native.Nat.{ℕ, zero, suc, _+_, _-_, _≤_, _<_}
+use Prim.Native.Nat.{ℕ, zero, suc, _≤_, _<_}
 use native.Mathlib.Omega.{arith}
 use mathlib.Core.Path.{_≡_, refl, sym, ap, _∙_, subst}
-use mathlib.Core.Bool.{Bool, true, false}
 use mathlib.Core.Logic.{_⊎_, inl, inr, ⊎-elim}
-use lib.Dec.{ltb, eqb}
+use lib.Dec.{eqb}
 use Rattle.base_tests.specs.Tests.{ite}
-use Rattle.base_tests.specs.Laws.Choice.{ite-lt, ite-ge, ite-eq, ite-ne}
+use Rattle.base_tests.specs.Laws.Choice.{ite-eq, ite-ne}
 use Rattle.base_search.specs.declared.Order.{Order}
 use Rattle.base_search.specs.declared.Order.the-variants.{Less, Same, More}
 use Rattle.base_search.specs.declared.Spot.{Spot}

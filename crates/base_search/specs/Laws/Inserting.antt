@@ -1,12 +1,11 @@
 -- What is put into an ascending order where the search for its key ended keeps the order ascending. Assumes nothing.
-use Prim.Native.Nat.{ℕ, zero, suc, _+_, _-_, _≤_, _<_}
+use Prim.Native.Nat.{ℕ, zero, suc, _-_, _≤_, _<_}
 use native.Mathlib.Omega.{arith}
 use mathlib.Core.Path.{_≡_, refl, sym, ap, ap₂, _∙_, subst}
-use mathlib.Core.Logic.{_⊎_, inl, inr, ⊎-elim}
+use mathlib.Core.Logic.{⊎-elim}
 use lib.Dec.{ltb, eqb}
 use Rattle.base_tests.specs.Tests.{ite}
 use Rattle.base_tests.specs.Laws.Choice.{ite-lt, ite-ge, ite-eq, ite-ne}
-use Rattle.base_search.specs.declared.Order.{Order}
 use Rattle.base_search.specs.declared.Order.the-variants.{Less, More}
 use Rattle.base_search.specs.Laws.Search.{Between}
 use Rattle.base_tests.specs.Laws.Order.{lt-or-ge}

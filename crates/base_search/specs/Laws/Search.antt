@@ -1,8 +1,8 @@
 -- What a search by halves finds, and what it says where it finds nothing; the laws by which a loop meets it. Assumes nothing.
-use Prim.Native.Nat.{ℕ, zero, suc, _+_, _-_, _/_, _≤_, _<_}
+use Prim.Native.Nat.{ℕ, zero, suc, _+_, _-_, _≤_, _<_}
 use native.Mathlib.Omega.{arith}
 use mathlib.Core.Path.{_≡_, refl, sym, ap, _∙_, subst}
-use mathlib.Core.Logic.{_⊎_, inl, inr, ⊎-elim}
+use mathlib.Core.Logic.{⊎-elim}
 use Rattle.base_tests.specs.Laws.Choice.{ite-lt, ite-ge}
 use Rattle.base_tests.specs.Laws.Order.{lt-or-ge}
 use Rattle.base_search.specs.declared.Order.{Order}

@@ -1,10 +1,10 @@
 -- A context with the room that is asked for is as good as one with room for all effects: with the words that are missing put behind it, it fits,
 -- and the call ends as before but for these words. Assumes nothing.
-use Prim.Native.Nat.{ℕ, zero, suc, _+_, _-_, _*_, _/_, _≤_, _<_}
+use Prim.Native.Nat.{ℕ, _+_, _-_, _*_, _/_, _≤_, _<_}
 use native.Mathlib.Omega.{arith}
-use mathlib.Core.Path.{_≡_, refl, sym, ap, ap₂, _∙_, subst}
+use mathlib.Core.Path.{_≡_, refl, sym, ap, _∙_, subst}
 use mathlib.Core.List.{List, [], _∷_, _++_}
-use mathlib.Core.Logic.{_⊎_, ⊎-elim}
+use mathlib.Core.Logic.{⊎-elim}
 use lib.ListN.{length, getD, length-append}
 use Rattle.base_tests.specs.Laws.Choice.{ite-lt, ite-ge}
 use Rattle.base_tests.specs.Laws.Order.{lt-or-ge}

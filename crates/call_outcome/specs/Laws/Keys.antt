@@ -2,11 +2,10 @@
 use Prim.Native.Nat.{ℕ, _+_, _-_, _*_, _≤_, _<_}
 use native.Mathlib.Omega.{arith}
 use mathlib.Core.Path.{_≡_, refl, sym, ap, _∙_}
-use mathlib.Core.Bool.{Bool, true, false, not, _||_}
+use mathlib.Core.Bool.{Bool, true, false, not}
 use mathlib.Core.Logic.{⊎-elim}
 use mathlib.Core.List.{List}
 use mathlib.Core.Option.{none}
-use lib.Dec.{eqb, ltb}
 use lib.ListN.{getD}
 use borrow.Author.Tests.{eq-eqb}
 use Rattle.base_tests.specs.Tests.{ite}
@@ -18,10 +17,9 @@ use Rattle.lent_layout.specs.Layout as Layout
 use Rattle.lent_context.specs.Lent.{keyAt, isKeyed}
 use Rattle.lent_context.specs.Laws.Numbered.{Numbered, keyless-at}
 use Rattle.refuse_class.specs.Laws.Class.{lower-0}
-use Rattle.refuse_words.specs.Classes.{lowestBelow, wordClass, wordsBelow, recordClass, strayFrom, strayAfter}
+use Rattle.refuse_words.specs.Classes.{wordClass, wordsBelow, recordClass, strayFrom, strayAfter}
 use Rattle.refuse_words.specs.Laws.Class.{lowest-0}
 use Rattle.refuse_tables.specs.TableClasses.{noKeyClass}
-use Rattle.refuse_key_order.specs.KeyOrder.{keyOrderClass}
 use Rattle.refuse_key_order.specs.Laws.Accepted.{in-order}
 use Rattle.refuse_records.specs.Accepting.{handedOut, cachedClass, keysClass, countsWrong, tablesClass, contextClass}
 use Rattle.call_outcome.specs.Laws.Class.{word-0}

@@ -5,8 +5,6 @@ use Rattle.call_room.specs.Laws.Room.{capped-full, capped-past, capped-s
 use borrow.Author.Needs.{needs}
 use Rattle.call_room.proofs.capped.Statement.{statement}
 use Rattle.call_room.proofs.capped.Tie as tie
-use Rattle.call_room.proofs.capped.Reads as reads
-use Rattle.call_room.proofs.capped.Lts as lts
 
 returns : tie.Need-returns
 returns c = capped-full _ _ (inl (c .if1 .taken))

@@ -2,9 +2,6 @@ use Rattle.call_room.specs.Laws.Room.{captures-there, captures-none}
 use borrow.Author.Needs.{needs}
 use Rattle.call_room.proofs.captures_of.Statement.{statement}
 use Rattle.call_room.proofs.captures_of.Tie as tie
-use Rattle.call_room.proofs.captures_of.Reads as reads
-use Rattle.call_room.proofs.captures_of.Lts as lts
-use Rattle.lent_tables.proofs.field.Reads as field-reads
 
 field-requires : tie.Need-field-requires
 field-requires c κs = search needs

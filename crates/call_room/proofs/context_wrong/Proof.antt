@@ -3,9 +3,6 @@ use Rattle.call_outcome.specs.Laws.Class.{context-short, context-long, context-
 use borrow.Author.Needs.{needs}
 use Rattle.call_room.proofs.context_wrong.Statement.{statement}
 use Rattle.call_room.proofs.context_wrong.Tie as tie
-use Rattle.call_room.proofs.context_wrong.Reads as reads
-use Rattle.call_room.proofs.context_wrong.Lts as lts
-use Rattle.lent_slices.proofs.wide32.Reads as wide32-reads
 
 wide32-requires : tie.Need-wide32-requires
 wide32-requires c κs = search needs

@@ -2,8 +2,6 @@ use borrow.Author.Needs.{needs}
 use Rattle.call_room.specs.Laws.Room.{derives-none, derives-report, derives-two, derives-one, derives-from, derives-rest}
 use Rattle.call_room.proofs.derived.Statement.{statement}
 use Rattle.call_room.proofs.derived.Tie as tie
-use Rattle.call_room.proofs.derived.Reads as reads
-use Rattle.call_room.proofs.derived.Lts as lts
 
 returns : tie.Need-returns
 returns c = derives-none _ (c .if1 .taken)

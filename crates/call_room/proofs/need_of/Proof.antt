@@ -4,11 +4,6 @@ use Rattle.call_room.specs.Laws.Room.{derives-few, need-is}
 use borrow.Author.Needs.{needs}
 use Rattle.call_room.proofs.need_of.Statement.{statement}
 use Rattle.call_room.proofs.need_of.Tie as tie
-use Rattle.call_room.proofs.need_of.Reads as reads
-use Rattle.call_room.proofs.need_of.Lts as lts
-use Rattle.call_room.proofs.captures_of.Reads as captures-of-reads
-use Rattle.call_room.proofs.derived.Reads as derived-reads
-use Rattle.lent_effects.proofs.code_in.Reads as code-in-reads
 
 code-in-requires : tie.Need-code-in-requires
 code-in-requires c κs = search needs

@@ -7,11 +7,6 @@ use Rattle.call_outcome.specs.Calls.{roomFor}
 use Rattle.call_room.specs.Laws.Room.{left, room-starts, room-more, room-ends, most-limit}
 use Rattle.call_room.proofs.room_for.Statement.{statement}
 use Rattle.call_room.proofs.room_for.Tie as tie
-use Rattle.call_room.proofs.room_for.Reads as reads
-use Rattle.call_room.proofs.room_for.Lts as lts
-use Rattle.call_room.proofs.capped.Reads as capped-reads
-use Rattle.call_room.proofs.need_of.Reads as need-of-reads
-use Rattle.lent_links.proofs.interned_count.Reads as interned-count-reads
 
 abbrev Inv-loop : tie.InvT-loop
 Inv-loop context candidates n total₀ k₀ total k = (k ≤ n) × (total ≤ 2048) × (roomFor context candidates ≡ left context candidates (length candidates / 98) refl total k)
@@ -41,7 +36,11 @@ loop-less : tie.Need-loop-less Inv-loop μ-loop
 loop-less c = search needs
 
 loop-again : tie.Need-loop-again Inv-loop μ-loop
-loop-again c = (omega arith, most-limit _ (c .before .before .before .loop .total + c .before .need-of .result) (c .capped2 .ensures), room-more (c .before .before .before .before .before .before .before .before .args .context .now) (c .before .before .before .before .before .before .before .before .args .candidates .now) (length (c .before .before .before .before .before .before .before .before .args .candidates .now) / 98) refl _ _ _ _ (c .before .before .loop-test .taken) (c .before .need-of .ensures) (c .capped2 .ensures) (c .before .before .before .loop .inv .2))
+loop-again c =
+    let at-loop-test = c .before .before in
+    let at-loop = at-loop-test .before in
+    let at-args = at-loop .before .before .before .before .before in
+    (omega arith, most-limit _ (at-loop .loop .total + c .before .need-of .result) (c .capped2 .ensures), room-more (at-args .args .context .now) (at-args .args .candidates .now) (length (at-args .args .candidates .now) / 98) refl _ _ _ _ (at-loop-test .loop-test .taken) (c .before .need-of .ensures) (c .capped2 .ensures) (at-loop .loop .inv .2))
 
 returns : tie.Need-returns Inv-loop μ-loop
 returns c = room-ends (c .before .before .before .before .before .before .args .context .now) (c .before .before .before .before .before .before .args .candidates .now) (length (c .before .before .before .before .before .before .args .candidates .now) / 98) refl _ _ (c .loop-test .left) (c .before .loop .inv .1) (c .before .loop .inv .2)

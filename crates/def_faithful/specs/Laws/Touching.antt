@@ -31,7 +31,7 @@ use Rattle.def_transfer.specs.Laws.Derived.{refreshed-key}
 use Rattle.def_faithful.specs.Ranges.{Number, Fresh, Pointing, Reasoned, Short}
 use Rattle.def_faithful.specs.Laws.Ranges.{fresh-number, own-number, single-reasoned, none-reasoned, default-reasoned, pointing-members, singleton-set}
 use Rattle.def_faithful.specs.Faithful.{Faithful}
-use Rattle.def_faithful.specs.Laws.Means.{Any, SameSession, SameRest, Related, Rel, Means, plain, bind-means, then-means, bind-any, bind-fresh, bind-set, return-means, done-means, refuse-means, if-means, test-means, each-value, each-any, When, always, when-bind, when-then, when-ask, look, look-found, when-test, when-change, answer-means, ask-means, change-means}
+use Rattle.def_faithful.specs.Laws.Means.{Any, SameSession, SameRest, Related, Rel, Means, plain, then-means, bind-any, bind-set, return-means, done-means, refuse-means, if-means, each-value, each-any, When, always, when-bind, when-then, when-ask, look, look-found, when-test, when-change, ask-means, change-means}
 
 -- ---- ranges
 

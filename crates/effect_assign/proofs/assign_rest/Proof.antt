@@ -33,10 +33,14 @@ emit-requires : tie.Need-emit-requires
 emit-requires c κs = search needs
 
 same-length-4 : tie.Need-same-length-4
-same-length-4 c = c .before .before .before .before .before .before .before .before .assign .kept .0
+same-length-4 c =
+    let at-assign = c .before .before .before .before .before .before .before .before in
+    at-assign .assign .kept .0
 
 same-length-5 : tie.Need-same-length-5
-same-length-5 c = c .before .before .before .before .before .before .before .before .assign .kept .1 .0
+same-length-5 c =
+    let at-assign = c .before .before .before .before .before .before .before .before in
+    at-assign .assign .kept .1 .0
 
 same-length-6 : tie.Need-same-length-6
 same-length-6 c = c .before .before .emit .kept .0

@@ -44,10 +44,14 @@ list-created-requires : tie.Need-list-created-requires
 list-created-requires c κs = search needs
 
 same-length-4 : tie.Need-same-length-4
-same-length-4 c = c .before .before .before .before .before .before .before .before .create .kept .0
+same-length-4 c =
+    let at-create = c .before .before .before .before .before .before .before .before in
+    at-create .create .kept .0
 
 same-length-5 : tie.Need-same-length-5
-same-length-5 c = c .before .before .before .before .before .before .before .before .create .kept .1 .0
+same-length-5 c =
+    let at-create = c .before .before .before .before .before .before .before .before in
+    at-create .create .kept .1 .0
 
 same-length-6 : tie.Need-same-length-6
 same-length-6 c =

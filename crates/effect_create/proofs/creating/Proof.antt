@@ -37,10 +37,14 @@ emit-requires : tie.Need-emit-requires
 emit-requires c κs = search needs
 
 same-length-2 : tie.Need-same-length-2
-same-length-2 c = c .before .before .before .before .before .before .before .before .create .kept .0
+same-length-2 c =
+    let at-create = c .before .before .before .before .before .before .before .before in
+    at-create .create .kept .0
 
 same-length-3 : tie.Need-same-length-3
-same-length-3 c = c .before .before .before .before .before .before .before .before .create .kept .1 .0
+same-length-3 c =
+    let at-create = c .before .before .before .before .before .before .before .before in
+    at-create .create .kept .1 .0
 
 same-length-4 : tie.Need-same-length-4
 same-length-4 c =

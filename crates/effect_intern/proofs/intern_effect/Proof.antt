@@ -3,18 +3,6 @@ use Rattle.effect_intern.specs.Laws.Interning.{intern-found, intern-full
 use borrow.Author.Needs.{needs}
 use Rattle.effect_intern.proofs.intern_effect.Statement.{statement}
 use Rattle.effect_intern.proofs.intern_effect.Tie as tie
-use Rattle.effect_intern.proofs.intern_effect.Reads as reads
-use Rattle.effect_intern.proofs.intern_effect.Lts as lts
-use Rattle.effect_intern.proofs.refresh.Reads as refresh-reads
-use Rattle.lent_effect_read.proofs.effect_in.Reads as effect-in-reads
-use Rattle.lent_effect_write.proofs.put_effect.Reads as put-effect-reads
-use Rattle.lent_key_of.proofs.key_of.Reads as key-of-reads
-use Rattle.lent_links.proofs.interned_count.Reads as interned-count-reads
-use Rattle.lent_order.proofs.insert.Reads as insert-reads
-use Rattle.lent_order.proofs.order_at.Reads as order-at-reads
-use Rattle.lent_search.proofs.find_effect.Reads as find-effect-reads
-use Rattle.lent_slices.proofs.set32.Reads as set32-reads
-use Rattle.lent_slices.proofs.wide32.Reads as wide32-reads
 
 key-of-requires : tie.Need-key-of-requires
 key-of-requires c κs = search needs
@@ -47,7 +35,12 @@ same-length : tie.Need-same-length
 same-length c = search needs
 
 returns : tie.Need-returns
-returns c = λ vs ss os run. intern-full vs ss (c .before .before .before .before .before .before .before .before .before .before .before .args .context .now) os run (c .before .before .before .before .before .before .before .before .before .before .before .args .e) (capturesOf (c .before .before .before .before .before .before .before .before .before .before .before .args .captures .now)) _ (c .before .before .before .before .before .before .before .key-of .ensures (capturesOf (c .before .before .before .before .before .before .before .before .before .before .before .args .captures .now))) _ (c .before .before .before .before .before .before .find-effect .ensures) _ _ (c .before .before .before .before .spot2 .given .1) (c .before .interned-count .ensures) (c .if1 .taken)
+returns c =
+    let at-spot2 = c .before .before .before .before in
+    let at-find-effect = at-spot2 .before .before in
+    let at-key-of = at-find-effect .before in
+    let at-args = at-key-of .before .before .before .before in
+    λ vs ss os run. intern-full vs ss (at-args .args .context .now) os run (at-args .args .e) (capturesOf (at-args .args .captures .now)) _ (at-key-of .key-of .ensures (capturesOf (at-args .args .captures .now))) _ (at-find-effect .find-effect .ensures) _ _ (at-spot2 .spot2 .given .1) (c .before .interned-count .ensures) (c .if1 .taken)
 
 wide32-requires-2 : tie.Need-wide32-requires-2
 wide32-requires-2 c κs = search needs
@@ -68,13 +61,31 @@ same-length-2 : tie.Need-same-length-2
 same-length-2 c = search needs
 
 returns-2 : tie.Need-returns-2
-returns-2 c = λ vs ss os run. intern-found vs ss (c .before .before .before .before .before .before .before .before .before .before .before .before .before .before .args .context .now) os run (c .before .before .before .before .before .before .before .before .before .before .before .before .before .before .args .e) (capturesOf (c .before .before .before .before .before .before .before .before .before .before .before .before .before .before .args .captures .now)) _ (c .before .before .before .before .before .before .before .before .before .before .key-of .ensures (capturesOf (c .before .before .before .before .before .before .before .before .before .before .before .before .before .before .args .captures .now))) _ (c .before .before .before .before .before .before .before .before .before .find-effect .ensures) _ _ _ _ _ (c .before .before .before .before .before .before .before .spot .given .1) (c .before .before .before .before .order-at .ensures) (c .before .before .wide32 .ensures) (c .before .effect-in .ensures) (c .refresh .ensures)
+returns-2 c =
+    let at-wide32 = c .before .before in
+    let at-order-at = at-wide32 .before .before in
+    let at-spot = at-order-at .before .before .before in
+    let at-find-effect = at-spot .before .before in
+    let at-key-of = at-find-effect .before in
+    let at-args = at-key-of .before .before .before .before in
+    λ vs ss os run. intern-found vs ss (at-args .args .context .now) os run (at-args .args .e) (capturesOf (at-args .args .captures .now)) _ (at-key-of .key-of .ensures (capturesOf (at-args .args .captures .now))) _ (at-find-effect .find-effect .ensures) _ _ _ _ _ (at-spot .spot .given .1) (at-order-at .order-at .ensures) (at-wide32 .wide32 .ensures) (c .before .effect-in .ensures) (c .refresh .ensures)
 
 same-length-3 : tie.Need-same-length-3
 same-length-3 c = search needs
 
 returns-3 : tie.Need-returns-3
-returns-3 c = λ vs ss os run. intern-new vs ss (c .before .before .before .before .before .before .before .before .before .before .before .before .before .before .before .before .before .before .before .before .before .before .before .before .args .context .now) os run (c .before .before .before .before .before .before .before .before .before .before .before .before .before .before .before .before .before .before .before .before .before .before .before .before .args .e) (capturesOf (c .before .before .before .before .before .before .before .before .before .before .before .before .before .before .before .before .before .before .before .before .before .before .before .before .args .captures .now)) _ (c .before .before .before .before .before .before .before .before .before .before .before .before .before .before .before .before .before .before .before .before .key-of .ensures (capturesOf (c .before .before .before .before .before .before .before .before .before .before .before .before .before .before .before .before .before .before .before .before .before .before .before .before .args .captures .now))) _ (c .before .before .before .before .before .before .before .before .before .before .before .before .before .before .before .before .before .before .before .find-effect .ensures) _ _ _ _ _ _ (c .before .before .before .before .before .before .before .before .before .before .before .before .before .before .before .before .before .spot2 .given .1) (c .before .before .before .before .before .before .before .before .before .before .before .before .before .before .interned-count .ensures) (c .before .before .before .before .before .before .before .before .before .before .before .before .before .if1 .left) (c .before .before .before .before .before .before .before .before .before .before .before .wide322 .ensures) (c .before .before .before .before .before .before .before .before .before .before .put-effect .ensures) (c .before .before .before .before .before .before .insert .ensures) (c .before .before .set32 .ensures)
+returns-3 c =
+    let at-set32 = c .before .before in
+    let at-insert = at-set32 .before .before .before .before in
+    let at-put-effect = at-insert .before .before .before .before in
+    let at-wide322 = at-put-effect .before in
+    let at-if1 = at-wide322 .before .before in
+    let at-interned-count = at-if1 .before in
+    let at-spot2 = at-interned-count .before .before .before in
+    let at-find-effect = at-spot2 .before .before in
+    let at-key-of = at-find-effect .before in
+    let at-args = at-key-of .before .before .before .before in
+    λ vs ss os run. intern-new vs ss (at-args .args .context .now) os run (at-args .args .e) (capturesOf (at-args .args .captures .now)) _ (at-key-of .key-of .ensures (capturesOf (at-args .args .captures .now))) _ (at-find-effect .find-effect .ensures) _ _ _ _ _ _ (at-spot2 .spot2 .given .1) (at-interned-count .interned-count .ensures) (at-if1 .if1 .left) (at-wide322 .wide322 .ensures) (at-put-effect .put-effect .ensures) (at-insert .insert .ensures) (at-set32 .set32 .ensures)
 
 pub intern-effect-spec : {M : Type 1} → statement M
 intern-effect-spec =

@@ -2,13 +2,6 @@ use Rattle.effect_intern.specs.Laws.Interning.{number-asked, number-put, number
 use borrow.Author.Needs.{needs}
 use Rattle.effect_number.proofs.get_or_create_value_id.Statement.{statement}
 use Rattle.effect_number.proofs.get_or_create_value_id.Tie as tie
-use Rattle.effect_number.proofs.get_or_create_value_id.Reads as reads
-use Rattle.effect_number.proofs.get_or_create_value_id.Lts as lts
-use Rattle.effect_parts.proofs.with_session.Reads as with-session-reads
-use Rattle.lent_links.proofs.put_key.Reads as put-key-reads
-use Rattle.lent_search.proofs.find_key.Reads as find-key-reads
-use Rattle.lent_search.proofs.number_at.Reads as number-at-reads
-use Rattle.lent_search.proofs.place_of.Reads as place-of-reads
 
 find-key-requires : tie.Need-find-key-requires
 find-key-requires c κs = search needs
@@ -50,7 +43,14 @@ same-length-3 : tie.Need-same-length-3
 same-length-3 c = search needs
 
 returns-3 : tie.Need-returns-3
-returns-3 c = λ vs ss os. number-new vs ss _ os _ _ _ (number-asked _ _ _ (c .before .before .before .before .before .before .before .before .before .before .before .number-at .result) (c .before .before .before .before .before .before .before .before .before .before .before .before .before .find-key .ensures) (c .before .before .before .before .before .before .before .before .before .before .before .number-at .ensures)) _ _ (c .before .before .before .before .before .before .before .before .before .enum-told .given .1) (c .before .before .before .before .before .before .before .if1 .left) (number-put _ _ _ _ _ _ (c .before .before .before .before .before .before .before .before .before .before .before .before .before .find-key .ensures) (c .before .before .before .before .before .place-of .ensures) (c .before .before .before .before .put-key .ensures)) (c .with-session .ensures)
+returns-3 c =
+    let at-put-key = c .before .before .before .before in
+    let at-place-of = at-put-key .before in
+    let at-if1 = at-place-of .before .before in
+    let at-enum-told = at-if1 .before .before in
+    let at-number-at = at-enum-told .before .before in
+    let at-find-key = at-number-at .before .before in
+    λ vs ss os. number-new vs ss _ os _ _ _ (number-asked _ _ _ (at-number-at .number-at .result) (at-find-key .find-key .ensures) (at-number-at .number-at .ensures)) _ _ (at-enum-told .enum-told .given .1) (at-if1 .if1 .left) (number-put _ _ _ _ _ _ (at-find-key .find-key .ensures) (at-place-of .place-of .ensures) (at-put-key .put-key .ensures)) (c .with-session .ensures)
 
 pub get-or-create-value-id-spec : {M : Type 1} → statement M
 get-or-create-value-id-spec =

@@ -121,7 +121,10 @@ same-length-11 : tie.Need-same-length-11
 same-length-11 c = search needs
 
 returns-3 : tie.Need-returns-3
-returns-3 c = plain-immutableCapture _ _ _ _ _ _ (c .before .before .before .before .before .before .before .e3 .given .1) (λ again. c .before .before .capturing-immutably .ensures again _)
+returns-3 c =
+    let at-capturing-immutably = c .before .before in
+    let at-e3 = at-capturing-immutably .before .before .before .before .before in
+    plain-immutableCapture _ _ _ _ _ _ (at-e3 .e3 .given .1) (λ again. at-capturing-immutably .capturing-immutably .ensures again _)
 
 same-length-12 : tie.Need-same-length-12
 same-length-12 c = search needs

@@ -7,14 +7,13 @@ use mathlib.Core.Bool.{Bool, true, false, _&&_}
 use mathlib.Core.List.{List, []}
 use mathlib.Core.Option.{Option, none, some}
 use Rattle.base_tests.specs.Tests.{ite, isSome}
-use Rattle.base_tests.specs.Laws.Choice.{ite-lt, ite-ge}
 use Rattle.def_kinds.specs.declared.ValueKind.the-variants.{Frozen}
 use Rattle.def_kinds.specs.declared.AbstractValue.{AbstractValue}
 use Rattle.def_kinds.specs.Kinds.{freezable}
 use Rattle.def_kinds.specs.Reasons.{single}
 use Rattle.def_kinds.specs.Values.{mk}
 use Rattle.def_effects.specs.declared.Place.{Place}
-use Rattle.def_transfer.specs.Monad.{Res, ok, M, Done, andThen, _>>=_, _>>_, return, refuse, if_then_else_, each}
+use Rattle.def_transfer.specs.Monad.{Res, ok, M, Done, andThen, _>>=_, return, refuse, if_then_else_, each}
 use Rattle.def_transfer.specs.Tables.{World}
 use Rattle.def_transfer.specs.State.{kindOf, ask, change, setOf, peek, initialize, freezeValue, toFreeze}
 use Rattle.base_sets.specs.Members.{valuesOf, bitsOf}

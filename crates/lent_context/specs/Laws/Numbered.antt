@@ -3,13 +3,13 @@
 use Prim.Native.Nat.{ℕ, zero, suc, _+_, _≤_, _<_}
 use native.Mathlib.Omega.{arith}
 use mathlib.Core.Path.{_≡_, refl, sym, ap, _∙_, subst}
-use mathlib.Core.Bool.{Bool, true, false, not}
+use mathlib.Core.Bool.{Bool, true, false}
 use mathlib.Core.List.{List}
-use mathlib.Core.Logic.{_⊎_, inl, inr, ⊎-elim}
+use mathlib.Core.Logic.{⊎-elim}
 use mathlib.Core.Option.{Option, none, some}
 use lib.Dec.{eqb}
 use Rattle.base_tests.specs.Tests.{ite}
-use Rattle.base_tests.specs.Laws.Bool.{not-true, not-false, not-of-false, never}
+use Rattle.base_tests.specs.Laws.Bool.{not-true, not-false, never}
 use Rattle.base_tests.specs.Laws.Choice.{ite-yes, ite-no}
 use Rattle.base_tests.specs.Laws.Order.{lt-or-ge, same-or-not}
 use Rattle.base_search.specs.declared.Spot.{Spot}
@@ -18,7 +18,7 @@ use Rattle.base_search.specs.Counting.{howMany}
 use Rattle.base_search.specs.Laws.Search.{Between, Finds, along-finds}
 use Rattle.base_search.specs.Laws.Ascending.{Place, Ascends, Tells, places-distinct, search-tells}
 use Rattle.base_search.specs.Laws.Counting.{all-counted}
-use Rattle.def_effects.specs.Keys.{EffectKey, eqKey}
+use Rattle.def_effects.specs.Keys.{EffectKey}
 use Rattle.def_key_order.specs.Laws.EqualKeys.{eq-eqKey}
 use Rattle.def_key_order.specs.KeyOrder.{compareKeys}
 use Rattle.def_key_order.specs.Laws.KeyOrder.{keys}

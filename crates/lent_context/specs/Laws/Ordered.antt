@@ -2,14 +2,13 @@
 -- finds the first effect under a key, as the definition does. Assumes nothing.
 use Prim.Native.Nat.{ℕ, zero, suc, _+_, _≤_, _<_}
 use native.Mathlib.Omega.{arith}
-use mathlib.Core.Path.{_≡_, refl, sym, ap, ap₂, _∙_, subst}
+use mathlib.Core.Path.{_≡_, refl, sym, ap, _∙_, subst}
 use mathlib.Core.Bool.{Bool, true, false}
 use mathlib.Core.List.{List}
-use mathlib.Core.Logic.{_⊎_, inl, inr, ⊎-elim}
-use mathlib.Core.Option.{Option, none, some}
+use mathlib.Core.Logic.{⊎-elim}
+use mathlib.Core.Option.{none, some}
 use Rattle.base_tests.specs.Laws.Order.{same-or-not}
 use Rattle.base_search.specs.declared.Order.{Order}
-use Rattle.base_search.specs.declared.Order.the-variants.{Less}
 use Rattle.base_search.specs.declared.Spot.{Spot}
 use Rattle.base_search.specs.declared.Spot.the-variants.{At, Before}
 use Rattle.base_search.specs.Laws.Search.{Between, Finds, along-finds}

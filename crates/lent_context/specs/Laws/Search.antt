@@ -3,25 +3,20 @@ use Prim.Native.Nat.{ℕ, suc, _+_, _-_, _≤_, _<_}
 use native.Mathlib.Omega.{arith}
 use native.Mathlib.Numerals.{add-one}
 use mathlib.Core.Path.{_≡_, refl, sym, ap, ap₂, _∙_}
-use mathlib.Core.Bool.{Bool, true, false, not, _&&_}
+use mathlib.Core.Bool.{Bool, true, false, not}
 use mathlib.Core.List.{List, [], _∷_}
 use mathlib.Core.Option.{Option, none, some}
 use lib.Dec.{eqb}
 use lib.ListN.{getD, set}
 use borrow.Author.Tests.{eq-eqb, ne-eqb}
-use Rattle.def_effects.specs.declared.Place.{Place}
-use Rattle.def_effects.specs.Places.{identifiers}
-use Rattle.def_effects.specs.Effects.{AliasingEffect, Freeze, Mutate, MutateConditionally, MutateTransitive, MutateTransitiveConditionally, Capture, Alias, MaybeAlias, Assign, Create, CreateFrom, ImmutableCapture, CreateFunction, MutateFrozen, MutateGlobal, Impure, Render, codeOf}
-use Rattle.def_effects.specs.Keys.{EffectKey, effectKey, eqKey, eqOption, eqList}
-use Rattle.def_transfer.specs.Pure.{findEffect as firstUnder, isKey, firstCached}
+use Rattle.def_effects.specs.Effects.{AliasingEffect}
+use Rattle.def_effects.specs.Keys.{EffectKey, effectKey, eqKey}
+use Rattle.def_transfer.specs.Pure.{findEffect as firstUnder}
 use Rattle.lent_tables.specs.declared.Table.{Table}
-use Rattle.lent_effects.specs.declared.AliasingEffect.{AliasingEffect as Head}
-use Rattle.lent_effects.specs.Records.{effectIn, effectWith, capturesOf}
-use Rattle.lent_keys.specs.declared.Key.{Key}
-use Rattle.lent_keys.specs.KeyRecords.{keyWith, keyIn}
+use Rattle.lent_effects.specs.Records.{effectIn}
 use Rattle.lent_keys.specs.KeyRecords as Keys
 use Rattle.lent_layout.specs.Layout as Layout
-use Rattle.lent_context.specs.Lent.{effectsIn, internedCount, findEffect, isKeyed, keyCount, numberAt, oneMore, cachedAt}
+use Rattle.lent_context.specs.Lent.{effectsIn, internedCount, isKeyed, keyCount, numberAt, oneMore, cachedAt}
 use Rattle.lent_order.specs.Order.{orderAt, inserted}
 use Rattle.base_tests.specs.Laws.Choice.{ite-lt, ite-ge}
 use Rattle.lent_tables.specs.Words.{field}

@@ -2,11 +2,6 @@ use Rattle.lent_key_order.specs.Laws.Heads.{heads-are}
 use borrow.Author.Needs.{needs}
 use Rattle.lent_key_order.proofs.compare_heads.Statement.{statement}
 use Rattle.lent_key_order.proofs.compare_heads.Tie as tie
-use Rattle.lent_key_order.proofs.compare_heads.Reads as reads
-use Rattle.lent_key_order.proofs.compare_heads.Lts as lts
-use Rattle.base_search.proofs.compare_numbers.Reads as compare-numbers-reads
-use Rattle.base_search.proofs.first.Reads as first-reads
-use Rattle.lent_key_order.proofs.compare_options.Reads as compare-options-reads
 
 compare-numbers-requires : tie.Need-compare-numbers-requires
 compare-numbers-requires c κs = search needs
@@ -48,7 +43,19 @@ first-requires-6 : tie.Need-first-requires-6
 first-requires-6 c κs = search needs
 
 returns : tie.Need-returns
-returns c = heads-are _ _ _ _ _ _ _ _ _ _ _ _ _ _ _ (c .before .before .before .before .before .before .before .before .before .before .before .before .compare-numbers .ensures) (c .before .before .before .before .before .before .before .before .before .before .before .compare-options .ensures) (c .before .before .before .before .before .before .before .before .before .before .compare-options2 .ensures) (c .before .before .before .before .before .before .before .before .before .compare-numbers2 .ensures) (c .before .before .before .before .before .before .before .before .compare-numbers3 .ensures) (c .before .before .before .before .before .before .before .compare-options3 .ensures) (c .before .before .before .before .before .before .compare-numbers4 .ensures) (c .before .before .before .before .before .first .ensures) (c .before .before .before .before .first2 .ensures) (c .before .before .before .first3 .ensures) (c .before .before .first4 .ensures) (c .before .first5 .ensures) (c .first6 .ensures)
+returns c =
+    let at-first4 = c .before .before in
+    let at-first3 = at-first4 .before in
+    let at-first2 = at-first3 .before in
+    let at-first = at-first2 .before in
+    let at-compare-numbers4 = at-first .before in
+    let at-compare-options3 = at-compare-numbers4 .before in
+    let at-compare-numbers3 = at-compare-options3 .before in
+    let at-compare-numbers2 = at-compare-numbers3 .before in
+    let at-compare-options2 = at-compare-numbers2 .before in
+    let at-compare-options = at-compare-options2 .before in
+    let at-compare-numbers = at-compare-options .before in
+    heads-are _ _ _ _ _ _ _ _ _ _ _ _ _ _ _ (at-compare-numbers .compare-numbers .ensures) (at-compare-options .compare-options .ensures) (at-compare-options2 .compare-options2 .ensures) (at-compare-numbers2 .compare-numbers2 .ensures) (at-compare-numbers3 .compare-numbers3 .ensures) (at-compare-options3 .compare-options3 .ensures) (at-compare-numbers4 .compare-numbers4 .ensures) (at-first .first .ensures) (at-first2 .first2 .ensures) (at-first3 .first3 .ensures) (at-first4 .first4 .ensures) (c .before .first5 .ensures) (c .first6 .ensures)
 
 pub compare-heads-spec : {M : Type 1} → statement M
 compare-heads-spec =

@@ -1,8 +1,6 @@
 use Rattle.lent_key_order.specs.Laws.Runs.{not-past, are-past}
 use Rattle.lent_key_order.proofs.is_past.Statement.{statement}
 use Rattle.lent_key_order.proofs.is_past.Tie as tie
-use Rattle.lent_key_order.proofs.is_past.Reads as reads
-use Rattle.lent_key_order.proofs.is_past.Lts as lts
 
 returns : tie.Need-returns
 returns c = not-past

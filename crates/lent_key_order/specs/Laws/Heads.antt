@@ -1,10 +1,9 @@
 -- Keys are compared by their heads, then by the captures that they take. Assumes nothing.
-use Prim.Native.Nat.{ℕ, suc, _<_}
+use Prim.Native.Nat.{ℕ, suc}
 use native.Mathlib.Omega.{arith}
-use mathlib.Core.Path.{_≡_, refl, sym, ap, ap₂, _∙_}
-use mathlib.Core.Bool.{Bool}
+use mathlib.Core.Path.{_≡_, sym, ap, ap₂, _∙_}
 use mathlib.Core.List.{List, []}
-use mathlib.Core.Logic.{_⊎_, ⊎-elim}
+use mathlib.Core.Logic.{⊎-elim}
 use Rattle.base_tests.specs.Tests.{ite}
 use Rattle.base_tests.specs.Laws.Order.{lt-or-ge}
 use Rattle.base_search.specs.declared.Order.{Order}

@@ -4,7 +4,7 @@ use native.Mathlib.Omega.{arith}
 use mathlib.Core.Path.{_≡_, refl, sym, ap, ap₂, _∙_, subst}
 use mathlib.Core.Bool.{true, false, false≢true}
 use lib.Dec.{leb, leb→le}
-use mathlib.Core.List.{List, [], _∷_}
+use mathlib.Core.List.{List}
 use Rattle.base_search.specs.declared.Order.{Order}
 use Rattle.base_search.specs.declared.Order.the-variants.{Less, Same, More}
 use Rattle.base_search.specs.Comparings.{compareNumbers, first, compareLists}

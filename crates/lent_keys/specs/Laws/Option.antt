@@ -1,11 +1,8 @@
 -- Numbers that may be absent: read and written. Assumes nothing.
 use Prim.Native.Nat.{ℕ, _+_}
-use mathlib.Core.Path.{_≡_, refl, sym, ap, ap₂, _∙_}
-use mathlib.Core.Bool.{Bool, true, false, _&&_}
+use mathlib.Core.Path.{_≡_, sym, ap, ap₂, _∙_}
 use mathlib.Core.List.{List}
 use mathlib.Core.Option.{none, some}
-use native.Mathlib.Omega.{arith}
-use lib.Dec.{eqb}
 use Rattle.base_tests.specs.Laws.Choice.{ite-eq, ite-ne}
 use Rattle.lent_tables.specs.declared.Table.{Table}
 use Rattle.lent_tables.specs.Words.{field, putField}

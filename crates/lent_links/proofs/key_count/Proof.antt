@@ -2,9 +2,6 @@ use Rattle.lent_context.specs.Laws.Search.{keys-counted}
 use borrow.Author.Needs.{needs}
 use Rattle.lent_links.proofs.key_count.Statement.{statement}
 use Rattle.lent_links.proofs.key_count.Tie as tie
-use Rattle.lent_links.proofs.key_count.Reads as reads
-use Rattle.lent_links.proofs.key_count.Lts as lts
-use Rattle.lent_slices.proofs.get32.Reads as get32-reads
 
 get32-requires : tie.Need-get32-requires
 get32-requires c κs = search needs

@@ -1,4 +1,3 @@
-use Prim.Native.Nat.{_-_}
 use Rattle.lent_context.specs.Laws.Search.{more-one, more-none}
 use borrow.Author.Needs.{needs}
 use Rattle.lent_links.proofs.one_more.Statement.{statement}

@@ -2,14 +2,6 @@ use Rattle.lent_context.specs.Laws.Search.{put-cached}
 use borrow.Author.Needs.{needs}
 use Rattle.lent_links.proofs.put_key.Statement.{statement}
 use Rattle.lent_links.proofs.put_key.Tie as tie
-use Rattle.lent_links.proofs.put_key.Reads as reads
-use Rattle.lent_links.proofs.put_key.Lts as lts
-use Rattle.lent_keys.proofs.put_key.Reads as put-key-reads
-use Rattle.lent_links.proofs.key_count.Reads as key-count-reads
-use Rattle.lent_links.proofs.one_more.Reads as one-more-reads
-use Rattle.lent_order.proofs.insert.Reads as insert-reads
-use Rattle.lent_slices.proofs.set32.Reads as set32-reads
-use Rattle.lent_slices.proofs.wide32.Reads as wide32-reads
 
 key-count-requires : tie.Need-key-count-requires
 key-count-requires c κs = search needs
@@ -33,7 +25,14 @@ same-length : tie.Need-same-length
 same-length c = search needs
 
 returns : tie.Need-returns
-returns c = put-cached _ _ _ _ _ _ _ _ _ _ (c .before .before .before .before .before .before .before .before .before .before .before .before .wide32 .ensures) (c .before .before .before .before .before .before .before .before .before .before .before .before .before .before .key-count .ensures) (c .before .before .before .before .before .before .before .before .before .before .before .put-key .ensures) (c .before .before .before .before .before .before .before .insert .ensures) (c .before .before .before .one-more .ensures) (c .before .before .set32 .ensures)
+returns c =
+    let at-set32 = c .before .before in
+    let at-one-more = at-set32 .before in
+    let at-insert = at-one-more .before .before .before .before in
+    let at-put-key = at-insert .before .before .before .before in
+    let at-wide32 = at-put-key .before in
+    let at-key-count = at-wide32 .before .before in
+    put-cached _ _ _ _ _ _ _ _ _ _ (at-wide32 .wide32 .ensures) (at-key-count .key-count .ensures) (at-put-key .put-key .ensures) (at-insert .insert .ensures) (at-one-more .one-more .ensures) (at-set32 .set32 .ensures)
 
 pub put-key-spec : {M : Type 1} → statement M
 put-key-spec =

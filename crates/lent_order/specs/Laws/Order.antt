@@ -1,5 +1,5 @@
 -- What putting a number into an order leaves: the order with it put in; and all else as it was. Assumes nothing.
-use Prim.Native.Nat.{ℕ, zero, suc, _+_, _*_, _-_, _≤_, _<_}
+use Prim.Native.Nat.{ℕ, zero, suc, _+_, _-_, _≤_, _<_}
 use native.Mathlib.Omega.{arith}
 use mathlib.Core.Path.{_≡_, refl, sym, ap, ap₂, _∙_, subst}
 use mathlib.Core.Bool.{true}
@@ -7,8 +7,6 @@ use mathlib.Core.List.{List}
 use mathlib.Core.Logic.{_⊎_, ⊎-elim}
 use lib.ListN.{length, getD}
 use Rattle.base_tests.specs.Laws.Order.{lt-or-ge}
-use Rattle.base_search.specs.declared.Order.{Order}
-use Rattle.base_search.specs.declared.Order.the-variants.{Less}
 use Rattle.base_search.specs.Laws.Search.{Between}
 use Rattle.base_search.specs.Laws.Ascending.{Comparing, Ascends}
 use Rattle.base_search.specs.Laws.Inserting.{inserted-before, inserted-there, inserted-after, inserted-ascends}

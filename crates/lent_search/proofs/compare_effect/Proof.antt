@@ -2,15 +2,6 @@ use Rattle.lent_search.specs.Laws.Find.{record-less, record-more, record
 use borrow.Author.Needs.{needs}
 use Rattle.lent_search.proofs.compare_effect.Statement.{statement}
 use Rattle.lent_search.proofs.compare_effect.Tie as tie
-use Rattle.lent_search.proofs.compare_effect.Reads as reads
-use Rattle.lent_search.proofs.compare_effect.Lts as lts
-use Rattle.lent_effect_read.proofs.effect_in.Reads as effect-in-reads
-use Rattle.lent_key_of.proofs.key_of.Reads as key-of-reads
-use Rattle.lent_key_order.proofs.compare_heads.Reads as compare-heads-reads
-use Rattle.lent_key_order.proofs.compare_runs.Reads as compare-runs-reads
-use Rattle.lent_keys.proofs.taken.Reads as taken-reads
-use Rattle.lent_slices.proofs.wide32.Reads as wide32-reads
-use Rattle.lent_tables.proofs.field.Reads as field-reads
 
 wide32-requires : tie.Need-wide32-requires
 wide32-requires c κs = search needs
@@ -49,13 +40,35 @@ enum-told-3 : tie.Need-enum-told-3
 enum-told-3 c = search needs
 
 returns : tie.Need-returns
-returns c = record-less _ _ _ (c .before .before .before .before .before .wide32 .ensures) (c .before .before .before .before .before .before .before .before .args .key) _ (c .before .before .before .before .before .before .before .before .args .captures .now) _ (c .before .before .before .before .effect-in .ensures) (c .before .before .before .key-of .ensures) _ (c .before .before .compare-heads .ensures) (c .enum-told .given .1)
+returns c =
+    let at-compare-heads = c .before .before in
+    let at-key-of = at-compare-heads .before in
+    let at-effect-in = at-key-of .before in
+    let at-wide32 = at-effect-in .before in
+    let at-args = at-wide32 .before .before .before in
+    record-less _ _ _ (at-wide32 .wide32 .ensures) (at-args .args .key) _ (at-args .args .captures .now) _ (at-effect-in .effect-in .ensures) (at-key-of .key-of .ensures) _ (at-compare-heads .compare-heads .ensures) (c .enum-told .given .1)
 
 returns-2 : tie.Need-returns-2
-returns-2 c = record-same _ _ _ (c .before .before .before .before .before .before .before .before .before .before .wide32 .ensures) (c .before .before .before .before .before .before .before .before .before .before .before .before .before .args .key) _ (c .before .before .before .before .before .before .before .before .before .before .before .before .before .args .captures .now) _ (c .before .before .before .before .before .before .before .before .before .effect-in .ensures) (c .before .before .before .before .before .before .before .before .key-of .ensures) _ (c .before .before .before .before .before .before .before .compare-heads .ensures) _ _ _ _ _ (c .before .before .before .before .before .enum-told2 .given .1) (c .before .before .before .before .field .ensures) (c .before .before .before .taken .ensures) (c .before .before .field2 .ensures) (c .before .taken2 .ensures) (c .compare-runs .ensures)
+returns-2 c =
+    let at-field2 = c .before .before in
+    let at-taken = at-field2 .before in
+    let at-field = at-taken .before in
+    let at-enum-told2 = at-field .before in
+    let at-compare-heads = at-enum-told2 .before .before in
+    let at-key-of = at-compare-heads .before in
+    let at-effect-in = at-key-of .before in
+    let at-wide32 = at-effect-in .before in
+    let at-args = at-wide32 .before .before .before in
+    record-same _ _ _ (at-wide32 .wide32 .ensures) (at-args .args .key) _ (at-args .args .captures .now) _ (at-effect-in .effect-in .ensures) (at-key-of .key-of .ensures) _ (at-compare-heads .compare-heads .ensures) _ _ _ _ _ (at-enum-told2 .enum-told2 .given .1) (at-field .field .ensures) (at-taken .taken .ensures) (at-field2 .field2 .ensures) (c .before .taken2 .ensures) (c .compare-runs .ensures)
 
 returns-3 : tie.Need-returns-3
-returns-3 c = record-more _ _ _ (c .before .before .before .before .before .wide32 .ensures) (c .before .before .before .before .before .before .before .before .args .key) _ (c .before .before .before .before .before .before .before .before .args .captures .now) _ (c .before .before .before .before .effect-in .ensures) (c .before .before .before .key-of .ensures) _ (c .before .before .compare-heads .ensures) (c .enum-told3 .given .1)
+returns-3 c =
+    let at-compare-heads = c .before .before in
+    let at-key-of = at-compare-heads .before in
+    let at-effect-in = at-key-of .before in
+    let at-wide32 = at-effect-in .before in
+    let at-args = at-wide32 .before .before .before in
+    record-more _ _ _ (at-wide32 .wide32 .ensures) (at-args .args .key) _ (at-args .args .captures .now) _ (at-effect-in .effect-in .ensures) (at-key-of .key-of .ensures) _ (at-compare-heads .compare-heads .ensures) (c .enum-told3 .given .1)
 
 pub compare-effect-spec : {M : Type 1} → statement M
 compare-effect-spec =

@@ -2,14 +2,6 @@ use Rattle.lent_search.specs.Laws.Find.{number-less, number-more, number
 use borrow.Author.Needs.{needs}
 use Rattle.lent_search.proofs.compare_key.Statement.{statement}
 use Rattle.lent_search.proofs.compare_key.Tie as tie
-use Rattle.lent_search.proofs.compare_key.Reads as reads
-use Rattle.lent_search.proofs.compare_key.Lts as lts
-use Rattle.lent_key_order.proofs.compare_heads.Reads as compare-heads-reads
-use Rattle.lent_key_order.proofs.compare_runs.Reads as compare-runs-reads
-use Rattle.lent_keys.proofs.head_in.Reads as head-in-reads
-use Rattle.lent_keys.proofs.taken.Reads as taken-reads
-use Rattle.lent_slices.proofs.wide32.Reads as wide32-reads
-use Rattle.lent_tables.proofs.field.Reads as field-reads
 
 wide32-requires : tie.Need-wide32-requires
 wide32-requires c κs = search needs
@@ -42,13 +34,31 @@ enum-told-3 : tie.Need-enum-told-3
 enum-told-3 c = search needs
 
 returns : tie.Need-returns
-returns c = number-less _ _ _ (c .before .before .before .before .wide32 .ensures) (c .before .before .before .before .before .before .before .args .key) _ (c .before .before .before .before .before .before .before .args .captures .now) (c .before .before .before .head-in .ensures) _ (c .before .before .compare-heads .ensures) (c .enum-told .given .1)
+returns c =
+    let at-compare-heads = c .before .before in
+    let at-head-in = at-compare-heads .before in
+    let at-wide32 = at-head-in .before in
+    let at-args = at-wide32 .before .before .before in
+    number-less _ _ _ (at-wide32 .wide32 .ensures) (at-args .args .key) _ (at-args .args .captures .now) (at-head-in .head-in .ensures) _ (at-compare-heads .compare-heads .ensures) (c .enum-told .given .1)
 
 returns-2 : tie.Need-returns-2
-returns-2 c = number-same _ _ _ (c .before .before .before .before .before .before .before .before .wide32 .ensures) (c .before .before .before .before .before .before .before .before .before .before .before .args .key) _ (c .before .before .before .before .before .before .before .before .before .before .before .args .captures .now) (c .before .before .before .before .before .before .before .head-in .ensures) _ (c .before .before .before .before .before .before .compare-heads .ensures) _ _ _ _ (c .before .before .before .before .enum-told2 .given .1) (c .before .before .before .field .ensures) (c .before .before .taken .ensures) (c .before .field2 .ensures) (c .compare-runs .ensures)
+returns-2 c =
+    let at-taken = c .before .before in
+    let at-field = at-taken .before in
+    let at-enum-told2 = at-field .before in
+    let at-compare-heads = at-enum-told2 .before .before in
+    let at-head-in = at-compare-heads .before in
+    let at-wide32 = at-head-in .before in
+    let at-args = at-wide32 .before .before .before in
+    number-same _ _ _ (at-wide32 .wide32 .ensures) (at-args .args .key) _ (at-args .args .captures .now) (at-head-in .head-in .ensures) _ (at-compare-heads .compare-heads .ensures) _ _ _ _ (at-enum-told2 .enum-told2 .given .1) (at-field .field .ensures) (at-taken .taken .ensures) (c .before .field2 .ensures) (c .compare-runs .ensures)
 
 returns-3 : tie.Need-returns-3
-returns-3 c = number-more _ _ _ (c .before .before .before .before .wide32 .ensures) (c .before .before .before .before .before .before .before .args .key) _ (c .before .before .before .before .before .before .before .args .captures .now) (c .before .before .before .head-in .ensures) _ (c .before .before .compare-heads .ensures) (c .enum-told3 .given .1)
+returns-3 c =
+    let at-compare-heads = c .before .before in
+    let at-head-in = at-compare-heads .before in
+    let at-wide32 = at-head-in .before in
+    let at-args = at-wide32 .before .before .before in
+    number-more _ _ _ (at-wide32 .wide32 .ensures) (at-args .args .key) _ (at-args .args .captures .now) (at-head-in .head-in .ensures) _ (at-compare-heads .compare-heads .ensures) (c .enum-told3 .given .1)
 
 pub compare-key-spec : {M : Type 1} → statement M
 compare-key-spec =

@@ -12,11 +12,6 @@ use Rattle.lent_order.specs.Order.{orderAt}
 use Rattle.lent_search.specs.Laws.Find.{sought, search-starts, search-down, search-up, search-at, search-over, effect-search}
 use Rattle.lent_search.proofs.find_effect.Statement.{statement}
 use Rattle.lent_search.proofs.find_effect.Tie as tie
-use Rattle.lent_search.proofs.find_effect.Reads as reads
-use Rattle.lent_search.proofs.find_effect.Lts as lts
-use Rattle.lent_links.proofs.interned_count.Reads as interned-count-reads
-use Rattle.lent_order.proofs.order_at.Reads as order-at-reads
-use Rattle.lent_search.proofs.compare_effect.Reads as compare-effect-reads
 
 abbrev Inv-loop : tie.InvT-loop
 Inv-loop context key captures n lo₀ hi₀ lo hi = (lo ≤ hi) × (hi ≤ n) × (effectSpot context (keyWith key (identifiers (capturesOf captures))) ≡ halving (hi - lo) (sought (internedKey context) (orderAt Layout.effectOrder context) (keyWith key (identifiers (capturesOf captures)))) lo hi)
@@ -49,13 +44,25 @@ loop-less : tie.Need-loop-less Inv-loop μ-loop
 loop-less c = omega arith
 
 loop-again : tie.Need-loop-again Inv-loop μ-loop
-loop-again c = (omega arith, omega arith, search-down (internedKey (c .before .before .before .before .before .before .before .before .before .args .context .now)) (orderAt Layout.effectOrder (c .before .before .before .before .before .before .before .before .before .args .context .now)) (keyWith (c .before .before .before .before .before .before .before .before .before .args .key) (identifiers (capturesOf (c .before .before .before .before .before .before .before .before .before .args .captures .now)))) _ (c .before .before .before .before .before .loop .lo) (c .before .before .before .before .before .loop .hi) _ _ _ (c .before .before .before .before .loop-test .taken) refl (c .before .before .before .order-at .ensures) (c .before .before .compare-effect .ensures) (c .before .before .before .before .before .loop .inv .2) (c .enum-told .given .1))
+loop-again c =
+    let at-compare-effect = c .before .before in
+    let at-order-at = at-compare-effect .before in
+    let at-loop-test = at-order-at .before in
+    let at-loop = at-loop-test .before in
+    let at-args = at-loop .before .before .before .before in
+    (omega arith, omega arith, search-down (internedKey (at-args .args .context .now)) (orderAt Layout.effectOrder (at-args .args .context .now)) (keyWith (at-args .args .key) (identifiers (capturesOf (at-args .args .captures .now)))) _ (at-loop .loop .lo) (at-loop .loop .hi) _ _ _ (at-loop-test .loop-test .taken) refl (at-order-at .order-at .ensures) (at-compare-effect .compare-effect .ensures) (at-loop .loop .inv .2) (c .enum-told .given .1))
 
 enum-told-2 : tie.Need-enum-told-2 Inv-loop μ-loop
 enum-told-2 c = search needs
 
 returns : tie.Need-returns Inv-loop μ-loop
-returns c = search-at (internedKey (c .before .before .before .before .before .before .before .before .before .args .context .now)) (orderAt Layout.effectOrder (c .before .before .before .before .before .before .before .before .before .args .context .now)) (keyWith (c .before .before .before .before .before .before .before .before .before .args .key) (identifiers (capturesOf (c .before .before .before .before .before .before .before .before .before .args .captures .now)))) _ (c .before .before .before .before .before .loop .lo) (c .before .before .before .before .before .loop .hi) _ _ _ (c .before .before .before .before .loop-test .taken) refl (c .before .before .before .order-at .ensures) (c .before .before .compare-effect .ensures) (c .before .before .before .before .before .loop .inv .2) (c .enum-told2 .given .1)
+returns c =
+    let at-compare-effect = c .before .before in
+    let at-order-at = at-compare-effect .before in
+    let at-loop-test = at-order-at .before in
+    let at-loop = at-loop-test .before in
+    let at-args = at-loop .before .before .before .before in
+    search-at (internedKey (at-args .args .context .now)) (orderAt Layout.effectOrder (at-args .args .context .now)) (keyWith (at-args .args .key) (identifiers (capturesOf (at-args .args .captures .now)))) _ (at-loop .loop .lo) (at-loop .loop .hi) _ _ _ (at-loop-test .loop-test .taken) refl (at-order-at .order-at .ensures) (at-compare-effect .compare-effect .ensures) (at-loop .loop .inv .2) (c .enum-told2 .given .1)
 
 enum-told-3 : tie.Need-enum-told-3 Inv-loop μ-loop
 enum-told-3 c = search needs
@@ -67,7 +74,13 @@ loop-less-2 : tie.Need-loop-less-2 Inv-loop μ-loop
 loop-less-2 c = omega arith
 
 loop-again-2 : tie.Need-loop-again-2 Inv-loop μ-loop
-loop-again-2 c = (omega arith, omega arith, search-up (internedKey (c .before .before .before .before .before .before .before .before .before .args .context .now)) (orderAt Layout.effectOrder (c .before .before .before .before .before .before .before .before .before .args .context .now)) (keyWith (c .before .before .before .before .before .before .before .before .before .args .key) (identifiers (capturesOf (c .before .before .before .before .before .before .before .before .before .args .captures .now)))) _ (c .before .before .before .before .before .loop .lo) (c .before .before .before .before .before .loop .hi) _ _ _ (c .before .before .before .before .loop-test .taken) refl (c .before .before .before .order-at .ensures) (c .before .before .compare-effect .ensures) (c .before .before .before .before .before .loop .inv .2) (c .enum-told3 .given .1))
+loop-again-2 c =
+    let at-compare-effect = c .before .before in
+    let at-order-at = at-compare-effect .before in
+    let at-loop-test = at-order-at .before in
+    let at-loop = at-loop-test .before in
+    let at-args = at-loop .before .before .before .before in
+    (omega arith, omega arith, search-up (internedKey (at-args .args .context .now)) (orderAt Layout.effectOrder (at-args .args .context .now)) (keyWith (at-args .args .key) (identifiers (capturesOf (at-args .args .captures .now)))) _ (at-loop .loop .lo) (at-loop .loop .hi) _ _ _ (at-loop-test .loop-test .taken) refl (at-order-at .order-at .ensures) (at-compare-effect .compare-effect .ensures) (at-loop .loop .inv .2) (c .enum-told3 .given .1))
 
 returns-2 : tie.Need-returns-2 Inv-loop μ-loop
 returns-2 c = search-over (internedKey (c .before .before .before .before .before .args .context .now)) (orderAt Layout.effectOrder (c .before .before .before .before .before .args .context .now)) (keyWith (c .before .before .before .before .before .args .key) (identifiers (capturesOf (c .before .before .before .before .before .args .captures .now)))) _ _ _ (c .loop-test .left) (c .before .loop .inv .2)

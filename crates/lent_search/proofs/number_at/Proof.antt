@@ -2,11 +2,6 @@ use Rattle.lent_search.specs.Laws.Find.{ends-keyless, ends-keyed}
 use borrow.Author.Needs.{needs}
 use Rattle.lent_search.proofs.number_at.Statement.{statement}
 use Rattle.lent_search.proofs.number_at.Tie as tie
-use Rattle.lent_search.proofs.number_at.Reads as reads
-use Rattle.lent_search.proofs.number_at.Lts as lts
-use Rattle.lent_order.proofs.order_at.Reads as order-at-reads
-use Rattle.lent_slices.proofs.wide32.Reads as wide32-reads
-use Rattle.lent_tables.proofs.field.Reads as field-reads
 
 enum-known-spot : tie.Need-enum-known-spot
 enum-known-spot c = search needs
@@ -21,13 +16,23 @@ field-requires : tie.Need-field-requires
 field-requires c κs = search needs
 
 returns : tie.Need-returns
-returns c = ends-keyless (c .before .before .before .before .before .before .before .before .args .context .now) (c .before .before .before .before .before .before .before .before .args .spot) _ _ _ _ (c .before .before .before .before .before .spot .given .1) (c .before .before .before .order-at .ensures) (c .before .before .wide32 .ensures) (c .before .field .ensures) (c .if1 .taken)
+returns c =
+    let at-wide32 = c .before .before in
+    let at-order-at = at-wide32 .before in
+    let at-spot = at-order-at .before .before in
+    let at-args = at-spot .before .before .before in
+    ends-keyless (at-args .args .context .now) (at-args .args .spot) _ _ _ _ (at-spot .spot .given .1) (at-order-at .order-at .ensures) (at-wide32 .wide32 .ensures) (c .before .field .ensures) (c .if1 .taken)
 
 enum-told : tie.Need-enum-told
 enum-told c = search needs
 
 returns-2 : tie.Need-returns-2
-returns-2 c = ends-keyed (c .before .before .before .before .before .before .before .before .args .context .now) (c .before .before .before .before .before .before .before .before .args .spot) _ _ _ _ (c .before .before .before .before .before .spot .given .1) (c .before .before .before .order-at .ensures) (c .before .before .wide32 .ensures) (c .before .field .ensures) (c .if1 .left)
+returns-2 c =
+    let at-wide32 = c .before .before in
+    let at-order-at = at-wide32 .before in
+    let at-spot = at-order-at .before .before in
+    let at-args = at-spot .before .before .before in
+    ends-keyed (at-args .args .context .now) (at-args .args .spot) _ _ _ _ (at-spot .spot .given .1) (at-order-at .order-at .ensures) (at-wide32 .wide32 .ensures) (c .before .field .ensures) (c .if1 .left)
 
 returns-3 : tie.Need-returns-3
 returns-3 c = search needs

@@ -1,7 +1,6 @@
 -- Laws by which the comparison of a key with a record and the search by halves meet the definitions. Assumes nothing.
 use Prim.Native.Nat.{ℕ, _+_, _-_, _≤_, _<_}
 use mathlib.Core.Path.{_≡_, refl, sym, ap, ap₂, _∙_}
-use mathlib.Core.Bool.{Bool}
 use mathlib.Core.List.{List, []}
 use Rattle.base_tests.specs.Tests.{ite}
 use Rattle.base_search.specs.declared.Order.{Order}

@@ -19,7 +19,6 @@ use Rattle.def_transfer.specs.Lawful.{SameLinks}
 use Rattle.lent_tables.specs.declared.Table.{Table}
 use Rattle.lent_tables.specs.Words.{index, end, apart, field, putField, placeIn, placesIn}
 use Rattle.lent_tables.specs.Laws.Word.{put-length, put-out, put-same, put-other, put-apart, set-outside, places-cong, within-yes, within-no-record}
-use Rattle.lent_effects.specs.Records.{putEffect}
 use Rattle.lent_effects.specs.Laws.EffectFrames.{effect-apart}
 use Rattle.lent_order.specs.Laws.Order.{insert-apart}
 use Rattle.lent_keys.specs.KeyRecords.{optionIn, putOption}

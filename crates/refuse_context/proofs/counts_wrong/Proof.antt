@@ -2,12 +2,6 @@ use Rattle.refuse_records.specs.Laws.Accepting.{counts-identifiers, counts-func
 use borrow.Author.Needs.{needs}
 use Rattle.refuse_context.proofs.counts_wrong.Statement.{statement}
 use Rattle.refuse_context.proofs.counts_wrong.Tie as tie
-use Rattle.refuse_context.proofs.counts_wrong.Reads as reads
-use Rattle.refuse_context.proofs.counts_wrong.Lts as lts
-use Rattle.lent_diagnostics.proofs.instance_count.Reads as instance-count-reads
-use Rattle.lent_links.proofs.interned_count.Reads as interned-count-reads
-use Rattle.lent_links.proofs.key_count.Reads as key-count-reads
-use Rattle.lent_slices.proofs.get32.Reads as get32-reads
 
 get32-requires : tie.Need-get32-requires
 get32-requires c κs = search needs
@@ -34,13 +28,30 @@ instance-count-requires : tie.Need-instance-count-requires
 instance-count-requires c κs = search needs
 
 returns-5 : tie.Need-returns-5
-returns-5 c = counts-diagnostics _ _ _ _ (c .before .before .before .before .before .before .before .before .get32 .ensures) (c .before .before .before .before .before .before .before .if1 .left) _ (c .before .before .before .before .before .before .get322 .ensures) (c .before .before .before .before .before .if2 .left) (c .before .before .before .before .if3 .left) _ (c .before .before .before .interned-count .ensures) (c .before .before .if4 .left) _ (c .before .instance-count .ensures) (c .if5 .taken)
+returns-5 c =
+    let at-if4 = c .before .before in
+    let at-interned-count = at-if4 .before in
+    let at-if3 = at-interned-count .before in
+    let at-if2 = at-if3 .before in
+    let at-get322 = at-if2 .before in
+    let at-if1 = at-get322 .before in
+    let at-get32 = at-if1 .before in
+    counts-diagnostics _ _ _ _ (at-get32 .get32 .ensures) (at-if1 .if1 .left) _ (at-get322 .get322 .ensures) (at-if2 .if2 .left) (at-if3 .if3 .left) _ (at-interned-count .interned-count .ensures) (at-if4 .if4 .left) _ (c .before .instance-count .ensures) (c .if5 .taken)
 
 key-count-requires : tie.Need-key-count-requires
 key-count-requires c κs = search needs
 
 returns-6 : tie.Need-returns-6
-returns-6 c = counts-keys _ _ _ _ (c .before .before .before .before .before .before .before .before .before .get32 .ensures) (c .before .before .before .before .before .before .before .before .if1 .left) _ (c .before .before .before .before .before .before .before .get322 .ensures) (c .before .before .before .before .before .before .if2 .left) (c .before .before .before .before .before .if3 .left) _ (c .before .before .before .before .interned-count .ensures) (c .before .before .before .if4 .left) _ (c .before .before .instance-count .ensures) _ (c .before .if5 .left) (c .key-count .ensures)
+returns-6 c =
+    let at-instance-count = c .before .before in
+    let at-if4 = at-instance-count .before in
+    let at-interned-count = at-if4 .before in
+    let at-if3 = at-interned-count .before in
+    let at-if2 = at-if3 .before in
+    let at-get322 = at-if2 .before in
+    let at-if1 = at-get322 .before in
+    let at-get32 = at-if1 .before in
+    counts-keys _ _ _ _ (at-get32 .get32 .ensures) (at-if1 .if1 .left) _ (at-get322 .get322 .ensures) (at-if2 .if2 .left) (at-if3 .if3 .left) _ (at-interned-count .interned-count .ensures) (at-if4 .if4 .left) _ (at-instance-count .instance-count .ensures) _ (c .before .if5 .left) (c .key-count .ensures)
 
 pub counts-wrong-spec : {M : Type 1} → statement M
 counts-wrong-spec =

@@ -1,8 +1,6 @@
 use Rattle.refuse_records.specs.Laws.Accepting.{handed-all, handed-some}
 use Rattle.refuse_context.proofs.handed_out.Statement.{statement}
 use Rattle.refuse_context.proofs.handed_out.Tie as tie
-use Rattle.refuse_context.proofs.handed_out.Reads as reads
-use Rattle.refuse_context.proofs.handed_out.Lts as lts
 
 returns : tie.Need-returns
 returns c = handed-all _ (c .if1 .taken)

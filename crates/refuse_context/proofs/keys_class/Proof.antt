@@ -2,14 +2,6 @@ use Rattle.refuse_records.specs.Laws.Accepting.{keys-are}
 use borrow.Author.Needs.{needs}
 use Rattle.refuse_context.proofs.keys_class.Statement.{statement}
 use Rattle.refuse_context.proofs.keys_class.Tie as tie
-use Rattle.refuse_context.proofs.keys_class.Reads as reads
-use Rattle.refuse_context.proofs.keys_class.Lts as lts
-use Rattle.lent_slices.proofs.wide32.Reads as wide32-reads
-use Rattle.refuse_class.proofs.lower.Reads as lower-reads
-use Rattle.refuse_context.proofs.handed_out.Reads as handed-out-reads
-use Rattle.refuse_key_order.proofs.key_order_class.Reads as key-order-class-reads
-use Rattle.refuse_records.proofs.key_records.Reads as key-records-reads
-use Rattle.refuse_words.proofs.stray_after.Reads as stray-after-reads
 
 handed-out-requires : tie.Need-handed-out-requires
 handed-out-requires c κs = search needs

@@ -1,17 +1,8 @@
 use native.Mathlib.Omega.{arith}
-use mathlib.Core.Path.{refl}
 use Rattle.refuse_instruction.specs.Laws.Split.{no-captures, words-split, split-from}
 use borrow.Author.Needs.{needs}
 use Rattle.refuse_instruction.proofs.effect_words.Statement.{statement}
 use Rattle.refuse_instruction.proofs.effect_words.Tie as tie
-use Rattle.refuse_instruction.proofs.effect_words.Reads as reads
-use Rattle.refuse_instruction.proofs.effect_words.Lts as lts
-use Rattle.lent_slices.proofs.wide32.Reads as wide32-reads
-use Rattle.refuse_class.proofs.lower.Reads as lower-reads
-use Rattle.refuse_instruction.proofs.all_words.Reads as all-words-reads
-use Rattle.refuse_instruction.proofs.head_words.Reads as head-words-reads
-use Rattle.refuse_instruction.proofs.is_code.Reads as is-code-reads
-use Rattle.refuse_words.proofs.stray_from.Reads as stray-from-reads
 
 is-code-requires : tie.Need-is-code-requires
 is-code-requires c κs = search needs
@@ -59,7 +50,13 @@ lower-requires : tie.Need-lower-requires
 lower-requires c κs = search needs
 
 returns-4 : tie.Need-returns-4
-returns-4 c = words-split (c .before .before .before .before .before .before .before .before .before .before .before .args .t) _ (c .before .before .before .before .before .before .before .before .before .before .before .args .i) _ _ _ _ _ (omega arith) (omega (arith, c .before .before .before .before .before .wide32 .ensures)) (no-captures _ _ (c .before .before .before .before .before .before .before .before .before .is-code .ensures) (omega arith)) _ _ _ _ (c .before .before .before .head-words .ensures) (split-from (c .before .before .before .before .before .before .before .before .before .before .before .args .t) (c .before .before .before .before .before .before .before .before .before .before .before .args .i) _ (c .before .before .wide322 .ensures) (omega arith)) (c .before .stray-from .ensures) (c .lower .ensures)
+returns-4 c =
+    let at-wide322 = c .before .before in
+    let at-head-words = at-wide322 .before in
+    let at-wide32 = at-head-words .before .before in
+    let at-is-code = at-wide32 .before .before .before .before in
+    let at-args = at-is-code .before .before in
+    words-split (at-args .args .t) _ (at-args .args .i) _ _ _ _ _ (omega arith) (omega (arith, at-wide32 .wide32 .ensures)) (no-captures _ _ (at-is-code .is-code .ensures) (omega arith)) _ _ _ _ (at-head-words .head-words .ensures) (split-from (at-args .args .t) (at-args .args .i) _ (at-wide322 .wide322 .ensures) (omega arith)) (c .before .stray-from .ensures) (c .lower .ensures)
 
 pub effect-words-spec : {M : Type 1} → statement M
 effect-words-spec =

@@ -2,15 +2,6 @@ use Rattle.refuse_instruction.specs.Laws.Parts.{head-is}
 use borrow.Author.Needs.{needs}
 use Rattle.refuse_instruction.proofs.head_words.Statement.{statement}
 use Rattle.refuse_instruction.proofs.head_words.Tie as tie
-use Rattle.refuse_instruction.proofs.head_words.Reads as reads
-use Rattle.refuse_instruction.proofs.head_words.Lts as lts
-use Rattle.lent_tables.proofs.field.Reads as field-reads
-use Rattle.refuse_class.proofs.lower.Reads as lower-reads
-use Rattle.refuse_instruction.proofs.middle_words.Reads as middle-words-reads
-use Rattle.refuse_instruction.proofs.place_words.Reads as place-words-reads
-use Rattle.refuse_instruction.proofs.uses_destination.Reads as uses-destination-reads
-use Rattle.refuse_instruction.proofs.uses_place.Reads as uses-place-reads
-use Rattle.refuse_words.proofs.word_class.Reads as word-class-reads
 
 field-requires : tie.Need-field-requires
 field-requires c κs = search needs
@@ -43,7 +34,17 @@ lower-requires-3 : tie.Need-lower-requires-3
 lower-requires-3 c κs = search needs
 
 returns : tie.Need-returns
-returns c = head-is (c .before .before .before .before .before .before .before .before .before .before .before .args .t) (c .before .before .before .before .before .before .before .before .before .before .before .args .xs .now) (c .before .before .before .before .before .before .before .before .before .before .before .args .i) (c .before .before .before .before .before .before .before .before .before .before .before .args .identifiers) (c .before .before .before .before .before .before .before .before .before .before .before .args .functions) (c .before .before .before .before .before .before .before .before .before .before .before .args .diagnostics) (c .before .before .before .before .before .before .before .before .before .before .before .args .code) (c .before .before .before .before .before .before .before .before .before .before .before .args .n) _ _ _ _ _ _ _ _ _ _ (c .before .before .before .before .before .before .before .before .before .field .ensures) (c .before .before .before .before .before .before .before .before .word-class .ensures) (c .before .before .before .before .before .before .before .uses-place .ensures) (c .before .before .before .before .before .before .place-words .ensures) (c .before .before .before .before .before .uses-destination .ensures) (c .before .before .before .before .place-words2 .ensures) (c .before .before .before .middle-words .ensures) (c .before .before .lower .ensures) (c .before .lower2 .ensures) (c .lower3 .ensures)
+returns c =
+    let at-lower = c .before .before in
+    let at-middle-words = at-lower .before in
+    let at-place-words2 = at-middle-words .before in
+    let at-uses-destination = at-place-words2 .before in
+    let at-place-words = at-uses-destination .before in
+    let at-uses-place = at-place-words .before in
+    let at-word-class = at-uses-place .before in
+    let at-field = at-word-class .before in
+    let at-args = at-field .before .before in
+    head-is (at-args .args .t) (at-args .args .xs .now) (at-args .args .i) (at-args .args .identifiers) (at-args .args .functions) (at-args .args .diagnostics) (at-args .args .code) (at-args .args .n) _ _ _ _ _ _ _ _ _ _ (at-field .field .ensures) (at-word-class .word-class .ensures) (at-uses-place .uses-place .ensures) (at-place-words .place-words .ensures) (at-uses-destination .uses-destination .ensures) (at-place-words2 .place-words2 .ensures) (at-middle-words .middle-words .ensures) (at-lower .lower .ensures) (c .before .lower2 .ensures) (c .lower3 .ensures)
 
 pub head-words-spec : {M : Type 1} → statement M
 head-words-spec =

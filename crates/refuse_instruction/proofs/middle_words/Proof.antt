@@ -3,12 +3,6 @@ use Rattle.refuse_instruction.specs.Laws.Parts.{lowest-seven, word-of-mi
 use borrow.Author.Needs.{needs}
 use Rattle.refuse_instruction.proofs.middle_words.Statement.{statement}
 use Rattle.refuse_instruction.proofs.middle_words.Tie as tie
-use Rattle.refuse_instruction.proofs.middle_words.Reads as reads
-use Rattle.refuse_instruction.proofs.middle_words.Lts as lts
-use Rattle.lent_tables.proofs.field.Reads as field-reads
-use Rattle.refuse_class.proofs.lower.Reads as lower-reads
-use Rattle.refuse_instruction.proofs.middle_limit.Reads as middle-limit-reads
-use Rattle.refuse_words.proofs.word_class.Reads as word-class-reads
 
 middle-limit-requires : tie.Need-middle-limit-requires
 middle-limit-requires c κs = search needs
@@ -92,7 +86,34 @@ lower-requires-6 : tie.Need-lower-requires-6
 lower-requires-6 c κs = search needs
 
 returns : tie.Need-returns
-returns c = lowest-seven (middleWord (c .before .before .before .before .before .before .before .before .before .before .before .before .before .before .before .before .before .before .before .before .before .before .before .before .before .before .before .before .args .t) (c .before .before .before .before .before .before .before .before .before .before .before .before .before .before .before .before .before .before .before .before .before .before .before .before .before .before .before .before .args .xs .now) (c .before .before .before .before .before .before .before .before .before .before .before .before .before .before .before .before .before .before .before .before .before .before .before .before .before .before .before .before .args .i) (c .before .before .before .before .before .before .before .before .before .before .before .before .before .before .before .before .before .before .before .before .before .before .before .before .before .before .before .before .args .functions) (c .before .before .before .before .before .before .before .before .before .before .before .before .before .before .before .before .before .before .before .before .before .before .before .before .before .before .before .before .args .diagnostics) (c .before .before .before .before .before .before .before .before .before .before .before .before .before .before .before .before .before .before .before .before .before .before .before .before .before .before .before .before .args .code)) _ _ _ _ _ _ _ _ _ _ _ _ _ (word-of-middle (c .before .before .before .before .before .before .before .before .before .before .before .before .before .before .before .before .before .before .before .before .before .before .before .before .before .before .before .before .args .t) (c .before .before .before .before .before .before .before .before .before .before .before .before .before .before .before .before .before .before .before .before .before .before .before .before .before .before .before .before .args .xs .now) (c .before .before .before .before .before .before .before .before .before .before .before .before .before .before .before .before .before .before .before .before .before .before .before .before .before .before .before .before .args .i) (c .before .before .before .before .before .before .before .before .before .before .before .before .before .before .before .before .before .before .before .before .before .before .before .before .before .before .before .before .args .functions) (c .before .before .before .before .before .before .before .before .before .before .before .before .before .before .before .before .before .before .before .before .before .before .before .before .before .before .before .before .args .diagnostics) (c .before .before .before .before .before .before .before .before .before .before .before .before .before .before .before .before .before .before .before .before .before .before .before .before .before .before .before .before .args .code) 0 _ _ (c .before .before .before .before .before .before .before .before .before .before .before .before .before .before .before .before .before .before .before .before .before .before .before .before .before .before .middle-limit .result) (c .before .before .before .before .before .before .before .before .before .before .before .before .before .before .before .before .before .before .before .before .before .before .before .before .before .before .middle-limit .ensures) (c .before .before .before .before .before .before .before .before .before .before .before .before .before .before .before .before .before .before .before .before .before .before .before .before .before .field .ensures) (c .before .before .before .before .before .before .before .before .before .before .before .before .before .before .before .before .before .before .before .before .before .before .before .before .word-class .ensures)) (word-of-middle (c .before .before .before .before .before .before .before .before .before .before .before .before .before .before .before .before .before .before .before .before .before .before .before .before .before .before .before .before .args .t) (c .before .before .before .before .before .before .before .before .before .before .before .before .before .before .before .before .before .before .before .before .before .before .before .before .before .before .before .before .args .xs .now) (c .before .before .before .before .before .before .before .before .before .before .before .before .before .before .before .before .before .before .before .before .before .before .before .before .before .before .before .before .args .i) (c .before .before .before .before .before .before .before .before .before .before .before .before .before .before .before .before .before .before .before .before .before .before .before .before .before .before .before .before .args .functions) (c .before .before .before .before .before .before .before .before .before .before .before .before .before .before .before .before .before .before .before .before .before .before .before .before .before .before .before .before .args .diagnostics) (c .before .before .before .before .before .before .before .before .before .before .before .before .before .before .before .before .before .before .before .before .before .before .before .before .before .before .before .before .args .code) 1 _ _ (c .before .before .before .before .before .before .before .before .before .before .before .before .before .before .before .before .before .before .before .before .before .before .before .middle-limit2 .result) (c .before .before .before .before .before .before .before .before .before .before .before .before .before .before .before .before .before .before .before .before .before .before .before .middle-limit2 .ensures) (c .before .before .before .before .before .before .before .before .before .before .before .before .before .before .before .before .before .before .before .before .before .before .field2 .ensures) (c .before .before .before .before .before .before .before .before .before .before .before .before .before .before .before .before .before .before .before .before .before .word-class2 .ensures)) (word-of-middle (c .before .before .before .before .before .before .before .before .before .before .before .before .before .before .before .before .before .before .before .before .before .before .before .before .before .before .before .before .args .t) (c .before .before .before .before .before .before .before .before .before .before .before .before .before .before .before .before .before .before .before .before .before .before .before .before .before .before .before .before .args .xs .now) (c .before .before .before .before .before .before .before .before .before .before .before .before .before .before .before .before .before .before .before .before .before .before .before .before .before .before .before .before .args .i) (c .before .before .before .before .before .before .before .before .before .before .before .before .before .before .before .before .before .before .before .before .before .before .before .before .before .before .before .before .args .functions) (c .before .before .before .before .before .before .before .before .before .before .before .before .before .before .before .before .before .before .before .before .before .before .before .before .before .before .before .before .args .diagnostics) (c .before .before .before .before .before .before .before .before .before .before .before .before .before .before .before .before .before .before .before .before .before .before .before .before .before .before .before .before .args .code) 2 _ _ (c .before .before .before .before .before .before .before .before .before .before .before .before .before .before .before .before .before .before .before .before .middle-limit3 .result) (c .before .before .before .before .before .before .before .before .before .before .before .before .before .before .before .before .before .before .before .before .middle-limit3 .ensures) (c .before .before .before .before .before .before .before .before .before .before .before .before .before .before .before .before .before .before .before .field3 .ensures) (c .before .before .before .before .before .before .before .before .before .before .before .before .before .before .before .before .before .before .word-class3 .ensures)) (word-of-middle (c .before .before .before .before .before .before .before .before .before .before .before .before .before .before .before .before .before .before .before .before .before .before .before .before .before .before .before .before .args .t) (c .before .before .before .before .before .before .before .before .before .before .before .before .before .before .before .before .before .before .before .before .before .before .before .before .before .before .before .before .args .xs .now) (c .before .before .before .before .before .before .before .before .before .before .before .before .before .before .before .before .before .before .before .before .before .before .before .before .before .before .before .before .args .i) (c .before .before .before .before .before .before .before .before .before .before .before .before .before .before .before .before .before .before .before .before .before .before .before .before .before .before .before .before .args .functions) (c .before .before .before .before .before .before .before .before .before .before .before .before .before .before .before .before .before .before .before .before .before .before .before .before .before .before .before .before .args .diagnostics) (c .before .before .before .before .before .before .before .before .before .before .before .before .before .before .before .before .before .before .before .before .before .before .before .before .before .before .before .before .args .code) 3 _ _ (c .before .before .before .before .before .before .before .before .before .before .before .before .before .before .before .before .before .middle-limit4 .result) (c .before .before .before .before .before .before .before .before .before .before .before .before .before .before .before .before .before .middle-limit4 .ensures) (c .before .before .before .before .before .before .before .before .before .before .before .before .before .before .before .before .field4 .ensures) (c .before .before .before .before .before .before .before .before .before .before .before .before .before .before .before .word-class4 .ensures)) (word-of-middle (c .before .before .before .before .before .before .before .before .before .before .before .before .before .before .before .before .before .before .before .before .before .before .before .before .before .before .before .before .args .t) (c .before .before .before .before .before .before .before .before .before .before .before .before .before .before .before .before .before .before .before .before .before .before .before .before .before .before .before .before .args .xs .now) (c .before .before .before .before .before .before .before .before .before .before .before .before .before .before .before .before .before .before .before .before .before .before .before .before .before .before .before .before .args .i) (c .before .before .before .before .before .before .before .before .before .before .before .before .before .before .before .before .before .before .before .before .before .before .before .before .before .before .before .before .args .functions) (c .before .before .before .before .before .before .before .before .before .before .before .before .before .before .before .before .before .before .before .before .before .before .before .before .before .before .before .before .args .diagnostics) (c .before .before .before .before .before .before .before .before .before .before .before .before .before .before .before .before .before .before .before .before .before .before .before .before .before .before .before .before .args .code) 4 _ _ (c .before .before .before .before .before .before .before .before .before .before .before .before .before .before .middle-limit5 .result) (c .before .before .before .before .before .before .before .before .before .before .before .before .before .before .middle-limit5 .ensures) (c .before .before .before .before .before .before .before .before .before .before .before .before .before .field5 .ensures) (c .before .before .before .before .before .before .before .before .before .before .before .before .word-class5 .ensures)) (word-of-middle (c .before .before .before .before .before .before .before .before .before .before .before .before .before .before .before .before .before .before .before .before .before .before .before .before .before .before .before .before .args .t) (c .before .before .before .before .before .before .before .before .before .before .before .before .before .before .before .before .before .before .before .before .before .before .before .before .before .before .before .before .args .xs .now) (c .before .before .before .before .before .before .before .before .before .before .before .before .before .before .before .before .before .before .before .before .before .before .before .before .before .before .before .before .args .i) (c .before .before .before .before .before .before .before .before .before .before .before .before .before .before .before .before .before .before .before .before .before .before .before .before .before .before .before .before .args .functions) (c .before .before .before .before .before .before .before .before .before .before .before .before .before .before .before .before .before .before .before .before .before .before .before .before .before .before .before .before .args .diagnostics) (c .before .before .before .before .before .before .before .before .before .before .before .before .before .before .before .before .before .before .before .before .before .before .before .before .before .before .before .before .args .code) 5 _ _ (c .before .before .before .before .before .before .before .before .before .before .before .middle-limit6 .result) (c .before .before .before .before .before .before .before .before .before .before .before .middle-limit6 .ensures) (c .before .before .before .before .before .before .before .before .before .before .field6 .ensures) (c .before .before .before .before .before .before .before .before .before .word-class6 .ensures)) (word-of-middle (c .before .before .before .before .before .before .before .before .before .before .before .before .before .before .before .before .before .before .before .before .before .before .before .before .before .before .before .before .args .t) (c .before .before .before .before .before .before .before .before .before .before .before .before .before .before .before .before .before .before .before .before .before .before .before .before .before .before .before .before .args .xs .now) (c .before .before .before .before .before .before .before .before .before .before .before .before .before .before .before .before .before .before .before .before .before .before .before .before .before .before .before .before .args .i) (c .before .before .before .before .before .before .before .before .before .before .before .before .before .before .before .before .before .before .before .before .before .before .before .before .before .before .before .before .args .functions) (c .before .before .before .before .before .before .before .before .before .before .before .before .before .before .before .before .before .before .before .before .before .before .before .before .before .before .before .before .args .diagnostics) (c .before .before .before .before .before .before .before .before .before .before .before .before .before .before .before .before .before .before .before .before .before .before .before .before .before .before .before .before .args .code) 6 _ _ (c .before .before .before .before .before .before .before .before .middle-limit7 .result) (c .before .before .before .before .before .before .before .before .middle-limit7 .ensures) (c .before .before .before .before .before .before .before .field7 .ensures) (c .before .before .before .before .before .before .word-class7 .ensures)) (c .before .before .before .before .before .lower .ensures) (c .before .before .before .before .lower2 .ensures) (c .before .before .before .lower3 .ensures) (c .before .before .lower4 .ensures) (c .before .lower5 .ensures) (c .lower6 .ensures)
+returns c =
+    let at-lower4 = c .before .before in
+    let at-lower3 = at-lower4 .before in
+    let at-lower2 = at-lower3 .before in
+    let at-lower = at-lower2 .before in
+    let at-word-class7 = at-lower .before in
+    let at-field7 = at-word-class7 .before in
+    let at-middle-limit7 = at-field7 .before in
+    let at-word-class6 = at-middle-limit7 .before in
+    let at-field6 = at-word-class6 .before in
+    let at-middle-limit6 = at-field6 .before in
+    let at-word-class5 = at-middle-limit6 .before in
+    let at-field5 = at-word-class5 .before in
+    let at-middle-limit5 = at-field5 .before in
+    let at-word-class4 = at-middle-limit5 .before in
+    let at-field4 = at-word-class4 .before in
+    let at-middle-limit4 = at-field4 .before in
+    let at-word-class3 = at-middle-limit4 .before in
+    let at-field3 = at-word-class3 .before in
+    let at-middle-limit3 = at-field3 .before in
+    let at-word-class2 = at-middle-limit3 .before in
+    let at-field2 = at-word-class2 .before in
+    let at-middle-limit2 = at-field2 .before in
+    let at-word-class = at-middle-limit2 .before in
+    let at-field = at-word-class .before in
+    let at-middle-limit = at-field .before in
+    let at-args = at-middle-limit .before .before in
+    lowest-seven (middleWord (at-args .args .t) (at-args .args .xs .now) (at-args .args .i) (at-args .args .functions) (at-args .args .diagnostics) (at-args .args .code)) _ _ _ _ _ _ _ _ _ _ _ _ _ (word-of-middle (at-args .args .t) (at-args .args .xs .now) (at-args .args .i) (at-args .args .functions) (at-args .args .diagnostics) (at-args .args .code) 0 _ _ (at-middle-limit .middle-limit .result) (at-middle-limit .middle-limit .ensures) (at-field .field .ensures) (at-word-class .word-class .ensures)) (word-of-middle (at-args .args .t) (at-args .args .xs .now) (at-args .args .i) (at-args .args .functions) (at-args .args .diagnostics) (at-args .args .code) 1 _ _ (at-middle-limit2 .middle-limit2 .result) (at-middle-limit2 .middle-limit2 .ensures) (at-field2 .field2 .ensures) (at-word-class2 .word-class2 .ensures)) (word-of-middle (at-args .args .t) (at-args .args .xs .now) (at-args .args .i) (at-args .args .functions) (at-args .args .diagnostics) (at-args .args .code) 2 _ _ (at-middle-limit3 .middle-limit3 .result) (at-middle-limit3 .middle-limit3 .ensures) (at-field3 .field3 .ensures) (at-word-class3 .word-class3 .ensures)) (word-of-middle (at-args .args .t) (at-args .args .xs .now) (at-args .args .i) (at-args .args .functions) (at-args .args .diagnostics) (at-args .args .code) 3 _ _ (at-middle-limit4 .middle-limit4 .result) (at-middle-limit4 .middle-limit4 .ensures) (at-field4 .field4 .ensures) (at-word-class4 .word-class4 .ensures)) (word-of-middle (at-args .args .t) (at-args .args .xs .now) (at-args .args .i) (at-args .args .functions) (at-args .args .diagnostics) (at-args .args .code) 4 _ _ (at-middle-limit5 .middle-limit5 .result) (at-middle-limit5 .middle-limit5 .ensures) (at-field5 .field5 .ensures) (at-word-class5 .word-class5 .ensures)) (word-of-middle (at-args .args .t) (at-args .args .xs .now) (at-args .args .i) (at-args .args .functions) (at-args .args .diagnostics) (at-args .args .code) 5 _ _ (at-middle-limit6 .middle-limit6 .result) (at-middle-limit6 .middle-limit6 .ensures) (at-field6 .field6 .ensures) (at-word-class6 .word-class6 .ensures)) (word-of-middle (at-args .args .t) (at-args .args .xs .now) (at-args .args .i) (at-args .args .functions) (at-args .args .diagnostics) (at-args .args .code) 6 _ _ (at-middle-limit7 .middle-limit7 .result) (at-middle-limit7 .middle-limit7 .ensures) (at-field7 .field7 .ensures) (at-word-class7 .word-class7 .ensures)) (at-lower .lower .ensures) (at-lower2 .lower2 .ensures) (at-lower3 .lower3 .ensures) (at-lower4 .lower4 .ensures) (c .before .lower5 .ensures) (c .lower6 .ensures)
 
 pub middle-words-spec : {M : Type 1} → statement M
 middle-words-spec =

@@ -4,14 +4,6 @@ use Rattle.refuse_instruction.specs.Laws.Parts.{lowest-five, word-of-pla
 use borrow.Author.Needs.{needs}
 use Rattle.refuse_instruction.proofs.place_words.Statement.{statement}
 use Rattle.refuse_instruction.proofs.place_words.Tie as tie
-use Rattle.refuse_instruction.proofs.place_words.Reads as reads
-use Rattle.refuse_instruction.proofs.place_words.Lts as lts
-use Rattle.lent_slices.proofs.wide32.Reads as wide32-reads
-use Rattle.lent_tables.proofs.field.Reads as field-reads
-use Rattle.refuse_class.proofs.lower.Reads as lower-reads
-use Rattle.refuse_words.proofs.place_limit.Reads as place-limit-reads
-use Rattle.refuse_words.proofs.used_if.Reads as used-if-reads
-use Rattle.refuse_words.proofs.word_class.Reads as word-class-reads
 
 wide32-requires : tie.Need-wide32-requires
 wide32-requires c κs = search needs
@@ -101,7 +93,32 @@ lower-requires-4 : tie.Need-lower-requires-4
 lower-requires-4 c κs = search needs
 
 returns : tie.Need-returns
-returns c = lowest-five (placeWord (c .before .before .before .before .before .before .before .before .before .before .before .before .before .before .before .before .before .before .before .before .before .before .before .before .before .before .args .t) (c .before .before .before .before .before .before .before .before .before .before .before .before .before .before .before .before .before .before .before .before .before .before .before .before .before .before .args .xs .now) (c .before .before .before .before .before .before .before .before .before .before .before .before .before .before .before .before .before .before .before .before .before .before .before .before .before .before .args .i) (c .before .before .before .before .before .before .before .before .before .before .before .before .before .before .before .before .before .before .before .before .before .before .before .before .before .before .args .first) (c .before .before .before .before .before .before .before .before .before .before .before .before .before .before .before .before .before .before .before .before .before .before .before .before .before .before .args .u) (c .before .before .before .before .before .before .before .before .before .before .before .before .before .before .before .before .before .before .before .before .before .before .before .before .before .before .args .identifiers)) _ _ _ _ _ _ _ _ _ (word-of-place (c .before .before .before .before .before .before .before .before .before .before .before .before .before .before .before .before .before .before .before .before .before .before .before .before .before .before .args .t) (c .before .before .before .before .before .before .before .before .before .before .before .before .before .before .before .before .before .before .before .before .before .before .before .before .before .before .args .xs .now) (c .before .before .before .before .before .before .before .before .before .before .before .before .before .before .before .before .before .before .before .before .before .before .before .before .before .before .args .i) (c .before .before .before .before .before .before .before .before .before .before .before .before .before .before .before .before .before .before .before .before .before .before .before .before .before .before .args .first) (c .before .before .before .before .before .before .before .before .before .before .before .before .before .before .before .before .before .before .before .before .before .before .before .before .before .before .args .u) (c .before .before .before .before .before .before .before .before .before .before .before .before .before .before .before .before .before .before .before .before .before .before .before .before .before .before .args .identifiers) 0 _ _ _ (c .before .before .before .before .before .before .before .before .before .before .before .before .before .before .before .before .before .before .place-limit .result) (c .before .before .before .before .before .before .before .before .before .before .before .before .before .before .before .before .before .used-if .result) (c .before .before .before .before .before .before .before .before .before .before .before .before .before .before .before .before .before .before .place-limit .ensures) (c .before .before .before .before .before .before .before .before .before .before .before .before .before .before .before .before .before .used-if .ensures) (let z = c .before .before .before .before .before .before .before .before .before .before .before .before .before .before .before .before .before .before .before .before .before .before .before .before .wide32 .ensures in omega arith) (c .before .before .before .before .before .before .before .before .before .before .before .before .before .before .before .before .before .before .before .before .before .before .before .field .ensures) (c .before .before .before .before .before .before .before .before .before .before .before .before .before .before .before .before .word-class .ensures)) (word-of-place (c .before .before .before .before .before .before .before .before .before .before .before .before .before .before .before .before .before .before .before .before .before .before .before .before .before .before .args .t) (c .before .before .before .before .before .before .before .before .before .before .before .before .before .before .before .before .before .before .before .before .before .before .before .before .before .before .args .xs .now) (c .before .before .before .before .before .before .before .before .before .before .before .before .before .before .before .before .before .before .before .before .before .before .before .before .before .before .args .i) (c .before .before .before .before .before .before .before .before .before .before .before .before .before .before .before .before .before .before .before .before .before .before .before .before .before .before .args .first) (c .before .before .before .before .before .before .before .before .before .before .before .before .before .before .before .before .before .before .before .before .before .before .before .before .before .before .args .u) (c .before .before .before .before .before .before .before .before .before .before .before .before .before .before .before .before .before .before .before .before .before .before .before .before .before .before .args .identifiers) 1 _ _ _ (c .before .before .before .before .before .before .before .before .before .before .before .before .before .before .before .place-limit2 .result) (c .before .before .before .before .before .before .before .before .before .before .before .before .before .before .used-if2 .result) (c .before .before .before .before .before .before .before .before .before .before .before .before .before .before .before .place-limit2 .ensures) (c .before .before .before .before .before .before .before .before .before .before .before .before .before .before .used-if2 .ensures) (let z = c .before .before .before .before .before .before .before .before .before .before .before .before .before .before .before .before .before .before .before .before .before .before .before .before .wide32 .ensures in omega arith) (c .before .before .before .before .before .before .before .before .before .before .before .before .before .before .before .before .before .before .before .before .before .before .field2 .ensures) (c .before .before .before .before .before .before .before .before .before .before .before .before .before .word-class2 .ensures)) (word-of-place (c .before .before .before .before .before .before .before .before .before .before .before .before .before .before .before .before .before .before .before .before .before .before .before .before .before .before .args .t) (c .before .before .before .before .before .before .before .before .before .before .before .before .before .before .before .before .before .before .before .before .before .before .before .before .before .before .args .xs .now) (c .before .before .before .before .before .before .before .before .before .before .before .before .before .before .before .before .before .before .before .before .before .before .before .before .before .before .args .i) (c .before .before .before .before .before .before .before .before .before .before .before .before .before .before .before .before .before .before .before .before .before .before .before .before .before .before .args .first) (c .before .before .before .before .before .before .before .before .before .before .before .before .before .before .before .before .before .before .before .before .before .before .before .before .before .before .args .u) (c .before .before .before .before .before .before .before .before .before .before .before .before .before .before .before .before .before .before .before .before .before .before .before .before .before .before .args .identifiers) 2 _ _ _ (c .before .before .before .before .before .before .before .before .before .before .before .before .place-limit3 .result) (c .before .before .before .before .before .before .before .before .before .before .before .used-if3 .result) (c .before .before .before .before .before .before .before .before .before .before .before .before .place-limit3 .ensures) (c .before .before .before .before .before .before .before .before .before .before .before .used-if3 .ensures) (let z = c .before .before .before .before .before .before .before .before .before .before .before .before .before .before .before .before .before .before .before .before .before .before .before .before .wide32 .ensures in omega arith) (c .before .before .before .before .before .before .before .before .before .before .before .before .before .before .before .before .before .before .before .before .before .field3 .ensures) (c .before .before .before .before .before .before .before .before .before .before .word-class3 .ensures)) (word-of-place (c .before .before .before .before .before .before .before .before .before .before .before .before .before .before .before .before .before .before .before .before .before .before .before .before .before .before .args .t) (c .before .before .before .before .before .before .before .before .before .before .before .before .before .before .before .before .before .before .before .before .before .before .before .before .before .before .args .xs .now) (c .before .before .before .before .before .before .before .before .before .before .before .before .before .before .before .before .before .before .before .before .before .before .before .before .before .before .args .i) (c .before .before .before .before .before .before .before .before .before .before .before .before .before .before .before .before .before .before .before .before .before .before .before .before .before .before .args .first) (c .before .before .before .before .before .before .before .before .before .before .before .before .before .before .before .before .before .before .before .before .before .before .before .before .before .before .args .u) (c .before .before .before .before .before .before .before .before .before .before .before .before .before .before .before .before .before .before .before .before .before .before .before .before .before .before .args .identifiers) 3 _ _ _ (c .before .before .before .before .before .before .before .before .before .place-limit4 .result) (c .before .before .before .before .before .before .before .before .used-if4 .result) (c .before .before .before .before .before .before .before .before .before .place-limit4 .ensures) (c .before .before .before .before .before .before .before .before .used-if4 .ensures) (let z = c .before .before .before .before .before .before .before .before .before .before .before .before .before .before .before .before .before .before .before .before .before .before .before .before .wide32 .ensures in omega arith) (c .before .before .before .before .before .before .before .before .before .before .before .before .before .before .before .before .before .before .before .before .field4 .ensures) (c .before .before .before .before .before .before .before .word-class4 .ensures)) (word-of-place (c .before .before .before .before .before .before .before .before .before .before .before .before .before .before .before .before .before .before .before .before .before .before .before .before .before .before .args .t) (c .before .before .before .before .before .before .before .before .before .before .before .before .before .before .before .before .before .before .before .before .before .before .before .before .before .before .args .xs .now) (c .before .before .before .before .before .before .before .before .before .before .before .before .before .before .before .before .before .before .before .before .before .before .before .before .before .before .args .i) (c .before .before .before .before .before .before .before .before .before .before .before .before .before .before .before .before .before .before .before .before .before .before .before .before .before .before .args .first) (c .before .before .before .before .before .before .before .before .before .before .before .before .before .before .before .before .before .before .before .before .before .before .before .before .before .before .args .u) (c .before .before .before .before .before .before .before .before .before .before .before .before .before .before .before .before .before .before .before .before .before .before .before .before .before .before .args .identifiers) 4 _ _ _ (c .before .before .before .before .before .before .place-limit5 .result) (c .before .before .before .before .before .used-if5 .result) (c .before .before .before .before .before .before .place-limit5 .ensures) (c .before .before .before .before .before .used-if5 .ensures) (let z = c .before .before .before .before .before .before .before .before .before .before .before .before .before .before .before .before .before .before .before .before .before .before .before .before .wide32 .ensures in omega arith) (c .before .before .before .before .before .before .before .before .before .before .before .before .before .before .before .before .before .before .before .field5 .ensures) (c .before .before .before .before .word-class5 .ensures)) (c .before .before .before .lower .ensures) (c .before .before .lower2 .ensures) (c .before .lower3 .ensures) (c .lower4 .ensures)
+returns c =
+    let at-lower2 = c .before .before in
+    let at-lower = at-lower2 .before in
+    let at-word-class5 = at-lower .before in
+    let at-used-if5 = at-word-class5 .before in
+    let at-place-limit5 = at-used-if5 .before in
+    let at-word-class4 = at-place-limit5 .before in
+    let at-used-if4 = at-word-class4 .before in
+    let at-place-limit4 = at-used-if4 .before in
+    let at-word-class3 = at-place-limit4 .before in
+    let at-used-if3 = at-word-class3 .before in
+    let at-place-limit3 = at-used-if3 .before in
+    let at-word-class2 = at-place-limit3 .before in
+    let at-used-if2 = at-word-class2 .before in
+    let at-place-limit2 = at-used-if2 .before in
+    let at-word-class = at-place-limit2 .before in
+    let at-used-if = at-word-class .before in
+    let at-place-limit = at-used-if .before in
+    let at-field5 = at-place-limit .before in
+    let at-field4 = at-field5 .before in
+    let at-field3 = at-field4 .before in
+    let at-field2 = at-field3 .before in
+    let at-field = at-field2 .before in
+    let at-wide32 = at-field .before in
+    let at-args = at-wide32 .before .before in
+    lowest-five (placeWord (at-args .args .t) (at-args .args .xs .now) (at-args .args .i) (at-args .args .first) (at-args .args .u) (at-args .args .identifiers)) _ _ _ _ _ _ _ _ _ (word-of-place (at-args .args .t) (at-args .args .xs .now) (at-args .args .i) (at-args .args .first) (at-args .args .u) (at-args .args .identifiers) 0 _ _ _ (at-place-limit .place-limit .result) (at-used-if .used-if .result) (at-place-limit .place-limit .ensures) (at-used-if .used-if .ensures) (let z = at-wide32 .wide32 .ensures in omega arith) (at-field .field .ensures) (at-word-class .word-class .ensures)) (word-of-place (at-args .args .t) (at-args .args .xs .now) (at-args .args .i) (at-args .args .first) (at-args .args .u) (at-args .args .identifiers) 1 _ _ _ (at-place-limit2 .place-limit2 .result) (at-used-if2 .used-if2 .result) (at-place-limit2 .place-limit2 .ensures) (at-used-if2 .used-if2 .ensures) (let z = at-wide32 .wide32 .ensures in omega arith) (at-field2 .field2 .ensures) (at-word-class2 .word-class2 .ensures)) (word-of-place (at-args .args .t) (at-args .args .xs .now) (at-args .args .i) (at-args .args .first) (at-args .args .u) (at-args .args .identifiers) 2 _ _ _ (at-place-limit3 .place-limit3 .result) (at-used-if3 .used-if3 .result) (at-place-limit3 .place-limit3 .ensures) (at-used-if3 .used-if3 .ensures) (let z = at-wide32 .wide32 .ensures in omega arith) (at-field3 .field3 .ensures) (at-word-class3 .word-class3 .ensures)) (word-of-place (at-args .args .t) (at-args .args .xs .now) (at-args .args .i) (at-args .args .first) (at-args .args .u) (at-args .args .identifiers) 3 _ _ _ (at-place-limit4 .place-limit4 .result) (at-used-if4 .used-if4 .result) (at-place-limit4 .place-limit4 .ensures) (at-used-if4 .used-if4 .ensures) (let z = at-wide32 .wide32 .ensures in omega arith) (at-field4 .field4 .ensures) (at-word-class4 .word-class4 .ensures)) (word-of-place (at-args .args .t) (at-args .args .xs .now) (at-args .args .i) (at-args .args .first) (at-args .args .u) (at-args .args .identifiers) 4 _ _ _ (at-place-limit5 .place-limit5 .result) (at-used-if5 .used-if5 .result) (at-place-limit5 .place-limit5 .ensures) (at-used-if5 .used-if5 .ensures) (let z = at-wide32 .wide32 .ensures in omega arith) (at-field5 .field5 .ensures) (at-word-class5 .word-class5 .ensures)) (at-lower .lower .ensures) (at-lower2 .lower2 .ensures) (c .before .lower3 .ensures) (c .lower4 .ensures)
 
 pub place-words-spec : {M : Type 1} → statement M
 place-words-spec =

@@ -1,10 +1,10 @@
 -- The words of a record in two parts: those before the captures one by one, and the rest at once where the effect has none. Assumes nothing.
 use Prim.Native.Nat.{ℕ, zero, suc, _+_, _*_, _-_, _≤_, _<_}
 use native.Mathlib.Omega.{arith}
-use mathlib.Core.Path.{_≡_, refl, sym, ap, ap₂, _∙_, fun-ext}
-use mathlib.Core.Logic.{_⊎_, ⊎-elim}
+use mathlib.Core.Path.{_≡_, refl, sym, ap, ap₂, _∙_}
+use mathlib.Core.Logic.{⊎-elim}
 use mathlib.Core.List.{List}
-use mathlib.Core.Option.{Option, none}
+use mathlib.Core.Option.{none}
 use lib.Dec.{eqb}
 use lib.ListN.{getD}
 use Rattle.base_tests.specs.Tests.{ite}

@@ -2,13 +2,6 @@ use Rattle.refuse_key_order.specs.Laws.KeyOrder.{two-less, two-more, two
 use borrow.Author.Needs.{needs}
 use Rattle.refuse_key_order.proofs.compare_cached.Statement.{statement}
 use Rattle.refuse_key_order.proofs.compare_cached.Tie as tie
-use Rattle.refuse_key_order.proofs.compare_cached.Reads as reads
-use Rattle.refuse_key_order.proofs.compare_cached.Lts as lts
-use Rattle.lent_key_order.proofs.compare_heads.Reads as compare-heads-reads
-use Rattle.lent_key_order.proofs.compare_runs.Reads as compare-runs-reads
-use Rattle.lent_keys.proofs.head_in.Reads as head-in-reads
-use Rattle.lent_slices.proofs.wide32.Reads as wide32-reads
-use Rattle.lent_tables.proofs.field.Reads as field-reads
 
 wide32-requires : tie.Need-wide32-requires
 wide32-requires c κs = search needs
@@ -44,13 +37,36 @@ enum-told-3 : tie.Need-enum-told-3
 enum-told-3 c = search needs
 
 returns : tie.Need-returns
-returns c = two-less (c .before .before .before .before .before .before .before .before .args .context .now) _ _ _ _ (c .before .before .before .before .before .before .wide32 .ensures) (c .before .before .before .before .before .wide322 .ensures) _ _ (c .before .before .before .before .head-in .ensures) (c .before .before .before .head-in2 .ensures) _ (c .before .before .compare-heads .ensures) (c .enum-told .given .1)
+returns c =
+    let at-compare-heads = c .before .before in
+    let at-head-in2 = at-compare-heads .before in
+    let at-head-in = at-head-in2 .before in
+    let at-wide322 = at-head-in .before in
+    let at-wide32 = at-wide322 .before in
+    let at-args = at-wide32 .before .before in
+    two-less (at-args .args .context .now) _ _ _ _ (at-wide32 .wide32 .ensures) (at-wide322 .wide322 .ensures) _ _ (at-head-in .head-in .ensures) (at-head-in2 .head-in2 .ensures) _ (at-compare-heads .compare-heads .ensures) (c .enum-told .given .1)
 
 returns-2 : tie.Need-returns-2
-returns-2 c = two-same (c .before .before .before .before .before .before .before .before .before .before .before .args .context .now) _ _ _ _ (c .before .before .before .before .before .before .before .before .before .wide32 .ensures) (c .before .before .before .before .before .before .before .before .wide322 .ensures) _ _ (c .before .before .before .before .before .before .before .head-in .ensures) (c .before .before .before .before .before .before .head-in2 .ensures) _ (c .before .before .before .before .before .compare-heads .ensures) _ _ _ (c .before .before .before .enum-told2 .given .1) (c .before .before .field .ensures) (c .before .field2 .ensures) (c .compare-runs .ensures)
+returns-2 c =
+    let at-field = c .before .before in
+    let at-enum-told2 = at-field .before in
+    let at-compare-heads = at-enum-told2 .before .before in
+    let at-head-in2 = at-compare-heads .before in
+    let at-head-in = at-head-in2 .before in
+    let at-wide322 = at-head-in .before in
+    let at-wide32 = at-wide322 .before in
+    let at-args = at-wide32 .before .before in
+    two-same (at-args .args .context .now) _ _ _ _ (at-wide32 .wide32 .ensures) (at-wide322 .wide322 .ensures) _ _ (at-head-in .head-in .ensures) (at-head-in2 .head-in2 .ensures) _ (at-compare-heads .compare-heads .ensures) _ _ _ (at-enum-told2 .enum-told2 .given .1) (at-field .field .ensures) (c .before .field2 .ensures) (c .compare-runs .ensures)
 
 returns-3 : tie.Need-returns-3
-returns-3 c = two-more (c .before .before .before .before .before .before .before .before .args .context .now) _ _ _ _ (c .before .before .before .before .before .before .wide32 .ensures) (c .before .before .before .before .before .wide322 .ensures) _ _ (c .before .before .before .before .head-in .ensures) (c .before .before .before .head-in2 .ensures) _ (c .before .before .compare-heads .ensures) (c .enum-told3 .given .1)
+returns-3 c =
+    let at-compare-heads = c .before .before in
+    let at-head-in2 = at-compare-heads .before in
+    let at-head-in = at-head-in2 .before in
+    let at-wide322 = at-head-in .before in
+    let at-wide32 = at-wide322 .before in
+    let at-args = at-wide32 .before .before in
+    two-more (at-args .args .context .now) _ _ _ _ (at-wide32 .wide32 .ensures) (at-wide322 .wide322 .ensures) _ _ (at-head-in .head-in .ensures) (at-head-in2 .head-in2 .ensures) _ (at-compare-heads .compare-heads .ensures) (c .enum-told3 .given .1)
 
 pub compare-cached-spec : {M : Type 1} → statement M
 compare-cached-spec =

@@ -2,10 +2,6 @@ use Rattle.refuse_key_order.specs.Laws.KeyOrder.{keyed-not, keyed-yes}
 use borrow.Author.Needs.{needs}
 use Rattle.refuse_key_order.proofs.is_keyed.Statement.{statement}
 use Rattle.refuse_key_order.proofs.is_keyed.Tie as tie
-use Rattle.refuse_key_order.proofs.is_keyed.Reads as reads
-use Rattle.refuse_key_order.proofs.is_keyed.Lts as lts
-use Rattle.lent_slices.proofs.wide32.Reads as wide32-reads
-use Rattle.lent_tables.proofs.field.Reads as field-reads
 
 wide32-requires : tie.Need-wide32-requires
 wide32-requires c κs = search needs

@@ -3,10 +3,6 @@ use Rattle.refuse_key_order.specs.Laws.KeyOrder.{counted-is}
 use borrow.Author.Needs.{needs}
 use Rattle.refuse_key_order.proofs.is_miscounted.Statement.{statement}
 use Rattle.refuse_key_order.proofs.is_miscounted.Tie as tie
-use Rattle.refuse_key_order.proofs.is_miscounted.Reads as reads
-use Rattle.refuse_key_order.proofs.is_miscounted.Lts as lts
-use Rattle.lent_links.proofs.key_count.Reads as key-count-reads
-use Rattle.refuse_key_order.proofs.keyed.Reads as keyed-reads
 
 keyed-requires : tie.Need-keyed-requires
 keyed-requires c κs = search needs

@@ -2,11 +2,6 @@ use Rattle.refuse_key_order.specs.Laws.KeyOrder.{place-keyless, place-ke
 use borrow.Author.Needs.{needs}
 use Rattle.refuse_key_order.proofs.is_misplaced.Statement.{statement}
 use Rattle.refuse_key_order.proofs.is_misplaced.Tie as tie
-use Rattle.refuse_key_order.proofs.is_misplaced.Reads as reads
-use Rattle.refuse_key_order.proofs.is_misplaced.Lts as lts
-use Rattle.lent_order.proofs.order_at.Reads as order-at-reads
-use Rattle.refuse_key_order.proofs.is_keyed.Reads as is-keyed-reads
-use Rattle.refuse_key_order.proofs.key_descends.Reads as key-descends-reads
 
 order-at-requires : tie.Need-order-at-requires
 order-at-requires c κs = search needs

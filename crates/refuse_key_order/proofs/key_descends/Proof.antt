@@ -6,11 +6,6 @@ use Rattle.refuse_order.specs.Laws.Order.{last-place, next-place}
 use borrow.Author.Needs.{needs}
 use Rattle.refuse_key_order.proofs.key_descends.Statement.{statement}
 use Rattle.refuse_key_order.proofs.key_descends.Tie as tie
-use Rattle.refuse_key_order.proofs.key_descends.Reads as reads
-use Rattle.refuse_key_order.proofs.key_descends.Lts as lts
-use Rattle.lent_order.proofs.order_at.Reads as order-at-reads
-use Rattle.refuse_key_order.proofs.compare_cached.Reads as compare-cached-reads
-use Rattle.refuse_order.proofs.is_less.Reads as is-less-reads
 
 returns : tie.Need-returns
 returns c = last-place (keyHere (c .before .before .args .context .now)) (orderAt Layout.keyOrder (c .before .before .args .context .now)) (c .before .before .args .n) (c .before .before .args .j) (omega arith)
@@ -37,7 +32,11 @@ is-less-requires : tie.Need-is-less-requires
 is-less-requires c κs = search needs
 
 returns-3 : tie.Need-returns-3
-returns-3 c = next-place (keyHere (c .before .before .before .before .before .before .before .args .context .now)) (orderAt Layout.keyOrder (c .before .before .before .before .before .before .before .args .context .now)) (c .before .before .before .before .before .before .before .args .n) (c .before .before .before .before .before .before .before .args .j) _ _ _ _ _ (omega arith) (c .before .before .before .order-at .ensures) (omega arith) (c .before .before .order-at2 .ensures) (c .before .compare-cached .ensures) (c .is-less .ensures)
+returns-3 c =
+    let at-order-at2 = c .before .before in
+    let at-order-at = at-order-at2 .before in
+    let at-args = at-order-at .before .before .before .before in
+    next-place (keyHere (at-args .args .context .now)) (orderAt Layout.keyOrder (at-args .args .context .now)) (at-args .args .n) (at-args .args .j) _ _ _ _ _ (omega arith) (at-order-at .order-at .ensures) (omega arith) (at-order-at2 .order-at2 .ensures) (c .before .compare-cached .ensures) (c .is-less .ensures)
 
 pub key-descends-spec : {M : Type 1} → statement M
 key-descends-spec =

@@ -2,15 +2,6 @@ use Rattle.refuse_key_order.specs.Laws.KeyOrder.{order-is}
 use borrow.Author.Needs.{needs}
 use Rattle.refuse_key_order.proofs.key_order_class.Statement.{statement}
 use Rattle.refuse_key_order.proofs.key_order_class.Tie as tie
-use Rattle.refuse_key_order.proofs.key_order_class.Reads as reads
-use Rattle.refuse_key_order.proofs.key_order_class.Lts as lts
-use Rattle.lent_links.proofs.key_count.Reads as key-count-reads
-use Rattle.lent_slices.proofs.wide32.Reads as wide32-reads
-use Rattle.refuse_class.proofs.lower.Reads as lower-reads
-use Rattle.refuse_key_order.proofs.is_miscounted.Reads as is-miscounted-reads
-use Rattle.refuse_key_order.proofs.key_places_class.Reads as key-places-class-reads
-use Rattle.refuse_words.proofs.earns.Reads as earns-reads
-use Rattle.refuse_words.proofs.stray_after.Reads as stray-after-reads
 
 key-count-requires : tie.Need-key-count-requires
 key-count-requires c κs = search needs
@@ -37,7 +28,14 @@ lower-requires-2 : tie.Need-lower-requires-2
 lower-requires-2 c κs = search needs
 
 returns : tie.Need-returns
-returns c = order-is _ _ _ _ _ _ _ _ _ _ (c .before .before .before .before .before .before .before .key-count .ensures) (c .before .before .before .before .before .before .is-miscounted .ensures) (c .before .before .before .before .before .earns .ensures) (c .before .before .before .before .key-places-class .ensures) (c .before .before .before .wide32 .ensures) (c .before .before .stray-after .ensures) (c .before .lower .ensures) (c .lower2 .ensures)
+returns c =
+    let at-stray-after = c .before .before in
+    let at-wide32 = at-stray-after .before in
+    let at-key-places-class = at-wide32 .before in
+    let at-earns = at-key-places-class .before in
+    let at-is-miscounted = at-earns .before in
+    let at-key-count = at-is-miscounted .before in
+    order-is _ _ _ _ _ _ _ _ _ _ (at-key-count .key-count .ensures) (at-is-miscounted .is-miscounted .ensures) (at-earns .earns .ensures) (at-key-places-class .key-places-class .ensures) (at-wide32 .wide32 .ensures) (at-stray-after .stray-after .ensures) (c .before .lower .ensures) (c .lower2 .ensures)
 
 pub key-order-class-spec : {M : Type 1} → statement M
 key-order-class-spec =

@@ -4,13 +4,6 @@ use Rattle.refuse_key_order.specs.Laws.KeyOrder.{place-is}
 use borrow.Author.Needs.{needs}
 use Rattle.refuse_key_order.proofs.key_place_class.Statement.{statement}
 use Rattle.refuse_key_order.proofs.key_place_class.Tie as tie
-use Rattle.refuse_key_order.proofs.key_place_class.Reads as reads
-use Rattle.refuse_key_order.proofs.key_place_class.Lts as lts
-use Rattle.lent_order.proofs.order_at.Reads as order-at-reads
-use Rattle.refuse_class.proofs.lower.Reads as lower-reads
-use Rattle.refuse_key_order.proofs.is_misplaced.Reads as is-misplaced-reads
-use Rattle.refuse_words.proofs.earns.Reads as earns-reads
-use Rattle.refuse_words.proofs.word_class.Reads as word-class-reads
 
 add-word-class : tie.Need-add-word-class
 add-word-class c = search needs

@@ -7,10 +7,6 @@ use Rattle.refuse_words.specs.Laws.Class.{lowest-none, lowest-more, lowest-end}
 use Rattle.refuse_key_order.specs.KeyOrder.{keyPlaceClass}
 use Rattle.refuse_key_order.proofs.key_places_class.Statement.{statement}
 use Rattle.refuse_key_order.proofs.key_places_class.Tie as tie
-use Rattle.refuse_key_order.proofs.key_places_class.Reads as reads
-use Rattle.refuse_key_order.proofs.key_places_class.Lts as lts
-use Rattle.refuse_class.proofs.lower.Reads as lower-reads
-use Rattle.refuse_key_order.proofs.key_place_class.Reads as key-place-class-reads
 
 abbrev Inv-loop : tie.InvT-loop
 Inv-loop context m n worst₀ k₀ worst k = (k ≤ n) × (worst ≡ lowestBelow k (keyPlaceClass context m n))

@@ -7,10 +7,6 @@ use Rattle.lent_context.specs.Lent.{isKeyed}
 use Rattle.refuse_key_order.specs.Laws.KeyOrder.{one-most, none-counted, counted-next, all-keyed}
 use Rattle.refuse_key_order.proofs.keyed.Statement.{statement}
 use Rattle.refuse_key_order.proofs.keyed.Tie as tie
-use Rattle.refuse_key_order.proofs.keyed.Reads as reads
-use Rattle.refuse_key_order.proofs.keyed.Lts as lts
-use Rattle.refuse_key_order.proofs.is_keyed.Reads as is-keyed-reads
-use Rattle.refuse_key_order.proofs.one_if.Reads as one-if-reads
 
 abbrev Inv-loop : tie.InvT-loop
 Inv-loop context m n₀ k₀ n k = (k ≤ m) × (n ≤ k) × (n ≡ howMany (isKeyed context) k)

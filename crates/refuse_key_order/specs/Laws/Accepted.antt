@@ -1,10 +1,10 @@
 -- An order of cached keys that earns no class is in order, where no number from m on has a key, nor number 0. Assumes nothing.
 use Prim.Native.Nat.{ℕ, suc, _≤_, _<_}
 use native.Mathlib.Omega.{arith}
-use mathlib.Core.Path.{_≡_, refl, sym, ap, _∙_}
-use mathlib.Core.Bool.{Bool, true, false, not, _||_}
+use mathlib.Core.Path.{_≡_, _∙_}
+use mathlib.Core.Bool.{true, false, not}
 use mathlib.Core.List.{List}
-use lib.Dec.{eqb, ltb}
+use lib.Dec.{ltb}
 use borrow.Author.Tests.{ltb-true, eqb-true}
 use Rattle.base_tests.specs.Laws.Bool.{not-false, or-no-first, or-no-second}
 use Rattle.base_search.specs.declared.Order.the-variants.{Less}

@@ -2,15 +2,6 @@ use Rattle.refuse_order.specs.Laws.Order.{two-less, two-more, two-same}
 use borrow.Author.Needs.{needs}
 use Rattle.refuse_order.proofs.compare_records.Statement.{statement}
 use Rattle.refuse_order.proofs.compare_records.Tie as tie
-use Rattle.refuse_order.proofs.compare_records.Reads as reads
-use Rattle.refuse_order.proofs.compare_records.Lts as lts
-use Rattle.lent_effect_read.proofs.effect_in.Reads as effect-in-reads
-use Rattle.lent_key_of.proofs.key_of.Reads as key-of-reads
-use Rattle.lent_key_order.proofs.compare_heads.Reads as compare-heads-reads
-use Rattle.lent_key_order.proofs.compare_runs.Reads as compare-runs-reads
-use Rattle.lent_keys.proofs.taken.Reads as taken-reads
-use Rattle.lent_slices.proofs.wide32.Reads as wide32-reads
-use Rattle.lent_tables.proofs.field.Reads as field-reads
 
 wide32-requires : tie.Need-wide32-requires
 wide32-requires c κs = search needs
@@ -58,13 +49,44 @@ enum-told-3 : tie.Need-enum-told-3
 enum-told-3 c = search needs
 
 returns : tie.Need-returns
-returns c = two-less (c .before .before .before .before .before .before .before .before .before .before .args .context .now) _ _ _ _ (c .before .before .before .before .before .before .before .before .wide32 .ensures) (c .before .before .before .before .before .before .before .wide322 .ensures) _ _ _ _ (c .before .before .before .before .before .before .effect-in .ensures) (c .before .before .before .before .effect-in2 .ensures) (c .before .before .before .before .before .key-of .ensures) (c .before .before .before .key-of2 .ensures) _ (c .before .before .compare-heads .ensures) (c .enum-told .given .1)
+returns c =
+    let at-compare-heads = c .before .before in
+    let at-key-of2 = at-compare-heads .before in
+    let at-effect-in2 = at-key-of2 .before in
+    let at-key-of = at-effect-in2 .before in
+    let at-effect-in = at-key-of .before in
+    let at-wide322 = at-effect-in .before in
+    let at-wide32 = at-wide322 .before in
+    let at-args = at-wide32 .before .before in
+    two-less (at-args .args .context .now) _ _ _ _ (at-wide32 .wide32 .ensures) (at-wide322 .wide322 .ensures) _ _ _ _ (at-effect-in .effect-in .ensures) (at-effect-in2 .effect-in2 .ensures) (at-key-of .key-of .ensures) (at-key-of2 .key-of2 .ensures) _ (at-compare-heads .compare-heads .ensures) (c .enum-told .given .1)
 
 returns-2 : tie.Need-returns-2
-returns-2 c = two-same (c .before .before .before .before .before .before .before .before .before .before .before .before .before .before .before .args .context .now) _ _ _ _ (c .before .before .before .before .before .before .before .before .before .before .before .before .before .wide32 .ensures) (c .before .before .before .before .before .before .before .before .before .before .before .before .wide322 .ensures) _ _ _ _ (c .before .before .before .before .before .before .before .before .before .before .before .effect-in .ensures) (c .before .before .before .before .before .before .before .before .before .effect-in2 .ensures) (c .before .before .before .before .before .before .before .before .before .before .key-of .ensures) (c .before .before .before .before .before .before .before .before .key-of2 .ensures) _ (c .before .before .before .before .before .before .before .compare-heads .ensures) _ _ _ _ _ (c .before .before .before .before .before .enum-told2 .given .1) (c .before .before .before .before .field .ensures) (c .before .before .before .taken .ensures) (c .before .before .field2 .ensures) (c .before .taken2 .ensures) (c .compare-runs .ensures)
+returns-2 c =
+    let at-field2 = c .before .before in
+    let at-taken = at-field2 .before in
+    let at-field = at-taken .before in
+    let at-enum-told2 = at-field .before in
+    let at-compare-heads = at-enum-told2 .before .before in
+    let at-key-of2 = at-compare-heads .before in
+    let at-effect-in2 = at-key-of2 .before in
+    let at-key-of = at-effect-in2 .before in
+    let at-effect-in = at-key-of .before in
+    let at-wide322 = at-effect-in .before in
+    let at-wide32 = at-wide322 .before in
+    let at-args = at-wide32 .before .before in
+    two-same (at-args .args .context .now) _ _ _ _ (at-wide32 .wide32 .ensures) (at-wide322 .wide322 .ensures) _ _ _ _ (at-effect-in .effect-in .ensures) (at-effect-in2 .effect-in2 .ensures) (at-key-of .key-of .ensures) (at-key-of2 .key-of2 .ensures) _ (at-compare-heads .compare-heads .ensures) _ _ _ _ _ (at-enum-told2 .enum-told2 .given .1) (at-field .field .ensures) (at-taken .taken .ensures) (at-field2 .field2 .ensures) (c .before .taken2 .ensures) (c .compare-runs .ensures)
 
 returns-3 : tie.Need-returns-3
-returns-3 c = two-more (c .before .before .before .before .before .before .before .before .before .before .args .context .now) _ _ _ _ (c .before .before .before .before .before .before .before .before .wide32 .ensures) (c .before .before .before .before .before .before .before .wide322 .ensures) _ _ _ _ (c .before .before .before .before .before .before .effect-in .ensures) (c .before .before .before .before .effect-in2 .ensures) (c .before .before .before .before .before .key-of .ensures) (c .before .before .before .key-of2 .ensures) _ (c .before .before .compare-heads .ensures) (c .enum-told3 .given .1)
+returns-3 c =
+    let at-compare-heads = c .before .before in
+    let at-key-of2 = at-compare-heads .before in
+    let at-effect-in2 = at-key-of2 .before in
+    let at-key-of = at-effect-in2 .before in
+    let at-effect-in = at-key-of .before in
+    let at-wide322 = at-effect-in .before in
+    let at-wide32 = at-wide322 .before in
+    let at-args = at-wide32 .before .before in
+    two-more (at-args .args .context .now) _ _ _ _ (at-wide32 .wide32 .ensures) (at-wide322 .wide322 .ensures) _ _ _ _ (at-effect-in .effect-in .ensures) (at-effect-in2 .effect-in2 .ensures) (at-key-of .key-of .ensures) (at-key-of2 .key-of2 .ensures) _ (at-compare-heads .compare-heads .ensures) (c .enum-told3 .given .1)
 
 pub compare-records-spec : {M : Type 1} → statement M
 compare-records-spec =

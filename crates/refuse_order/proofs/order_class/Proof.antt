@@ -2,13 +2,6 @@ use Rattle.refuse_order.specs.Laws.Order.{order-is}
 use borrow.Author.Needs.{needs}
 use Rattle.refuse_order.proofs.order_class.Statement.{statement}
 use Rattle.refuse_order.proofs.order_class.Tie as tie
-use Rattle.refuse_order.proofs.order_class.Reads as reads
-use Rattle.refuse_order.proofs.order_class.Lts as lts
-use Rattle.lent_links.proofs.interned_count.Reads as interned-count-reads
-use Rattle.lent_slices.proofs.wide32.Reads as wide32-reads
-use Rattle.refuse_class.proofs.lower.Reads as lower-reads
-use Rattle.refuse_order.proofs.places_class.Reads as places-class-reads
-use Rattle.refuse_words.proofs.stray_after.Reads as stray-after-reads
 
 interned-count-requires : tie.Need-interned-count-requires
 interned-count-requires c κs = search needs

@@ -1,16 +1,8 @@
-use native.Mathlib.Omega.{arith}
 use Prim.Native.Nat.{_+_}
 use Rattle.refuse_order.specs.Laws.Order.{place-is, limit-next}
 use borrow.Author.Needs.{needs}
 use Rattle.refuse_order.proofs.place_class.Statement.{statement}
 use Rattle.refuse_order.proofs.place_class.Tie as tie
-use Rattle.refuse_order.proofs.place_class.Reads as reads
-use Rattle.refuse_order.proofs.place_class.Lts as lts
-use Rattle.lent_order.proofs.order_at.Reads as order-at-reads
-use Rattle.refuse_class.proofs.lower.Reads as lower-reads
-use Rattle.refuse_order.proofs.descends.Reads as descends-reads
-use Rattle.refuse_words.proofs.earns.Reads as earns-reads
-use Rattle.refuse_words.proofs.word_class.Reads as word-class-reads
 
 add-word-class : tie.Need-add-word-class
 add-word-class c = search needs

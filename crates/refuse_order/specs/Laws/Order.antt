@@ -1,11 +1,10 @@
 -- Laws by which the code of the order's class meets the definition: a law for each way through a function. Assumes nothing.
-use Prim.Native.Nat.{ℕ, suc, _+_, _-_, _≤_, _<_}
+use Prim.Native.Nat.{ℕ, suc, _+_, _≤_, _<_}
 use native.Mathlib.Omega.{arith}
-use mathlib.Core.Path.{_≡_, refl, sym, ap, ap₂, _∙_}
-use mathlib.Core.Bool.{Bool, true, false, not, _&&_}
-use mathlib.Core.List.{List, []}
+use mathlib.Core.Path.{_≡_, sym, ap, ap₂, _∙_}
+use mathlib.Core.Bool.{Bool, false, not, _&&_}
+use mathlib.Core.List.{List}
 use mathlib.Core.Option.{some}
-use lib.Dec.{ltb}
 use borrow.Author.Tests.{lt-ltb, le-ltb}
 use Rattle.base_tests.specs.Tests.{ite}
 use Rattle.base_search.specs.declared.Order.{Order}
@@ -17,7 +16,7 @@ use Rattle.def_effects.specs.Keys.{EffectKey, effectKey}
 use Rattle.def_key_order.specs.KeyOrder.{compareKeys}
 use Rattle.lent_tables.specs.Words.{field}
 use Rattle.lent_effects.specs.declared.AliasingEffect.{AliasingEffect as Head}
-use Rattle.lent_effects.specs.Records.{countedPlaces, effectWith, headIn, effectIn}
+use Rattle.lent_effects.specs.Records.{countedPlaces, effectWith, headIn}
 use Rattle.lent_keys.specs.declared.Key.{Key}
 use Rattle.lent_keys.specs.KeyRecords.{keyWith, numbersIn}
 use Rattle.lent_keys.specs.Laws.KeyRecord.{record-numbers, effect-key}

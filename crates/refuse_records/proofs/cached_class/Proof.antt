@@ -2,12 +2,6 @@ use Rattle.refuse_records.specs.Laws.Accepting.{cached-zero, cached-none
 use borrow.Author.Needs.{needs}
 use Rattle.refuse_records.proofs.cached_class.Statement.{statement}
 use Rattle.refuse_records.proofs.cached_class.Tie as tie
-use Rattle.refuse_records.proofs.cached_class.Reads as reads
-use Rattle.refuse_records.proofs.cached_class.Lts as lts
-use Rattle.lent_tables.proofs.field.Reads as field-reads
-use Rattle.refuse_keys.proofs.key_class.Reads as key-class-reads
-use Rattle.refuse_keys.proofs.no_key_class.Reads as no-key-class-reads
-use Rattle.refuse_records.proofs.too_many_captures.Reads as too-many-captures-reads
 
 no-key-class-requires : tie.Need-no-key-class-requires
 no-key-class-requires c κs = search needs

@@ -2,12 +2,6 @@ use Rattle.refuse_repeats.specs.Laws.Diagnostic.{diagnostic-new, diagnos
 use borrow.Author.Needs.{needs}
 use Rattle.refuse_repeats.proofs.diagnostic_twice.Statement.{statement}
 use Rattle.refuse_repeats.proofs.diagnostic_twice.Tie as tie
-use Rattle.refuse_repeats.proofs.diagnostic_twice.Reads as reads
-use Rattle.refuse_repeats.proofs.diagnostic_twice.Lts as lts
-use Rattle.lent_diagnostics.proofs.diagnostic_in.Reads as diagnostic-in-reads
-use Rattle.refuse_repeats.proofs.identities_before.Reads as identities-before-reads
-use Rattle.refuse_repeats.proofs.identity_before.Reads as identity-before-reads
-use Rattle.refuse_repeats.proofs.instance_before.Reads as instance-before-reads
 
 diagnostic-in-requires : tie.Need-diagnostic-in-requires
 diagnostic-in-requires c κs = search needs
@@ -37,7 +31,11 @@ returns-2 : tie.Need-returns-2
 returns-2 c = diagnostic-new _ _ _ (c .before .before .before .before .before .diagnostic-in .ensures) _ _ (c .before .before .before .identity-before .ensures) (c .before .enum-told .given .1) (c .identities-before .ensures)
 
 returns-3 : tie.Need-returns-3
-returns-3 c = diagnostic-same _ _ _ (c .before .before .before .before .before .before .before .diagnostic-in .ensures) _ _ (c .before .before .before .before .before .identity-before .ensures) (c .before .before .before .found .given .1) _ (c .before .if1 .left) (c .instance-before .ensures)
+returns-3 c =
+    let at-found = c .before .before .before in
+    let at-identity-before = at-found .before .before in
+    let at-diagnostic-in = at-identity-before .before .before in
+    diagnostic-same _ _ _ (at-diagnostic-in .diagnostic-in .ensures) _ _ (at-identity-before .identity-before .ensures) (at-found .found .given .1) _ (c .before .if1 .left) (c .instance-before .ensures)
 
 pub diagnostic-twice-spec : {M : Type 1} → statement M
 diagnostic-twice-spec =

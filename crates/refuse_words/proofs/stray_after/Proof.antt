@@ -37,7 +37,9 @@ wide32-requires-5 : tie.Need-wide32-requires-5
 wide32-requires-5 c κs = search needs
 
 mul-left : tie.Need-mul-left
-mul-left c = omega (arith, left-fits (c .before .before .before .before .before .before .before .args .n) (c .before .wide324 .result) (c .wide325 .result) (omega arith) (omega arith))
+mul-left c =
+    let at-args = c .before .before .before .before .before .before .before in
+    omega (arith, left-fits (at-args .args .n) (c .before .wide324 .result) (c .wide325 .result) (omega arith) (omega arith))
 
 stray-from-requires : tie.Need-stray-from-requires
 stray-from-requires c κs = search needs
