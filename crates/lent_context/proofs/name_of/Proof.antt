@@ -1,4 +1,3 @@
-use Prim.Native.Nat.{_-_}
 use Rattle.lent_context.specs.Laws.Code.{name-is}
 use borrow.Author.Needs.{needs}
 use Rattle.lent_context.proofs.name_of.Statement.{statement}

@@ -1,4 +1,3 @@
-use Prim.Native.Nat.{_-_}
 use Rattle.lent_sets.specs.Rows.{left}
 use Rattle.state_ops.specs.Laws.List.{assign-defined, assign-undefined}
 use borrow.Author.Needs.{needs}
