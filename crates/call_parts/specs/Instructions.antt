@@ -4,6 +4,7 @@ use mathlib.Core.List.{List}
 use lib.ListN.{set}
 use Rattle.def_effects.specs.declared.Place.{Place}
 use Rattle.def_transfer.specs.Instruction.{Instruction, ownOf}
+use Rattle.lent_tables.specs.declared.Table.{Table}
 use Rattle.lent_tables.specs.Words.{field}
 use Rattle.lent_effects.specs.Records.{countedPlaces}
 use Rattle.lent_layout.specs.Layout as Layout

@@ -1,3 +1,4 @@
+use Prim.Native.Nat.{_-_}
 use Rattle.base_tests.specs.Laws.Bool.{not-true, not-false}
 use Rattle.effect_freeze.specs.Laws.Freeze.{freezing-not, freezing-plain, freezing-walks}
 use borrow.Author.Needs.{needs}

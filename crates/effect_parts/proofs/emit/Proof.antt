@@ -1,3 +1,4 @@
+use Prim.Native.Nat.{_-_}
 use Rattle.effect_parts.specs.Laws.Part.{emit-full, emit-one}
 use borrow.Author.Needs.{needs}
 use Rattle.effect_parts.proofs.emit.Statement.{statement}

@@ -1,3 +1,4 @@
+use Prim.Native.Nat.{_-_}
 use Rattle.base_tests.specs.Laws.Bool.{not-true, not-false}
 use Rattle.effect_parts.specs.Laws.Part.{written-not, written-is}
 use borrow.Author.Needs.{needs}

@@ -1,3 +1,4 @@
+use Prim.Native.Nat.{_-_}
 use Rattle.effect_walk.specs.Laws.Walk.{frozen-is}
 use borrow.Author.Needs.{needs}
 use Rattle.effect_walk.proofs.freeze_value.Statement.{statement}

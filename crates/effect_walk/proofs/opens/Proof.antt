@@ -1,3 +1,4 @@
+use Prim.Native.Nat.{_-_}
 use Rattle.base_tests.specs.Laws.Bool.{not-true, not-false}
 use Rattle.effect_walk.specs.Laws.Walk.{opens-not, opens-is}
 use borrow.Author.Needs.{needs}

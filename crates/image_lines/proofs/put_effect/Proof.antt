@@ -1,4 +1,5 @@
 use mathlib.Core.Path.{refl}
+use Prim.Native.Nat.{_-_}
 use Rattle.image_text.specs.Laws.Loops.{effect-is, mutate-is}
 use Rattle.lent_effects.specs.Records.{effectWith}
 use borrow.Author.Needs.{needs}

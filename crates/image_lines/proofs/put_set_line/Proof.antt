@@ -1,4 +1,5 @@
 use mathlib.Core.Path.{refl, sym, _∙_}
+use Prim.Native.Nat.{_-_}
 use borrow.Author.Needs.{needs}
 use native.Mathlib.Omega.{arith}
 use Rattle.image_text.specs.Laws.Loops.{set-absent, set-is}

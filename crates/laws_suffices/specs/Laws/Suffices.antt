@@ -31,6 +31,7 @@ use Rattle.def_transfer.specs.Instruction.{applySignature, ownOf}
 use Rattle.lent_world.specs.World.{lent}
 use Rattle.refuse_entries.specs.Words.{identifiers}
 use Rattle.refuse_class.specs.Laws.Class.{lower-0}
+use Rattle.refuse_words.specs.Classes.{lowestBelow, earns}
 use Rattle.refuse_words.specs.Laws.Class.{earns-none, lowest-0}
 use Rattle.refuse_instruction.specs.EffectClasses.{uses, usedParts, countClass, effectClass, instructionClass}
 use Rattle.refuse_tables.specs.TableClasses.{placesClass, functionClass}

@@ -1,3 +1,4 @@
+use Prim.Native.Nat.{_-_}
 use Rattle.lent_context.specs.Laws.Code.{tracked-is}
 use borrow.Author.Needs.{needs}
 use Rattle.lent_context.proofs.has_tracked_side_effect.Statement.{statement}

@@ -1,3 +1,4 @@
+use Prim.Native.Nat.{_-_}
 use Rattle.lent_context.specs.Laws.Code.{ref-is}
 use borrow.Author.Needs.{needs}
 use Rattle.lent_context.proofs.is_ref.Statement.{statement}

@@ -1,3 +1,4 @@
+use Prim.Native.Nat.{_-_}
 use Rattle.lent_context.specs.Laws.Code.{place-is}
 use borrow.Author.Needs.{needs}
 use Rattle.lent_functions.proofs.inside_place.Statement.{statement}

@@ -4,7 +4,7 @@ use mathlib.Core.Path.{_≡_, refl, ap, ap₂, _∙_}
 use mathlib.Core.List.{List, [], _∷_, _++_}
 use mathlib.Core.Option.{Option, none, some}
 use native.Mathlib.Omega.{arith}
-use lib.Dec.{eqb, leb→le}
+use lib.Dec.{eqb, leb, leb→le}
 use lib.ListN.{length, getD}
 use Rattle.base_tests.specs.Tests.{ite}
 use Rattle.def_effects.specs.declared.Place.{Place}

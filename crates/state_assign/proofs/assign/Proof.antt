@@ -1,3 +1,4 @@
+use Prim.Native.Nat.{_-_}
 use Rattle.lent_sets.specs.Rows.{left}
 use Rattle.state_ops.specs.Laws.List.{assign-defined, assign-undefined}
 use borrow.Author.Needs.{needs}

@@ -1,3 +1,4 @@
+use Prim.Native.Nat.{_-_}
 use Rattle.state_ops.specs.Laws.List.{own-past}
 use Rattle.state_ops.specs.Lists.{ownSets}
 use borrow.Author.Needs.{needs}

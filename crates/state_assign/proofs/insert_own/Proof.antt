@@ -1,3 +1,4 @@
+use Prim.Native.Nat.{_-_}
 use Rattle.state_ops.specs.Laws.List.{insert-absent, insert-present}
 use borrow.Author.Needs.{needs}
 use Rattle.state_assign.proofs.insert_own.Statement.{statement}

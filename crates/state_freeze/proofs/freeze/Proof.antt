@@ -1,4 +1,5 @@
 use mathlib.Core.Path.{sym, _∙_}
+use Prim.Native.Nat.{_-_}
 use Rattle.base_tests.specs.Laws.Bool.{not-true, not-false}
 use Rattle.lent_sets.specs.Rows.{left}
 use Rattle.state_ops.specs.Laws.List.{freeze-undefined, freeze-not, freeze-acts}

@@ -1,3 +1,4 @@
+use Prim.Native.Nat.{_-_}
 use Rattle.state_calls.specs.Laws.More.{list-refused, list-ends}
 use Rattle.state_means.specs.Laws.Promises.{valuesFor-promise}
 use borrow.Author.Needs.{needs}
