@@ -1,10 +1,12 @@
 // Orders of keys: how two numbers compare, and where a search by halves ends.
+#![tactic(auto)]
+
 ghost use Rattle.std.specs.Prelude.{◌≡◌};
 ghost use Rattle.base_search.specs.Comparings.{compare_numbers, first};
 
 // How what is sought compares with what stands there.
 // Less: it stands before.
-#[derive(Drop)]
+#[derive(Clone, Copy)]
 pub enum Order {
     Less,
     Same,
@@ -13,7 +15,7 @@ pub enum Order {
 
 // Where a search ends: at a place of the order, or before one.
 // Places count from 0.
-#[derive(Drop)]
+#[derive(Clone, Copy)]
 pub enum Spot {
     At(u32),
     Before(u32),

@@ -1,6 +1,8 @@
 // A benchmark of the call for one instruction. Arguments: what is lent (1 nearly empty tables, 2 full tables, 3 a walk that goes 4,096 entries deep
 // and is refused, 4 middling tables), and the power of ten of repetitions, or 9 for none. It prints refusal and count of the last call;
 // `tools/bench_call.py` times it, and finds out how much stack it needs.
+#![tactic(auto)]
+
 use call_apply::apply_signature;
 use call_outcome::Applied;
 use def_effects::{Place, Session, Span};

@@ -1,5 +1,7 @@
 // A benchmark: repeats one operation of a state on a sparse or on a full table. Arguments: operation, table (0 sparse, 1 full), and the power of ten of repetitions.
 // It prints a number that depends on the answers; `tools/bench_state.py` times it.
+#![tactic(auto)]
+
 use def_effects::{Session, Span};
 use def_kinds::{AbstractValue, ValueKind};
 use libc::STDOUT_FILENO;

@@ -1,5 +1,7 @@
 // The call for one instruction: `apply_signature` of the Rust over lent tables, with demands 1, 2 and 3 in its promise.
 // It tests all that it is lent, saves, runs, and after a refusal puts everything back.
+#![tactic(auto)]
+
 ghost use Rattle.call_means.specs.Promise.{lent_call, left_by, Meets};
 
 use call_attempt::attempt;

@@ -1,5 +1,7 @@
 // The call for one instruction with the session lent by `&mut`, as document 01 has it: a thin function over `call_apply::apply_signature`.
 // All work is below; here the session is read, and written back.
+#![tactic(auto)]
+
 ghost use Rattle.std.specs.Prelude.{◌≡◌};
 ghost use Rattle.call_apply_lent.specs.Answers.{answer_of, applied_with};
 ghost use Rattle.call_means.specs.Promise.{lent_call, left_by, Meets};
@@ -10,7 +12,7 @@ use def_effects::{Place, Session};
 
 // What the call answers beside the session: 0 or the number with which it is refused, how many effects the output list holds,
 // the entries of all Freezes of the instruction, the state's function-expression flag.
-#[derive(Drop)]
+#[derive(Clone, Copy)]
 pub struct Answer {
     pub refusal: u32,
     pub count: u32,

@@ -1,4 +1,6 @@
 // The run of an instruction: what it may change is saved, and after a refusal put back.
+#![tactic(auto)]
+
 ghost use Rattle.std.specs.Prelude.{◌≡◌, length, ◌/◌};
 ghost use Rattle.def_transfer.specs.Instruction as Instruction;
 ghost use Rattle.laws_monad.specs.Answers.{answer};

@@ -1,4 +1,6 @@
 // The candidates of an instruction, one after the other.
+#![tactic(auto)]
+
 ghost use Rattle.def_transfer.specs.Monad.{each};
 ghost use Rattle.def_transfer.specs.Step as Step;
 ghost use Rattle.lent_context.specs.Lent as Lent;

@@ -1,4 +1,6 @@
 // Which class of refusal, 1 to 5, all that the call for an instruction is lent earns.
+#![tactic(auto)]
+
 ghost use Rattle.std.specs.Prelude.{◌≡◌, length, ◌/◌};
 ghost use Rattle.refuse_instruction.specs.EffectClasses.{instruction_class};
 ghost use Rattle.call_outcome.specs.Calls.{wrong_context, lengths_wrong, call_class};

@@ -1,4 +1,6 @@
 // The early errors of the own function: places that it mutates inside and that are defined and Frozen are reported before any candidate.
+#![tactic(auto)]
+
 ghost use Rattle.def_transfer.specs.Monad.{each};
 ghost use Rattle.def_transfer.specs.Instruction as Instruction;
 ghost use Rattle.call_parts.specs.Instructions.{inside_places};

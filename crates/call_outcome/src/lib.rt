@@ -1,9 +1,11 @@
 // What the call for one instruction comes to, and demand 3 of it: definitions and laws in specs/, and the answer, which they speak of.
+#![tactic(auto)]
+
 use def_effects::Session;
 
 // What the call answers: 0 or the number with which it is refused, how many effects the output list holds, the entries of all Freezes of the instruction,
 // the session, and the state's function-expression flag.
-#[derive(Drop)]
+#[derive(Clone, Copy)]
 pub struct Applied {
     pub refusal: u32,
     pub count: u32,

@@ -1,5 +1,7 @@
 // What an instruction's run is made of beside its candidates: the lvalue that it defines, the entries that it keeps, the places that the own function mutates inside.
 // The definition of an instruction from the lent candidates stands in specs/.
+#![tactic(auto)]
+
 ghost use Rattle.std.specs.Prelude.{◌≡◌, List, ℕ};
 ghost use Rattle.def_effects.specs.Places.{identifiers};
 ghost use Rattle.def_transfer.specs.Instruction as Instruction;

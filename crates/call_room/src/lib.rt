@@ -1,4 +1,6 @@
 // How much room a context has to have for an instruction: for the interned effects that it has, and for those that the candidates can intern.
+#![tactic(auto)]
+
 ghost use Rattle.std.specs.Prelude.{◌≡◌, eqb, length, ◌+◌};
 ghost use Rattle.base_tests.specs.Tests.{ite};
 ghost use Rattle.def_effects.specs.Keys.{effect_key};

@@ -1,5 +1,7 @@
 // The parts of an instruction over lent tables: the early errors of its own function, its candidates in order, the lvalue. After apply_signature
 // of the Rust; `run_instruction` puts them together. The call, with isolation in its promise, is `call_apply::apply_signature`.
+#![tactic(auto)]
+
 ghost use Rattle.def_transfer.specs.Instruction as Instruction;
 ghost use Rattle.call_parts.specs.Instructions.{instruction_of};
 ghost use Rattle.lent_world.specs.Promise.{Does};

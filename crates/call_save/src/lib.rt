@@ -1,4 +1,6 @@
 // State and context saved to scratch, before an instruction runs.
+#![tactic(auto)]
+
 ghost use Rattle.std.specs.Prelude.{◌≡◌, ◌≤◌, length};
 ghost use Rattle.call_undo.specs.Saves.{saved_state, saved_context};
 ghost use Rattle.lent_layout.specs.Layout as Layout;

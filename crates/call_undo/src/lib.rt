@@ -1,5 +1,7 @@
 // What the call for an instruction saves before it runs, and how it puts that back after a refusal.
 // The tables of a state are saved whole; of a context, the words that an instruction may change, but for the effects that it appends.
+#![tactic(auto)]
+
 ghost use Rattle.std.specs.Prelude.{◌≡◌};
 ghost use Rattle.lent_copies.specs.Copies.{copied};
 ghost use Rattle.call_undo.specs.Saves.{forgotten, restored_context};

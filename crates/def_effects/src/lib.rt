@@ -1,18 +1,20 @@
 // The plain data of document 01: spans, places, the two numbers of a diagnostic, the session. After mod.rs of the Rust.
+#![tactic(auto)]
+
 ghost use Rattle.std.specs.Prelude.{◌≡◌, true, false};
 ghost use Rattle.def_effects.specs.Mutation.{is_strict, result_of};
 
 use def_kinds::ValueKind;
 
 // Where a place stands in the source; FFFFFFFF (hexadecimal) twice is no span.
-#[derive(Drop)]
+#[derive(Clone, Copy)]
 pub struct Span {
     pub start: u32,
     pub end: u32,
 }
 
 // A place: an identifier with what is done to it there (`Effect` by its number), and where.
-#[derive(Drop)]
+#[derive(Clone, Copy)]
 pub struct Place {
     pub identifier: u32,
     pub effect: u32,
@@ -21,7 +23,7 @@ pub struct Place {
 }
 
 // The two numbers of a diagnostic: its identity is part of an effect's key, its instance is its place in the table.
-#[derive(Drop)]
+#[derive(Clone, Copy)]
 pub struct AliasingDiagnostic {
     pub identity: u32,
     pub instance: u32,
@@ -29,7 +31,7 @@ pub struct AliasingDiagnostic {
 
 // A diagnostic: its identifier, message case, sentence and name numbers, and its label spans by their roles, the access and the place itself.
 // Message case 0 is a value that cannot be modified, case 1 an access before the declaration; FFFFFFFF twice is no label.
-#[derive(Drop)]
+#[derive(Clone, Copy)]
 pub struct Diagnostic {
     pub identifier: u32,
     pub case: u32,
@@ -40,7 +42,7 @@ pub struct Diagnostic {
 }
 
 // The session: next number, first undefined access (0, or 1 + identifier, with the span of that use), walk entries.
-#[derive(Drop)]
+#[derive(Clone, Copy)]
 pub struct Session {
     pub next: u32,
     pub access: u32,
@@ -49,7 +51,7 @@ pub struct Session {
 }
 
 // The four effects that mutate: the Rust's MutateVariant.
-#[derive(Drop)]
+#[derive(Clone, Copy)]
 pub enum MutateVariant {
     Mutate,
     MutateConditionally,
@@ -58,7 +60,7 @@ pub enum MutateVariant {
 }
 
 // What a mutation of a place comes to: the Rust's MutationResult.
-#[derive(Drop)]
+#[derive(Clone, Copy)]
 pub enum MutationResult {
     None,
     Mutate,

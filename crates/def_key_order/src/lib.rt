@@ -1,1 +1,2 @@
 // The order of the keys of effects: definitions and laws, no code.
+#![tactic(auto)]

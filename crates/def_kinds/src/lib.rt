@@ -1,12 +1,14 @@
 // Kinds and reasons of a value (document 01, module 1): the join of two abstract values, and its order.
 // After type_config.rs, and merge_value_kinds, merge_abstract_values and is_superset of the Rust.
+#![tactic(auto)]
+
 ghost use Rattle.std.specs.Prelude.{◌≡◌};
 ghost use Rattle.def_kinds.specs.Kinds.{code_of, kind_at, join_kind, freezable, writable, copied, is_frozen};
 ghost use Rattle.def_kinds.specs.Reasons.{is_reason, are_reasons, has_reason, single};
 ghost use Rattle.def_kinds.specs.Values.{join, contains, above};
 
 // Whether a value may be written: the Rust's ValueKind, in its order.
-#[derive(Drop)]
+#[derive(Clone, Copy)]
 pub enum ValueKind {
     Mutable,
     Frozen,
@@ -174,7 +176,7 @@ pub fn has_reason(s: u32, n: u32) -> bool
 }
 
 // What is known of a value: its kind, and the set of reasons for it.
-#[derive(Drop)]
+#[derive(Clone, Copy)]
 pub struct AbstractValue {
     pub kind: ValueKind,
     pub reason: u32,

@@ -1,5 +1,7 @@
 // What an effect does, by its kind, and what comes after the part of a step that is done.
 // The step itself and the functions that derive effects are in the crate `effect_apply`. After apply_effect of the Rust.
+#![tactic(auto)]
+
 ghost use Rattle.std.specs.Prelude.{◌≡◌};
 ghost use Rattle.effect_acts.specs.Acts.{act_of};
 
@@ -8,7 +10,7 @@ use lent_effects::AliasingEffect;
 use lent_work::Run;
 
 // What an effect does, by its kind: a mutation, a flow between two places, what derives others, or none of these.
-#[derive(Drop)]
+#[derive(Clone, Copy)]
 pub enum Act {
     Plain,
     Mutating {
@@ -37,7 +39,7 @@ pub enum Act {
 
 // What comes after the part of a step that is done: nothing, the effect itself is listed, or another effect is derived.
 // A derived effect goes through the same step.
-#[derive(Drop)]
+#[derive(Clone, Copy)]
 pub enum Next {
     Nothing,
     Itself,
@@ -46,7 +48,7 @@ pub enum Next {
 
 // Where a part of a step has come to: 0 or a refusal, what the instruction has by value, and what comes next.
 // After a refusal nothing comes next.
-#[derive(Drop)]
+#[derive(Clone, Copy)]
 pub struct Acted {
     pub refusal: u32,
     pub run: Run,

@@ -1,5 +1,7 @@
 // The step of an effect, and of those that it derives, at a falling depth: the step and the functions for the effects that derive others
 // call each other. After apply_effect of the Rust.
+#![tactic(auto)]
+
 ghost use Rattle.def_effects.specs.Effects.{Capture};
 ghost use Rattle.def_transfer.specs.Monad.{each};
 ghost use Rattle.def_transfer.specs.Step as Step;

@@ -1,4 +1,6 @@
 // Assign and ImmutableCapture: what is frozen or copied gets a number of its own under a key, anything else the source's set.
+#![tactic(auto)]
+
 ghost use Rattle.std.specs.Prelude.{◌≡◌, List, ℕ};
 ghost use Rattle.def_effects.specs.Effects.{AliasingEffect as Effect};
 ghost use Rattle.def_transfer.specs.Monad.{M, Done};
@@ -20,7 +22,7 @@ use lent_work::{Ran, Run};
 use state_assign::assign;
 
 // The kind and reasons with which an effect begins, or its refusal, and what the instruction has by value.
-#[derive(Drop)]
+#[derive(Clone, Copy)]
 pub struct Begun {
     pub refusal: u32,
     pub run: Run,

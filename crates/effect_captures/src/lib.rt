@@ -1,4 +1,6 @@
 // What stands beside a CreateFunction: its captures in a slice of their own, and the kind of the new function.
+#![tactic(auto)]
+
 ghost use Rattle.std.specs.Prelude.{◌≡◌, length};
 ghost use Rattle.lent_effects.specs.Records.{captures_of};
 ghost use Rattle.effect_intern.specs.Interning.{chosen};

@@ -1,4 +1,6 @@
 // What initializes a place: Create, CreateFrom and Assign, as far as they derive no other effect. After the arms for them of the Rust.
+#![tactic(auto)]
+
 ghost use Rattle.std.specs.Prelude.{◌≡◌, List, ℕ};
 ghost use Rattle.def_kinds.specs.Reasons as Reasons;
 ghost use Rattle.def_effects.specs.declared.Place.{Place as APlace};

@@ -1,4 +1,6 @@
 // The numbers of a diagnostic: its identity and its instance, found or new. After intern_aliasing_diagnostic of the Rust.
+#![tactic(auto)]
+
 ghost use Rattle.std.specs.Prelude.{◌≡◌, List, ℕ};
 ghost use Rattle.def_transfer.specs.Context as Context;
 ghost use Rattle.laws_monad.specs.Answers.{answer};
@@ -16,14 +18,14 @@ use lent_slices::set32;
 
 // A number, or the refusal 10.
 // "A 257th diagnostic or instance."
-#[derive(Drop)]
+#[derive(Clone, Copy)]
 pub struct Given {
     pub refusal: u32,
     pub number: u32,
 }
 
 // Both numbers of a diagnostic, or the refusal 10.
-#[derive(Drop)]
+#[derive(Clone, Copy)]
 pub struct Reported {
     pub refusal: u32,
     pub diagnostic: AliasingDiagnostic,

@@ -1,4 +1,6 @@
 // Capture, Alias and MaybeAlias: what comes next, by the kinds of destination and source. After the arms for them of the Rust.
+#![tactic(auto)]
+
 ghost use Rattle.std.specs.Prelude.{◌≡◌, List, ℕ};
 ghost use Rattle.def_effects.specs.declared.Place.{Place as APlace};
 ghost use Rattle.def_effects.specs.Effects.{AliasingEffect as Effect, ImmutableCapture, MaybeAlias};

@@ -1,4 +1,6 @@
 // Freeze: the place is frozen and listed, and the values of it walked where either option is on. After the arm for Freeze of the Rust.
+#![tactic(auto)]
+
 ghost use Rattle.std.specs.Prelude.{◌≡◌, List, ℕ};
 ghost use Rattle.def_effects.specs.Effects.{AliasingEffect as Effect};
 ghost use Rattle.def_transfer.specs.Monad.{M, Done};

@@ -1,5 +1,7 @@
 // CreateFunction, as far as it derives no other effect: listed, its context places updated, its number linked to the function; and the captures
 // that are gone through afterwards. After the arm for CreateFunction of the Rust.
+#![tactic(auto)]
+
 ghost use Rattle.std.specs.Prelude.{◌≡◌, List, ℕ};
 ghost use Rattle.def_effects.specs.Effects.{AliasingEffect as Effect, Capture};
 ghost use Rattle.def_transfer.specs.Monad.{M, Done, each};

@@ -1,4 +1,6 @@
 // What CreateFunction asks of its function's context places and does to them. After the arm for CreateFunction of the Rust.
+#![tactic(auto)]
+
 ghost use Rattle.std.specs.Prelude.{◌≡◌, List, ℕ};
 ghost use Rattle.def_transfer.specs.Monad.{ok, each};
 ghost use Rattle.def_transfer.specs.Step as Step;

@@ -1,5 +1,7 @@
 // What the steps ask of a context and change in it: the first effect under a key, the number under a key. After intern_effect and
 // get_or_create_value_id of the Rust. Each says by one equation what the definition does in the world of lent lists.
+#![tactic(auto)]
+
 ghost use Rattle.std.specs.Prelude.{◌≡◌, List, ℕ};
 ghost use Rattle.def_effects.specs.declared.Place.{Place as APlace};
 ghost use Rattle.def_transfer.specs.Context as Context;
@@ -25,7 +27,7 @@ use lent_slices::{set32, wide32};
 
 // The effect that stands for another from now on: 0 or 8, its place in the table if it was there before, and the effect.
 // Its captures are those of the table's record where it was found, else those that were given.
-#[derive(Drop)]
+#[derive(Clone, Copy)]
 pub struct Interned {
     pub refusal: u32,
     pub found: Found,

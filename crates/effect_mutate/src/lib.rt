@@ -1,4 +1,6 @@
 // Mutations: what comes next, by the result of the mutation, with the diagnostic of one that is an error. After the arms for them of the Rust.
+#![tactic(auto)]
+
 ghost use Rattle.std.specs.Prelude.{◌≡◌, List, ℕ};
 ghost use Rattle.def_effects.specs.declared.Place.{Place as APlace};
 ghost use Rattle.def_effects.specs.Effects.{AliasingEffect as Effect};

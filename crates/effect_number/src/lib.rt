@@ -1,4 +1,6 @@
 // The number of a key: the one that is cached, or a fresh one.
+#![tactic(auto)]
+
 ghost use Rattle.std.specs.Prelude.{◌≡◌, List, ℕ};
 ghost use Rattle.def_effects.specs.Places.{identifiers};
 ghost use Rattle.def_transfer.specs.Context as Context;
@@ -16,7 +18,7 @@ use lent_work::Run;
 
 // The number under a key: 0 or 9, the number, and what the instruction has by value then.
 // A fresh one moves the session's next number.
-#[derive(Drop)]
+#[derive(Clone, Copy)]
 pub struct NumberFor {
     pub refusal: u32,
     pub number: u32,

@@ -1,5 +1,7 @@
 // The parts of a step that do not change the context: an effect is listed, a place begins, the kind of a place with its first undefined access,
 // a place gets a value. Each says by one equation what the definition does in the world of lent lists. After apply_effect of the Rust.
+#![tactic(auto)]
+
 ghost use Rattle.std.specs.Prelude.{◌≡◌, List, ℕ};
 ghost use Rattle.def_transfer.specs.Monad.{ok};
 ghost use Rattle.def_transfer.specs.State as State;
@@ -26,7 +28,7 @@ use state_ops::{after_use, kind_of};
 
 // The kind and reasons of a place, and what the instruction has by value after the look.
 // An undefined place is recorded in the session.
-#[derive(Drop)]
+#[derive(Clone, Copy)]
 pub struct Looked {
     pub value: AbstractValue,
     pub run: Run,

@@ -1,4 +1,6 @@
 // The effects that derive no other: Freeze, Create, ImmutableCapture, and those that are only listed. After apply_effect of the Rust.
+#![tactic(auto)]
+
 ghost use Rattle.std.specs.Prelude.{List, ◌≡◌, ℕ};
 ghost use Rattle.def_effects.specs.Effects.{AliasingEffect as Effect};
 ghost use Rattle.def_transfer.specs.Monad.{M, Done};

@@ -1,4 +1,6 @@
 // What a write that is not allowed is reported as: the sentence of its reason, and the label of a write before the declaration.
+#![tactic(auto)]
+
 ghost use Rattle.std.specs.Prelude.{◌≡◌};
 ghost use Rattle.def_kinds.specs.Reasons as Reasons;
 ghost use Rattle.def_transfer.specs.Step.{modified, hoisted_access};

@@ -1,4 +1,6 @@
 // The freeze walk over lent tables: it calls itself, and the entries still allowed fall. After freeze_function_captures_transitive of the Rust.
+#![tactic(auto)]
+
 ghost use Rattle.std.specs.Prelude.{◌≡◌};
 ghost use Rattle.state_ops.specs.Lists.{freezes};
 ghost use Rattle.effect_walk.specs.Walks.{Enters};
@@ -16,7 +18,7 @@ use state_ops::kind_of;
 
 // Where a walk has come to: 0 or 11, the entries of the Freeze under way, and those of all Freezes of the instruction.
 // It goes by value, so that the walk's frame stays small.
-#[derive(Drop)]
+#[derive(Clone, Copy)]
 pub struct Walked {
     pub refusal: u32,
     pub freeze: u32,

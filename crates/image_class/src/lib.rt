@@ -1,5 +1,7 @@
 // The class of refusal that the words of an image earn: 2 to 5, the lowest first (document 01, 'Refused calls').
 // Every contract is one equation with the definition of crate `def_image`.
+#![tactic(auto)]
+
 ghost use Rattle.std.specs.Prelude.{◌≡◌};
 ghost use Rattle.def_image.specs.Refusals.{earns_five, refusal_of_words};
 

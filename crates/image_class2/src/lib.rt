@@ -1,5 +1,7 @@
 // The sections and cells of an image over its lent words, and whether the words earn refusal 2 (document 01, 'The job image and its program').
 // Every function is total: past the end stands 0. Its contract is one equation with the definition of crate `def_image`.
+#![tactic(auto)]
+
 ghost use Rattle.std.specs.Prelude.{◌%◌, ◌-◌, suc, ◌≡◌, eqb, leb, ltb};
 ghost use Rattle.base_tests.specs.Tests.{any_below};
 ghost use Rattle.def_image.specs.Refusals.{any_record, creates_function, earns_two, is_apply, long_candidate, long_function, misplaced, too_many_records, wrong_edition, wrong_end, wrong_header};

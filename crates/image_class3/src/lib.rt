@@ -1,5 +1,7 @@
 // Whether a word of an image is out of its range, of the header and of every section but the candidates (document 01, 'Refused calls').
 // The header and the sections but the candidates; every contract is one equation with the definition of crate `def_image`.
+#![tactic(auto)]
+
 ghost use Rattle.std.specs.Prelude.{◌%◌, ◌+◌, ◌&&◌, ◌||◌, not, ◌≡◌, eqb};
 ghost use Rattle.def_image.specs.Refusals.{any_record, bad_function, bad_header, bad_identifier, bad_pair, bad_place, bad_value, is_number, needs_known};
 ghost use Rattle.def_image.specs.Layout.{cell};

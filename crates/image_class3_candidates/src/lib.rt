@@ -1,5 +1,7 @@
 // Whether a candidate of an image has a word out of its range, and whether the words of an image earn refusal 3 (document 01, 'Refused calls').
 // The words that a code uses stand as bits; every contract is one equation with the definition of crate `def_image`.
+#![tactic(auto)]
+
 ghost use Rattle.std.specs.Prelude.{[], ◌&&◌, not, ◌≡◌, eqb, get_or};
 ghost use Rattle.base_tests.specs.Tests.{any_below};
 ghost use Rattle.def_image.specs.Refusals.{any_record, bad_candidate, bad_word, creates_function, details_of, earns_three, limit_of, passes_end, used_words, uses};

@@ -1,4 +1,6 @@
 // Refusal 3 of single words of a job image: flags, identifiers, value numbers, runs of places.
+#![tactic(auto)]
+
 ghost use Rattle.std.specs.Prelude.{◌+◌, ◌&&◌, ◌≡◌, leb, ltb};
 ghost use Rattle.def_image.specs.Refusals.{are_flags, is_in, is_number, passes_end};
 ghost use Rattle.def_image.specs.Layout.{count_of, word};

@@ -1,5 +1,7 @@
 // Whether the words of an image earn refusal 4: orders, unused words, and numbers not handed out yet (document 01, 'Refused calls').
 // Leaves first, then a loop for each test; every contract is one equation with the definition of crate `def_image`.
+#![tactic(auto)]
+
 ghost use Rattle.std.specs.Prelude.{◌&&◌, ◌||◌, ◌≡◌, eqb};
 ghost use Rattle.base_tests.specs.Tests.{any_below};
 ghost use Rattle.def_image.specs.Refusals.{any_neighbours, any_record, earns_four, empty_not_alone, not_yet_fresh, pairs_unordered, stray_access, stray_first, stray_in_candidate, stray_in_function, stray_word, uses, values_unordered};

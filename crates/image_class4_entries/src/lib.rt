@@ -1,4 +1,6 @@
 // Refusal 4 of single values and pairs of a job image: numbers that are not handed out yet, and order.
+#![tactic(auto)]
+
 ghost use Rattle.std.specs.Prelude.{◌&&◌, ◌≡◌, eqb, leb, ltb, suc};
 ghost use Rattle.def_image.specs.Refusals.{not_yet_fresh, pairs_unordered, values_unordered};
 ghost use Rattle.def_image.specs.Layout.{cell};

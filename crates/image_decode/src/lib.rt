@@ -1,5 +1,7 @@
 // The lent tables of an accepted image: values, sets, context and candidates, written from the image's words (document 01, 'The job image and its program').
 // Every function is total: past the end of the image stands 0, and what a table has no room for is not written.
+#![tactic(auto)]
+
 ghost use Rattle.std.specs.Prelude.{◌≡◌, ◌+◌};
 ghost use Rattle.def_kinds.specs.Kinds.{kind_at};
 ghost use Rattle.lent_tables.specs.Words.{put_places};

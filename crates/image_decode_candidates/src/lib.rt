@@ -1,4 +1,6 @@
 // The candidates of a job image as records of the lent list.
+#![tactic(auto)]
+
 ghost use Rattle.std.specs.Prelude.{◌≡◌, ◌+◌};
 ghost use Rattle.def_effects.specs.Effects.{CreateFunction};
 ghost use Rattle.lent_effects.specs.Records.{put_effect};

@@ -1,5 +1,7 @@
 // From the bytes of a job image to what is shown of it: all that the program `infer` does between reading and listing (document 01, 'The job image and its program').
 // A host that wants more than a listing calls `image_read::read_image` and `call_apply::apply_signature` itself.
+#![tactic(auto)]
+
 ghost use Rattle.std.specs.Prelude.{◌≡◌};
 ghost use Rattle.lent_copies.specs.Cleared.{Cleared};
 ghost use Rattle.image_outcome.specs.Inferring.{settled, pieces_of};

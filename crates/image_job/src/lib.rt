@@ -1,4 +1,6 @@
 // The job of an image by value: its header, and what its tables hold.
+#![tactic(auto)]
+
 ghost use Rattle.std.specs.Prelude.{◌≡◌};
 ghost use Rattle.image_job.specs.Reading.{job_of, no_job};
 
@@ -9,7 +11,7 @@ use lent_slices::get32;
 
 // What an image says beside its tables, or the number with which it is refused: the session to start with, lvalue and own function (+ 1, or 0),
 // how many identifiers are in its list, and how many candidates it has.
-#[derive(Drop)]
+#[derive(Clone, Copy)]
 pub struct Job {
     pub refusal: u32,
     pub session: Session,

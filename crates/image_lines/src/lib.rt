@@ -1,5 +1,7 @@
 // The lines of a listing as bytes in a lent buffer (document 01, 'The job image and its program').
 // What does not fit is left out; the buffer of a piece suffices for every line.
+#![tactic(auto)]
+
 ghost use Rattle.std.specs.Prelude.{◌≡◌, [], ◌∷◌};
 ghost use Rattle.std.proofs.Math.Option.{none, some};
 ghost use Rattle.def_kinds.specs.Kinds as Kinds;

@@ -1,5 +1,7 @@
 // The listing of a job, piece by piece, as bytes in a small lent buffer (document 01, 'The job image and its program').
 // A host calls `put_piece` with each number below `piece_count`, and writes out what stands in the buffer after each call.
+#![tactic(auto)]
+
 ghost use Rattle.std.specs.Prelude.{◌≡◌, ◌+◌, ◌-◌, ◌≤◌};
 ghost use Rattle.lent_values.specs.Cells.{value_at};
 ghost use Rattle.def_image.specs.Listing.{lines_from, value_line};

@@ -1,5 +1,7 @@
 // Reading a job image: the lent tables of the bytes of an image, or the class of refusal that they earn (document 01, 'The job image and its program').
 // The tables are those that the call for an instruction is lent; what the image says beside them comes back by value.
+#![tactic(auto)]
+
 ghost use Rattle.std.specs.Prelude.{◌≡◌, length};
 ghost use Rattle.def_image.specs.Layout as Image;
 ghost use Rattle.def_image.specs.Layout.{count_of};

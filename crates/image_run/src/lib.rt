@@ -1,5 +1,7 @@
 // The job of the tables that an image filled: the call for its instruction, and what is shown of what came of it.
 // What was lent is cleared here too.
+#![tactic(auto)]
+
 ghost use Rattle.std.specs.Prelude.{◌≡◌, ◌-◌, ◌≤◌, ◌++◌, length, take};
 ghost use Rattle.call_outcome.specs.Calls.{outcome};
 ghost use Rattle.image_job.specs.Reading.{tables};

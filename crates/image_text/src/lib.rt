@@ -1,5 +1,7 @@
 // The pieces of a listing's lines: bytes, numbers, columns and line ends in a lent buffer (document 01, 'The job image and its program').
 // Every function writes from a place of the buffer on and answers the place after; what does not fit is left out.
+#![tactic(auto)]
+
 ghost use Rattle.std.specs.Prelude.{◌≡◌, ◌+◌, ◌%◌, [], ◌∷◌};
 ghost use Rattle.std.proofs.Math.Option.{none, some};
 ghost use Rattle.lent_keys.specs.KeyRecords.{option_of};

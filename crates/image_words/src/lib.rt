@@ -1,5 +1,7 @@
 // The words of a job image, read from its lent bytes (document 01, 'The job image and its program').
 // Every function is total, and its contract is one equation with the definition of crate `def_image`.
+#![tactic(auto)]
+
 ghost use Rattle.std.specs.Prelude.{◌≡◌, ◌+◌, ◌*◌, get_or, length};
 ghost use Rattle.def_image.specs.Layout.{wrong_length, words_of, word};
 ghost use Rattle.image_words.specs.Loaded.{loaded};

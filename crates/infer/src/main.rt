@@ -1,6 +1,8 @@
 // The program `infer`: a job image on standard input, its listing on standard output (document 01, 'The job image and its program').
 // All work is in `image_infer::infer_image` and `image_listing::put_piece`. No contract says what is read or written: that it is standard input until its end,
 // and the pieces of the listing in their order and nothing else, is these lines.
+#![tactic(auto)]
+
 use image_pieces::Shown;
 
 // A piece is written, and nothing else; of an empty one nothing.

@@ -1,1 +1,2 @@
 // Laws of computations, for the proofs of code. There is no code here.
+#![tactic(auto)]

@@ -1,5 +1,7 @@
 // The tables of a context over its one lent slice of words: interned effects, cached numbers, function links, functions, identifiers, options.
 // Each function is total: any numbers are read and written, and the contract says by one equation what the definition makes of them.
+#![tactic(auto)]
+
 ghost use Rattle.std.specs.Prelude.{◌≡◌, ◌+◌, ◌*◌};
 ghost use Rattle.lent_tables.specs.Words as Words;
 ghost use Rattle.lent_layout.specs.Layout as Layout;

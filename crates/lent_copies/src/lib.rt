@@ -1,5 +1,7 @@
 // Clearing lent words, and copying runs of them: what the call for an instruction does with its output list and its scratch.
 // After a refusal the tables are as before; scratch is zero after each call.
+#![tactic(auto)]
+
 ghost use Rattle.std.specs.Prelude.{◌≡◌};
 ghost use Rattle.lent_copies.specs.Copies.{copied};
 ghost use Rattle.lent_copies.specs.Cleared.{Cleared};

@@ -1,4 +1,6 @@
 // The diagnostics of a context over its lent words: find an equal record or append one. After intern_aliasing_diagnostic of the Rust.
+#![tactic(auto)]
+
 ghost use Rattle.std.specs.Prelude.{◌&&◌, ◌≡◌, eqb, max};
 ghost use Rattle.def_effects.specs.Places.{eq_span};
 ghost use Rattle.def_transfer.specs.Diagnostics.{same_identity, same_labels};
@@ -13,7 +15,7 @@ use lent_slices::{get32, wide32};
 use lent_tables::{field, put_field};
 
 // A record of the table: a diagnostic with its identity.
-#[derive(Drop)]
+#[derive(Clone, Copy)]
 pub struct Numbered {
     pub identity: u32,
     pub diagnostic: Diagnostic,

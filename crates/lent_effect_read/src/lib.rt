@@ -1,4 +1,6 @@
 // An effect read from its record.
+#![tactic(auto)]
+
 ghost use Rattle.std.specs.Prelude.{◌≡◌};
 ghost use Rattle.def_kinds.specs.Kinds.{kind_at};
 ghost use Rattle.def_effects.specs.Effects.{Create, CreateFunction};

@@ -1,4 +1,6 @@
 // An effect written to its record: every word of the record is set.
+#![tactic(auto)]
+
 ghost use Rattle.std.specs.Prelude.{◌≡◌};
 ghost use Rattle.def_effects.specs.Effects.{Create, CreateFunction};
 ghost use Rattle.lent_effects.specs.Records as Records;

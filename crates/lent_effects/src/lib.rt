@@ -1,5 +1,7 @@
 // Effects as records of lent words. The enum is AliasingEffect of the Rust without Apply; a CreateFunction's captures stand beside it,
 // in a slice of 81 words: a count and sixteen places. The record of 98 words serves candidates, interned effects and the output list.
+#![tactic(auto)]
+
 ghost use Rattle.std.specs.Prelude.{◌≡◌};
 ghost use Rattle.def_kinds.specs.Kinds as Kinds;
 ghost use Rattle.def_effects.specs.Effects.{code_of, Create, CreateFunction};
@@ -15,7 +17,7 @@ use lent_tables::{Table, field, place_in, put_field, put_place};
 
 // An effect, without the captures of a CreateFunction: AliasingEffect of the Rust.
 // Places come in the order from, into; a mutation reason is 0 for none, else 1 + its place in MutationReason.
-#[derive(Drop)]
+#[derive(Clone, Copy)]
 pub enum AliasingEffect {
     Freeze {
         place: Place,

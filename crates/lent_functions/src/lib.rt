@@ -1,4 +1,6 @@
 // The places of a function: those of its context, and those that it mutates inside.
+#![tactic(auto)]
+
 ghost use Rattle.std.specs.Prelude.{◌≡◌, ◌+◌, ◌*◌};
 ghost use Rattle.lent_tables.specs.Words as Words;
 ghost use Rattle.lent_tables.specs.Words.{place_in};

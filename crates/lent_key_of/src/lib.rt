@@ -1,4 +1,6 @@
 // The key of an effect. The words of a key are in `lent_keys`.
+#![tactic(auto)]
+
 ghost use Rattle.std.specs.Prelude.{◌≡◌, List, ℕ};
 ghost use Rattle.def_effects.specs.declared.Place.{Place as APlace};
 ghost use Rattle.def_effects.specs.Keys.{one, two, effect_key};

@@ -1,4 +1,6 @@
 // Which of two keys of effects comes first: their heads, then the identifiers of their captures.
+#![tactic(auto)]
+
 ghost use Rattle.std.specs.Prelude.{◌≡◌, true};
 ghost use Rattle.base_search.specs.Comparings.{compare_numbers, compare_lists};
 ghost use Rattle.def_key_order.specs.KeyOrder.{optional};

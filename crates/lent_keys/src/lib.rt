@@ -1,4 +1,6 @@
 // Keys of effects: `effect_key` of the Rust, as a struct with the identifiers of the captures beside it, and as a record of 28 lent words.
+#![tactic(auto)]
+
 ghost use Rattle.std.specs.Prelude.{◌≡◌, List, [], ℕ, ◌+◌, ◌*◌};
 ghost use Rattle.def_effects.specs.Places.{identifiers};
 ghost use Rattle.base_tests.specs.Tests.{ite};
@@ -13,7 +15,7 @@ use lent_tables::{Table, field, put_field};
 
 // A number that may be absent.
 // The language has no option; find functions answer with it too.
-#[derive(Drop)]
+#[derive(Clone, Copy)]
 pub enum Found {
     Nowhere,
     At(u32),
@@ -21,7 +23,7 @@ pub enum Found {
 
 // The key of an effect (`effect_key` of the Rust), without the identifiers of its captures.
 // What a key does not hold is absent or 0.
-#[derive(Drop)]
+#[derive(Clone, Copy)]
 pub struct Key {
     pub code: u32,
     pub from: Found,

@@ -1,5 +1,7 @@
 // Where everything stands in the lent words: every table of a context and of the slices beside it, how wide its records are, where it begins.
 // The definitions are in specs/Layout.antt, with the sentences of document 01; no other crate has a size or an offset of its own.
+#![tactic(auto)]
+
 use lent_tables::Table;
 
 // ---- a context, one slice

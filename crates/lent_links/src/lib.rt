@@ -1,4 +1,6 @@
 // What the context hands out: how many effects are interned, the key under which a number was handed out, the function that a value stands for.
+#![tactic(auto)]
+
 ghost use Rattle.std.specs.Prelude.{◌≡◌};
 ghost use Rattle.def_effects.specs.Places.{identifiers};
 ghost use Rattle.lent_effects.specs.Records.{captures_of};

@@ -1,4 +1,6 @@
 // The members of a set one after the other, and how many there are.
+#![tactic(auto)]
+
 ghost use Rattle.std.specs.Prelude.{◌≡◌, length, eqb};
 ghost use Rattle.std.specs.Int.Count.{ones};
 ghost use Rattle.lent_sets.specs.Rows.{number, set_at, next_member, row_number};

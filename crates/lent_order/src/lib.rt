@@ -1,5 +1,7 @@
 // An order of records in lent words: a table of one word for each place of the order, the number of the record that comes there.
 // A number is put in where a search ended; those after it move up.
+#![tactic(auto)]
+
 ghost use Rattle.std.specs.Prelude.{◌≡◌};
 ghost use Rattle.lent_order.specs.Order.{order_at, inserted};
 

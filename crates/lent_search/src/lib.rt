@@ -1,4 +1,6 @@
 // What the context has under a key: the interned effect, the cached number, each by halves along the order of their keys.
+#![tactic(auto)]
+
 ghost use Rattle.std.specs.Prelude.{◌≡◌, ◌+◌};
 ghost use Rattle.def_effects.specs.Keys.{effect_key};
 ghost use Rattle.def_effects.specs.Places.{identifiers};

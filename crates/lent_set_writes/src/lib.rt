@@ -1,5 +1,7 @@
 // Points-to sets that are written: a union in hand, `define`, the copy of `assign`, `append_alias`.
 // The words of a row are read and written in `lent_sets`.
+#![tactic(auto)]
+
 ghost use Rattle.std.specs.Prelude.{◌≡◌, ◌^◌};
 ghost use Rattle.lent_sets.specs.Rows.{number, set_at, put_set, copy_set, append_set, add_set, even_row};
 ghost use Rattle.base_sets.specs.Members.{bits_of};

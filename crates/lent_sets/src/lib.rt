@@ -1,5 +1,7 @@
 // Rows of 1,024 bits, each 16 words of a lent slice: the set of values of each identifier.
 // Bit 0 of a row says that the identifier is defined, bit v that value v is in its set; all is total, and one equation each.
+#![tactic(auto)]
+
 ghost use Rattle.std.specs.Prelude.{◌≡◌, ◌^◌, get_or, set};
 ghost use Rattle.std.specs.Int.Bits.{bit_or};
 ghost use Rattle.lent_sets.specs.Rows.{row_word, set_word, number, word_of, set_at, member_word, add_set};

@@ -1,5 +1,7 @@
 // Total accessors of lent slices: a read past the end answers 0, a write past the end does nothing.
 // Functions over lent tables then need no `requires` for their indices.
+#![tactic(auto)]
+
 ghost use Rattle.std.specs.Prelude.{◌≡◌, get_or, set};
 
 // A u32 as an index.

@@ -1,5 +1,7 @@
 // Tables of records in lent words: word w of record i, read and written within the table's own words only.
 // Several tables stand in one lent slice, so each access tests that the table has such a word.
+#![tactic(auto)]
+
 ghost use Rattle.std.specs.Prelude.{◌≡◌, ◌+◌, ◌*◌};
 ghost use Rattle.lent_tables.specs.Words.{field, put_field, place_in, put_place};
 
@@ -8,7 +10,7 @@ use lent_slices::{get32, set32, wide32};
 
 // A table in a lent slice: where it begins, how many records it has, and how many words each.
 // The tables of a context and the records of effects are given by these three numbers.
-#[derive(Drop)]
+#[derive(Clone, Copy)]
 pub struct Table {
     pub base: u32,
     pub count: u32,

@@ -1,4 +1,6 @@
 // The values of a state: a lent word for each value number, 0 for no entry, else 1 + kind in the three low bits and the reasons above.
+#![tactic(auto)]
+
 ghost use Rattle.std.specs.Prelude.{◌≡◌, ◌/◌, ◌%◌};
 ghost use Rattle.base_orders.specs.Options.{join_option};
 ghost use Rattle.def_kinds.specs.Values.{join, or_default};
@@ -8,7 +10,7 @@ use def_kinds::{AbstractValue, ValueKind};
 use lent_slices::{get64, set64};
 
 // What a value number has: nothing, or its kind and reasons.
-#[derive(Drop)]
+#[derive(Clone, Copy)]
 pub enum Entry {
     Absent,
     Present(AbstractValue),

@@ -1,4 +1,6 @@
 // What an instruction under way has by value: session, places initialized, counts.
+#![tactic(auto)]
+
 ghost use Rattle.std.specs.Prelude.{◌≡◌};
 ghost use Rattle.lent_work.specs.Marks.{is_marked, marked};
 
@@ -7,14 +9,14 @@ use lent_slices::wide32;
 
 // A bit for each identifier: whether its place was initialized in this instruction.
 // Document 01's refusals 6 and 7 ask for it.
-#[derive(Drop)]
+#[derive(Clone, Copy)]
 pub struct Marks {
     pub words: [u64; 8],
 }
 
 // What an instruction under way has by value: the session, the state's function-expression flag, the places initialized in it,
 // how many effects are listed, the entries of the Freeze under way, and those of all its Freezes.
-#[derive(Drop)]
+#[derive(Clone, Copy)]
 pub struct Run {
     pub session: Session,
     pub flag: bool,
@@ -26,7 +28,7 @@ pub struct Run {
 
 // Where a part of an instruction has come to: 0 or the number with which it is refused, and what it has by value then.
 // Document 01's numbers are 6 to 11 there.
-#[derive(Drop)]
+#[derive(Clone, Copy)]
 pub struct Ran {
     pub refusal: u32,
     pub run: Run,

@@ -1,4 +1,6 @@
 // The lower class of two refusals: every test of what is lent joins its parts by it.
+#![tactic(auto)]
+
 ghost use Rattle.std.specs.Prelude.{◌≡◌};
 ghost use Rattle.refuse_class.specs.Class.{lower};
 

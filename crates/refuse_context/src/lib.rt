@@ -1,5 +1,7 @@
 // The class of refusal that a lent context earns: its counts, then every record in use of its tables, and the words after them.
 // Every function is total, and its contract is one equation with the definition.
+#![tactic(auto)]
+
 ghost use Rattle.std.specs.Prelude.{◌≡◌};
 ghost use Rattle.refuse_records.specs.Accepting.{handed_out, identifiers_class, functions_class, links_class, keys_class, diagnostics_class, effects_class, counts_wrong, tables_class, context_class};
 

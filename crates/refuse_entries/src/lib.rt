@@ -1,4 +1,6 @@
 // Refusals 3 and 4 of a single word of values, a single row of sets, and the numbers beside them; the definition of a state's refusal.
+#![tactic(auto)]
+
 ghost use Rattle.std.specs.Prelude.{◌≡◌, not, ltb};
 ghost use Rattle.def_kinds.specs.Reasons.{are_reasons};
 ghost use Rattle.def_transfer.specs.Accepted.{not_anumber, not_yet_handed_out};

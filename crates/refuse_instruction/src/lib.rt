@@ -1,5 +1,7 @@
 // The classes of refusal that the record of an effect and an instruction earn.
 // A record is tested word by word, each against a limit by the effect's code; every function is total, and its contract is one equation.
+#![tactic(auto)]
+
 ghost use Rattle.std.specs.Prelude.{◌≡◌, eqb, leb, not};
 ghost use Rattle.base_tests.specs.Tests.{ite};
 ghost use Rattle.refuse_words.specs.Classes.{limit_of, lowest_below, record_class, words_below};

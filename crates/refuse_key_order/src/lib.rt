@@ -1,5 +1,7 @@
 // Refusals 3 and 4 of the order of the cached keys: each place names a number that has a key, the keys ascend, and no number with a key is left out.
 // Two entries of one key stand side by side in it, so that no pairs are compared.
+#![tactic(auto)]
+
 ghost use Rattle.std.specs.Prelude.{◌≡◌};
 ghost use Rattle.base_search.specs.Counting.{how_many};
 ghost use Rattle.base_tests.specs.Tests.{ite};

@@ -1,4 +1,6 @@
 // Refusals 3 and 4 of the key that a cached number stands under.
+#![tactic(auto)]
+
 ghost use Rattle.std.specs.Prelude.{◌≡◌};
 ghost use Rattle.refuse_words.specs.Classes.{limit_of, record_class};
 ghost use Rattle.lent_layout.specs.Layout as Layout;

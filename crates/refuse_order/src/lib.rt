@@ -1,5 +1,7 @@
 // Refusals 3 and 4 of the order of the interned effects: each place names one of them, and their keys ascend.
 // Two entries of one key stand side by side in it, so that no pairs are compared.
+#![tactic(auto)]
+
 ghost use Rattle.std.specs.Prelude.{◌≡◌};
 ghost use Rattle.def_key_order.specs.KeyOrder.{compare_keys};
 ghost use Rattle.lent_context.specs.Lent.{interned_key};

@@ -1,4 +1,6 @@
 // Refusals 3 and 4 of the records of a context, one table after the other.
+#![tactic(auto)]
+
 ghost use Rattle.std.specs.Prelude.{◌≡◌};
 ghost use Rattle.refuse_words.specs.Classes.{lowest_below};
 ghost use Rattle.refuse_tables.specs.TableClasses.{identifier_class, function_class, link_class};

@@ -1,5 +1,7 @@
 // Whether a diagnostic of a context repeats one before it.
 // Each search goes through the records before the one that is tested; every function is total, and its contract is one equation.
+#![tactic(auto)]
+
 ghost use Rattle.std.specs.Prelude.{◌≡◌};
 ghost use Rattle.base_tests.specs.Tests.{is_some};
 ghost use Rattle.def_transfer.specs.Pure.{identities, find_identity, find_instance};

@@ -1,4 +1,6 @@
 // Refusals 3 and 4 of a single row of sets.
+#![tactic(auto)]
+
 ghost use Rattle.std.specs.Prelude.{◌≡◌};
 ghost use Rattle.refuse_entries.specs.Words.{row_out_of_range, row_in_use, row_too_new, row_unfit};
 

@@ -1,5 +1,7 @@
 // Whether a state that is lent as words is accepted, and with which number it is refused where it is not.
 // "A state is accepted if nothing in it earns 1 to 4"; every function is total, and its contract is one equation.
+#![tactic(auto)]
+
 ghost use Rattle.std.specs.Prelude.{◌≡◌};
 ghost use Rattle.refuse_entries.specs.Words.{wrong_lengths, values_out_of_range, rows_out_of_range, values_unfit, rows_unfit, state_out_of_range, state_unfit, state_refusal};
 

@@ -1,5 +1,7 @@
 // The classes of refusal that a record of each table of a context earns by its words.
 // One loop goes over the words of a record, each against a limit; every function is total, and its contract is one equation.
+#![tactic(auto)]
+
 ghost use Rattle.std.specs.Prelude.{◌≡◌};
 ghost use Rattle.refuse_words.specs.Classes.{limit_of, run_limit, record_class};
 ghost use Rattle.lent_layout.specs.Layout as Layout;

@@ -1,5 +1,7 @@
 // The classes of refusal that a word, a run of unused words and a place earn, and what the words of a place have to lie below.
 // A limit is 0 for a word without use, else 1 + the number that the word has to lie below.
+#![tactic(auto)]
+
 ghost use Rattle.std.specs.Prelude.{◌≡◌};
 ghost use Rattle.refuse_words.specs.Classes as Classes;
 ghost use Rattle.refuse_words.specs.Classes.{limit_of, word_class, used_if, place_limit, run_limit, stray_from, stray_after};

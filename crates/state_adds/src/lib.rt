@@ -1,4 +1,6 @@
 // What another state adds to a state: an entry, a kind, a reason, a member of a set; and which of two states is above the other.
+#![tactic(auto)]
+
 ghost use Rattle.std.specs.Prelude.{◌≡◌, not, ◌/◌, min, eqb};
 ghost use Rattle.std.specs.Int.Bits.{bit_or};
 ghost use Rattle.def_transfer.specs.Merge.{adds_value, adds_set, adds, above};

@@ -1,4 +1,6 @@
 // The sets of a state, written: `assign`, with the own value of a place that has none, and the union of a phi.
+#![tactic(auto)]
+
 ghost use Rattle.std.specs.Prelude.{◌≡◌};
 ghost use Rattle.state_ops.specs.Lists.{own_inserted, assigned_values, assigned_sets, own_sets, phi_sets};
 

@@ -1,5 +1,7 @@
 // What the public calls on a lent state share: their answers, the refusal of a call by its state and its arguments, and the session after a use.
 // A state is lent as 1,024 words of values and 16 words of sets for each identifier; the session comes and goes by value.
+#![tactic(auto)]
+
 ghost use Rattle.std.specs.Prelude.{◌≡◌, ◌||◌};
 ghost use Rattle.def_transfer.specs.Accepted.{not_anumber};
 ghost use Rattle.refuse_entries.specs.Words.{identifiers};
@@ -10,7 +12,7 @@ use def_kinds::AbstractValue;
 use lent_slices::wide32;
 
 // The answer of a call that asks for a kind: 0 or a refusal, the kind, and the session after it.
-#[derive(Drop)]
+#[derive(Clone, Copy)]
 pub struct KindAnswer {
     pub refusal: u32,
     pub value: AbstractValue,
@@ -18,14 +20,14 @@ pub struct KindAnswer {
 }
 
 // The answer of a call that tests or says whether it acted: 0 or a refusal, and yes or no.
-#[derive(Drop)]
+#[derive(Clone, Copy)]
 pub struct TestAnswer {
     pub refusal: u32,
     pub answer: bool,
 }
 
 // The answer of a mutation: 0 or a refusal, what it comes to, and the session after it.
-#[derive(Drop)]
+#[derive(Clone, Copy)]
 pub struct MutationAnswer {
     pub refusal: u32,
     pub result: MutationResult,
@@ -33,7 +35,7 @@ pub struct MutationAnswer {
 }
 
 // The answer of a call that lists: 0 or a refusal, and how many there are.
-#[derive(Drop)]
+#[derive(Clone, Copy)]
 pub struct CountAnswer {
     pub refusal: u32,
     pub count: u32,

@@ -1,4 +1,6 @@
 // The values of a place frozen.
+#![tactic(auto)]
+
 ghost use Rattle.std.specs.Prelude.{◌≡◌};
 ghost use Rattle.lent_sets.specs.Rows.{set_at};
 ghost use Rattle.base_sets.specs.Members.{values_of};

@@ -1,5 +1,7 @@
 // Two states, each lent as a list of words for its values and one for its sets: what one adds to the other, and merges.
 // Each function is total and says by an equation what the definition makes of the lists. After merge and merge_from of the Rust.
+#![tactic(auto)]
+
 ghost use Rattle.std.specs.Prelude.{◌≡◌, length, replicate};
 ghost use Rattle.def_transfer.specs.Merge.{adds};
 ghost use Rattle.state_adds.specs.Lists.{copy_words, merged_values, merged_sets};

@@ -1,5 +1,7 @@
 // The public calls on two lent states: each refuses what document 01 refuses and then leaves all as it was, else it does what the definition says.
 // A state is lent as 1,024 words of values and 16 words of sets for each identifier, as many in both; the session and a state's function-expression flag come and go by value.
+#![tactic(auto)]
+
 ghost use Rattle.std.specs.Prelude.{◌≡◌};
 ghost use Rattle.state_pairs.specs.MergeCalls as MergeCalls;
 ghost use Rattle.refuse_class.specs.Class.{lower};

@@ -1,4 +1,6 @@
 // The entries of another state merged into a state: values, then sets.
+#![tactic(auto)]
+
 ghost use Rattle.std.specs.Prelude.{◌≡◌};
 ghost use Rattle.lent_values.specs.Cells.{option_of};
 ghost use Rattle.state_adds.specs.Lists.{put_entry, merge_value, merge_values, merge_set, merge_sets, rows_of};

@@ -1,5 +1,7 @@
 // The operations of a state over its lent tables: `values`, a word for each value number, and `sets`, a row for each identifier.
 // Each is total: it reads and writes any numbers, and says by one equation what the definition makes of them. After InferenceState of the Rust.
+#![tactic(auto)]
+
 ghost use Rattle.std.specs.Prelude.{◌≡◌};
 ghost use Rattle.def_transfer.specs.State.{kind_of};
 ghost use Rattle.lent_values.specs.Cells.{value_at};

@@ -1,4 +1,6 @@
 // What the calls on two states share: their answers, and the refusal of a call by both states.
+#![tactic(auto)]
+
 ghost use Rattle.std.specs.Prelude.{◌≡◌};
 ghost use Rattle.refuse_class.specs.Class.{lower};
 ghost use Rattle.state_pairs.specs.MergeCalls.{wrong_length, pair_refusal, third_refusal, merged_flag};
@@ -9,7 +11,7 @@ use refuse_state::state_refusal;
 
 // The answer of merge: 0 or a refusal, whether the second state adds to the first, and the function-expression flag of the third.
 // The flag is no at None, as an empty state has it, and where the call is refused.
-#[derive(Drop)]
+#[derive(Clone, Copy)]
 pub struct MergeAnswer {
     pub refusal: u32,
     pub answer: bool,
@@ -18,7 +20,7 @@ pub struct MergeAnswer {
 
 // The answer of merge_from: 0 or a refusal, the session after it, and the function-expression flag of the first state.
 // The session's access is cleared where the call was not refused.
-#[derive(Drop)]
+#[derive(Clone, Copy)]
 pub struct SessionAnswer {
     pub refusal: u32,
     pub session: Session,

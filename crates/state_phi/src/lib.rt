@@ -1,4 +1,6 @@
 // The public call for a phi: the place gets the union of the sets of its operands.
+#![tactic(auto)]
+
 ghost use Rattle.std.specs.Prelude.{◌≡◌, false};
 ghost use Rattle.base_tests.specs.Tests.{any_of};
 ghost use Rattle.def_transfer.specs.State as State;

@@ -1,5 +1,7 @@
 // The public calls that ask for the kind of a place: each refuses what document 01 refuses, else it answers what the definition says, and leaves the tables.
 // A state is lent as 1,024 words of values and 16 words of sets for each identifier; the session comes and goes by value.
+#![tactic(auto)]
+
 ghost use Rattle.std.specs.Prelude.{◌≡◌, false};
 ghost use Rattle.def_transfer.specs.State as State;
 ghost use Rattle.def_transfer.specs.Step as Step;

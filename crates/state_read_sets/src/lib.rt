@@ -1,5 +1,7 @@
 // The public calls that look at the sets of a lent state, and the test of a whole state: each refuses what document 01 refuses, else it answers what the definition says, and leaves the tables.
 // A state is lent as 1,024 words of values and 16 words of sets for each identifier; the session comes and goes by value.
+#![tactic(auto)]
+
 ghost use Rattle.std.specs.Prelude.{◌≡◌, false, length, take, replicate};
 ghost use Rattle.lent_sets.specs.Rows.{set_at};
 ghost use Rattle.base_sets.specs.Members.{values_of};

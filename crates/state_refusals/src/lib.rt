@@ -1,4 +1,6 @@
 // The refusal of a call on a state, by its state and its arguments.
+#![tactic(auto)]
+
 ghost use Rattle.std.specs.Prelude.{◌≡◌};
 ghost use Rattle.state_calls.specs.Calls.{worst, refusal_of, outside, refusal1, refusal2};
 

@@ -1,5 +1,7 @@
 // The public calls that change the sets of a lent state: each refuses what document 01 refuses and then leaves all as it was, else it does what the definition says.
 // A state is lent as 1,024 words of values and 16 words of sets for each identifier; the session comes by value, and stays as it is.
+#![tactic(auto)]
+
 ghost use Rattle.std.specs.Prelude.{◌≡◌, false};
 ghost use Rattle.def_transfer.specs.State as State;
 ghost use Rattle.state_calls.specs.Calls as Calls;

@@ -1,5 +1,7 @@
 // Document 01's worked cases 2 to 9 and 14, through the public calls: one line each, and 'stdout' has the lines that the paper states.
 // Kinds and reasons are printed by their numbers: Other is bit 11 of the reasons, 2048, and State bit 1, 2.
+#![tactic(auto)]
+
 use def_effects::{Session, Span};
 use def_kinds::{AbstractValue, ValueKind};
 use libc::STDOUT_FILENO;

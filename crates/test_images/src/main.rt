@@ -1,5 +1,7 @@
 // Replays recorded images through `image_infer::infer_image`, and compares each listing, piece by piece, with the recorded one, byte for byte.
 // The lists are docs/VECTORS.md's, part 4; their names are the arguments. Prints of each list the first records that failed, then how many were replayed.
+#![tactic(auto)]
+
 ghost use Rattle.std.specs.Prelude.{◌≤◌, ◌<◌, ◌*◌, length};
 
 use image_pieces::Shown;
@@ -8,7 +10,7 @@ use libc::STDOUT_FILENO;
 
 // A word of a file, and whether all four bytes of it were there.
 // A list that is cut short is told by this.
-#[derive(Drop)]
+#[derive(Clone, Copy)]
 struct Taken {
     whole: bool,
     word: u32,
@@ -16,7 +18,7 @@ struct Taken {
 
 // The head of an image or of a listing: its length in bytes and in words, and whether it was read and fits its record.
 // The bytes follow, with zeros up to a whole word.
-#[derive(Drop)]
+#[derive(Clone, Copy)]
 struct Text {
     whole: bool,
     length: u32,
@@ -25,7 +27,7 @@ struct Text {
 
 // An image that was read into a list: whether it stood whole in its file and fits the list, and its length.
 // Its bytes are the first of the list.
-#[derive(Drop)]
+#[derive(Clone, Copy)]
 struct Image {
     whole: bool,
     length: usize,
@@ -33,7 +35,7 @@ struct Image {
 
 // How a record goes: whether it stood whole in the list, whether the listing is the recorded one as far as it was compared,
 // and how many bytes of the recorded one are left. After a record that is not whole nothing more can be read.
-#[derive(Drop)]
+#[derive(Clone, Copy)]
 struct Seen {
     whole: bool,
     same: bool,
@@ -42,7 +44,7 @@ struct Seen {
 
 // How a list goes: its file, the records left, those replayed and those that failed.
 // A list that is not whole counts as one failure more.
-#[derive(Drop)]
+#[derive(Clone, Copy)]
 struct Run {
     fd: i32,
     left: u32,

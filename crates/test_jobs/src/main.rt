@@ -1,5 +1,7 @@
 // Replays recorded library jobs through the call for an instruction, and compares what it answers and leaves with what the Rust gave.
 // The lists are docs/VECTORS.md's, part 5; their names are the arguments. Prints each job that failed, then how many were replayed.
+#![tactic(auto)]
+
 ghost use Rattle.std.specs.Prelude.{◌≤◌, ◌<◌, length};
 
 use call_outcome::Applied;
@@ -10,7 +12,7 @@ use refuse_context::context_class;
 
 // Where the reading of a job stands, and how many differences were found in it.
 // What is compared goes through a job from its first word to its last.
-#[derive(Drop)]
+#[derive(Clone, Copy)]
 struct Cursor {
     at: u32,
     faults: u32,
@@ -18,7 +20,7 @@ struct Cursor {
 
 // The same while a table is compared: below which of its words all is compared.
 // Between two runs all words have to be zero.
-#[derive(Drop)]
+#[derive(Clone, Copy)]
 struct Seen {
     at: u32,
     faults: u32,
@@ -27,7 +29,7 @@ struct Seen {
 
 // What goes on from one instruction of a job to the next, beside the tables.
 // The reading, the differences, session and flag.
-#[derive(Drop)]
+#[derive(Clone, Copy)]
 struct Going {
     at: u32,
     faults: u32,
@@ -36,7 +38,7 @@ struct Going {
 }
 
 // How a list of jobs went.
-#[derive(Drop)]
+#[derive(Clone, Copy)]
 struct Score {
     instructions: u32,
     failed: u32,

@@ -1,5 +1,7 @@
 // Replays recorded state operations through the public calls, and compares answer, session and state with what the Rust gave.
 // The list is docs/VECTORS.md's, part 3 and 4; its name is the first argument. Prints each record that failed, then how many were replayed.
+#![tactic(auto)]
+
 ghost use Rattle.std.specs.Prelude.{◌≤◌, ◌<◌, length};
 
 use def_effects::{MutateVariant, MutationResult, Session, Span};

@@ -1,0 +1,27 @@
+-- `call_early::early_all` meets its contract: the loop does one of the places that are left. Assumes nothing.
+use borrow.Author.Rules.{rules}
+use mathlib.Core.Path.{◌≡◌, refl, ◌∙◌}
+use Prim.Native.Nat.{◌-◌}
+use lib.ListN.{length}
+use Rattle.def_transfer.specs.Monad.{each}
+use Rattle.def_transfer.specs.Instruction.{early_error}
+use Rattle.lent_tables.specs.Words.{places_in}
+use Rattle.lent_world.specs.World.{world}
+use Rattle.call_parts.specs.Laws.Instruction.{places_start, places_next, places_stop, places_end}
+use Rattle.lent_layout.specs.Layout.{inside_run}
+use Rattle.call_early.proofs.early_all.Goals as goal
+
+pub loop-k-init : goal.loop-k-init
+loop-k-init c = (refl, refl, refl)
+
+pub returns-then-s-ne0 : goal.returns-then-s-ne0
+returns-then-s-ne0 c =
+    places_start (early_error c.args.f) _ _ _ c.field-n.ensures ∙ c.loop-k.invariant.2 ∙ places_stop (early_error c.args.f) _ _ _ _ _ _ _ c.loop-k-test.true c.place_in-p.ensures c.early_error-s.ensures c.if-s-ne0.true
+
+pub loop-k-preserved : goal.loop-k-preserved
+loop-k-preserved c =
+    (c.early_error-s.auto.context ∙ c.loop-k.invariant.0, c.early_error-s.auto.output ∙ c.loop-k.invariant.1, c.loop-k.invariant.2 ∙ places_next (early_error c.args.f) _ _ _ _ _ _ _ c.loop-k-test.true c.place_in-p.ensures c.early_error-s.ensures c.if-s-ne0.false)
+
+pub returns : goal.returns
+returns c =
+    places_start (early_error c.args.f) _ _ _ c.field-n.ensures ∙ c.loop-k.invariant.2 ∙ places_end (early_error c.args.f) _ _ _ _ c.loop-k-test.false

@@ -1,0 +1,20 @@
+use borrow.Author.Rules.{rules}
+use mathlib.Core.Path.{◌≡◌, refl, ◌∙◌}
+use Prim.Native.Nat.{◌-◌}
+use lib.ListN.{length}
+use Rattle.def_transfer.specs.Monad.{each}
+use Rattle.def_transfer.specs.Instruction.{early_error}
+use Rattle.lent_tables.specs.Words.{places_in}
+use Rattle.lent_world.specs.World.{world}
+use Rattle.call_parts.specs.Laws.Instruction.{places_start, places_next, places_stop, places_end}
+use Rattle.lent_layout.specs.Layout.{inside_run}
+use Rattle.call_early.proofs.early_all.Given as goal
+
+abbrev pub invariant-loop-k : goal.invariant-loop-k
+invariant-loop-k l =
+    (length l.context ≡ length l.initial.context)
+    × (length l.output ≡ length l.initial.output)
+    × (each (places_in inside_run l.places 0 1 l.initial.k (l.n - l.initial.k)) (early_error l.f) (world l.values l.sets l.initial.context l.initial.output l.initial.now) ≡ each (places_in inside_run l.places 0 1 l.k (l.n - l.k)) (early_error l.f) (world l.values l.sets l.context l.output l.now))
+
+abbrev pub decreases-loop-k : goal.decreases-loop-k
+decreases-loop-k l = l.n - l.k

@@ -1,0 +1,12 @@
+-- `call_early::early_errors` meets its contract: one law for each of its two ways. Assumes nothing.
+use mathlib.Core.Path.{refl}
+use Rattle.call_parts.specs.Laws.Instruction.{own_none, own_some}
+use borrow.Author.Rules.{rules}
+use Rattle.call_early.proofs.early_errors.Goals as goal
+
+pub returns-then-own-eq0 : goal.returns-then-own-eq0
+returns-then-own-eq0 c = own_none _ _ c.if-own-eq0.true
+
+pub returns : goal.returns
+returns c =
+    own_some _ _ _ _ _ _ _ _ _ _ c.if-own-eq0.false refl refl c.copy_inside.ensures c.early_all.ensures

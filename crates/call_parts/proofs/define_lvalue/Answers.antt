@@ -1,0 +1,17 @@
+-- `call_parts::define_lvalue` meets its contract: one law for each of its two ends, and one for each of its sets. Assumes nothing.
+use mathlib.Core.Path.{refl}
+use Rattle.state_ops.specs.Laws.List.{own_past}
+use Rattle.call_parts.specs.Laws.Instruction.{lvalue_stays, lvalue_own, own_below}
+use borrow.Author.Rules.{rules}
+use Rattle.call_parts.proofs.define_lvalue.Goals as goal
+
+pub returns-then-is_defined : goal.returns-then-is_defined
+returns-then-is_defined c = lvalue_stays _ _ _ _ c.is_defined.ensures c.if-is_defined.true
+
+pub returns-then-i-lt512 : goal.returns-then-i-lt512
+returns-then-i-lt512 c =
+    lvalue_own _ _ _ _ c.is_defined.ensures _ _ _ _ c.if-is_defined.false c.wide32.ensures refl c.put_value.ensures (own_below _ _ _ c.define.ensures)
+
+pub returns : goal.returns
+returns c =
+    lvalue_own _ _ _ _ c.is_defined.ensures _ _ _ _ c.if-is_defined.false c.wide32.ensures refl c.put_value.ensures (own_past _ _ _ _ c.if-i-lt512.false c.define-2.ensures)

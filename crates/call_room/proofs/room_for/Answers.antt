@@ -1,0 +1,18 @@
+use borrow.Author.Rules.{rules}
+use native.Mathlib.Omega.{arith}
+use Prim.Native.Nat.{◌+◌, ◌-◌, ◌/◌, ◌≤◌}
+use mathlib.Core.Path.{◌≡◌, refl}
+use lib.ListN.{length}
+use Rattle.call_outcome.specs.Calls.{room_for}
+use Rattle.call_room.specs.Laws.Room.{left, room_starts, room_more, room_ends, most_limit}
+use Rattle.call_room.proofs.room_for.Goals as goal
+
+pub loop-k-init : goal.loop-k-init
+loop-k-init c = (omega arith, most_limit _ (c.interned_count.result + 0) c.capped-total.ensures, room_starts c.args.context.now c.args.candidates.now (length c.args.candidates.now / 98) refl _ _ c.interned_count.ensures c.capped-total.ensures)
+
+pub loop-k-preserved : goal.loop-k-preserved
+loop-k-preserved c =
+    (omega arith, most_limit _ (c.loop-k.total + c.need_of.result) c.capped-total-in-loop-k.ensures, room_more c.args.context.now c.args.candidates.now (length c.args.candidates.now / 98) refl _ _ _ _ c.loop-k-test.true c.need_of.ensures c.capped-total-in-loop-k.ensures c.loop-k.invariant.2)
+
+pub returns : goal.returns
+returns c = room_ends c.args.context.now c.args.candidates.now (length c.args.candidates.now / 98) refl _ _ c.loop-k-test.false c.loop-k.invariant.1 c.loop-k.invariant.2

@@ -1,0 +1,20 @@
+use Prim.Native.Nat.{◌+◌, ◌-◌, ◌≤◌}
+use native.Mathlib.Omega.{arith}
+use native.Mathlib.Nat.{zero-add}
+use mathlib.Core.Path.{◌≡◌, refl, sym, ◌∙◌}
+use lib.ListN.{length, get_or, length-set}
+use borrow.Author.Rules.{rules}
+use Rattle.lent_copies.specs.Copies.{copied}
+use Rattle.lent_copies.specs.Laws.Copy.{copy_more, copy_end}
+use Rattle.call_undo.specs.Saves.{saved_context}
+use Rattle.call_save.proofs.copy_saved.Given as goal
+
+abbrev pub invariant-loop-k : goal.invariant-loop-k
+invariant-loop-k l =
+    (37830 ≤ length l.context)
+    × (25347 ≤ length l.scratch)
+    × (length l.scratch ≡ length l.initial.scratch)
+    × (copied l.context (12483 + l.initial.k) (0 + l.initial.k) (25347 - l.initial.k) l.initial.scratch ≡ copied l.context (12483 + l.k) (0 + l.k) (25347 - l.k) l.scratch)
+
+abbrev pub decreases-loop-k : goal.decreases-loop-k
+decreases-loop-k l = 25347 - l.k

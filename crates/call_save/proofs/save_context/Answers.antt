@@ -1,0 +1,12 @@
+-- `call_save::save_context` meets its contract: one copy, on each of its ways. Assumes nothing.
+use Rattle.call_undo.specs.Saves.{saved_context}
+use borrow.Author.Rules.{rules}
+use Rattle.call_save.proofs.save_context.Goals as goal
+
+pub returns-then-context-lt-EFFECTS_FROM : goal.returns-then-context-lt-EFFECTS_FROM
+unfolding saved_context
+returns-then-context-lt-EFFECTS_FROM c = c.copy32.ensures
+
+pub returns-then-scratch-lt-SAVED_WORDS : goal.returns-then-scratch-lt-SAVED_WORDS
+unfolding saved_context
+returns-then-scratch-lt-SAVED_WORDS c = c.copy32-then-scratch-lt-SAVED_WORDS.ensures

@@ -1,0 +1,18 @@
+use Prim.Native.Nat.{ℕ, ◌+◌, ◌-◌, ◌*◌}
+use mathlib.Core.Path.{◌≡◌, refl, ap, ◌∙◌}
+use mathlib.Core.List.{[]}
+use lib.ListN.{length}
+use borrow.Author.Rules.{rules}
+use Rattle.lent_copies.specs.Copies.{copied}
+use Rattle.call_undo.specs.Laws.Save.{forgets_none, forgets_more, forgets_end}
+use Rattle.call_undo.proofs.forget_effects.Given as goal
+
+abbrev pub invariant-loop-k : goal.invariant-loop-k
+invariant-loop-k l =
+    (length l.context ≡ length l.initial.context)
+    × (l.at ≡ 37830 + l.from * 98)
+    × (l.n ≡ (l.to - l.from) * 98)
+    × (copied [] l.initial.k (l.at + l.initial.k) (l.n - l.initial.k) l.initial.context ≡ copied [] l.k (l.at + l.k) (l.n - l.k) l.context)
+
+abbrev pub decreases-loop-k : goal.decreases-loop-k
+decreases-loop-k l = l.n - l.k

@@ -1,0 +1,8 @@
+-- `call_undo::restore_context` meets its contract: one law. Assumes nothing.
+use Rattle.call_undo.specs.Laws.Save.{restores}
+use borrow.Author.Rules.{rules}
+use Rattle.call_undo.proofs.restore_context.Goals as goal
+
+pub returns : goal.returns
+returns c =
+    restores _ _ _ _ _ _ c.get32-before.ensures c.interned_count-after.ensures c.forget_effects.ensures c.copy32.ensures

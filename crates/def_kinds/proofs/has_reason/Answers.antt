@@ -1,0 +1,12 @@
+use mathlib.Core.Path.{refl, sym}
+use Rattle.def_kinds.specs.Reasons.{has_reason}
+use Rattle.def_kinds.specs.Laws.Kinds.{no_reason}
+use borrow.Author.Rules.{rules}
+use Rattle.def_kinds.proofs.has_reason.Goals as goal
+
+pub returns-then-n-lt32 : goal.returns-then-n-lt32
+unfolding has_reason
+returns-then-n-lt32 c = refl
+
+pub returns-else-n-lt32 : goal.returns-else-n-lt32
+returns-else-n-lt32 c = sym (no_reason _ _ (search rules) (search rules))

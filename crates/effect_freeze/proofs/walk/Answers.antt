@@ -1,0 +1,29 @@
+use borrow.Author.Rules.{rules}
+use native.Mathlib.Omega.{arith}
+use mathlib.Core.Path.{◌≡◌, refl, ◌∙◌}
+use Prim.Native.Nat.{◌-◌, ◌+◌}
+use lib.ListN.{length}
+use Rattle.base_tests.specs.Laws.Bool.{not_true, not-false}
+use Rattle.lent_sets.specs.Laws.Row.{next_ge}
+use Rattle.effect_freeze.specs.Laws.Freeze.{walk_none, Walks, walks_start, walks_next, walks_refused, walks_end}
+use Rattle.effect_freeze.proofs.walk.Goals as goal
+
+pub returns-then-not-is_defined : goal.returns-then-not-is_defined
+returns-then-not-is_defined c = walk_none _ _ _ _ _ _ _ _ c.is_defined.ensures (not_true _ c.if-not-is_defined.true) c.with_entries.ensures
+
+pub loop-m-init : goal.loop-m-init
+loop-m-init c = (refl, walks_start _ _ _ _ _ _ _ _ c.is_defined.ensures (not-false _ c.if-not-is_defined.false) c.next_member-m.ensures)
+
+pub returns-then-w-ne0 : goal.returns-then-w-ne0
+returns-then-w-ne0 c =
+    walks_refused _ _ _ _ _ _ _ _ _ _ c.loop-m.invariant.1 _ _ _ _ _ _ c.loop-m-test.true c.freeze_function_captures_transitive-w.ensures c.if-w-ne0.true refl c.with_entries-then-w-ne0.ensures
+
+pub loop-m-smaller : goal.loop-m-smaller
+loop-m-smaller c = let g = next_ge _ _ (c.loop-m.m + 1) c.next_member-m-in-loop-m.result c.next_member-m-in-loop-m.ensures in omega arith
+
+pub loop-m-preserved : goal.loop-m-preserved
+loop-m-preserved c =
+    (c.freeze_function_captures_transitive-w.auto.values ∙ c.loop-m.invariant.0, walks_next _ _ _ _ _ _ _ _ _ _ c.loop-m.invariant.1 _ _ _ _ _ c.loop-m-test.true c.freeze_function_captures_transitive-w.ensures c.if-w-ne0.false c.next_member-m-in-loop-m.ensures)
+
+pub returns : goal.returns
+returns c = walks_end _ _ _ _ _ _ _ _ _ _ c.loop-m.invariant.1 _ _ c.loop-m-test.false refl c.with_entries-2.ensures

@@ -1,0 +1,10 @@
+use borrow.Author.Rules.{rules}
+use Prim.Native.Nat.{◌-◌}
+use Rattle.effect_function_context.specs.Laws.Function.{Seeks, seeks_start, seeks_yes, seeks_more, seeks_no}
+use Rattle.effect_function_context.proofs.any_ref.Given as goal
+
+abbrev pub invariant-loop-k : goal.invariant-loop-k
+invariant-loop-k l = Seeks l.context l.f l.n l.k
+
+abbrev pub decreases-loop-k : goal.decreases-loop-k
+decreases-loop-k l = l.n - l.k

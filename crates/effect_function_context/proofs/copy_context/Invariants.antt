@@ -1,0 +1,17 @@
+use borrow.Author.Rules.{rules}
+use mathlib.Core.Path.{◌≡◌, refl, ◌∙◌}
+use Prim.Native.Nat.{◌≤◌, ◌-◌}
+use lib.ListN.{length}
+use native.Mathlib.Omega.{arith}
+use Rattle.effect_function_context.specs.Functions.{copied_places}
+use Rattle.effect_function_context.specs.Laws.Function.{copied_more, copied_done}
+use Rattle.effect_function_context.proofs.copy_context.Given as goal
+
+abbrev pub invariant-loop-k : goal.invariant-loop-k
+invariant-loop-k l =
+    (l.k ≤ 80)
+    × (copied_places l.context l.f l.k (80 - l.k) l.out ≡ copied_places l.context l.f 0 80 l.initial.out)
+    × (length l.out ≡ length l.initial.out)
+
+abbrev pub decreases-loop-k : goal.decreases-loop-k
+decreases-loop-k l = 80 - l.k

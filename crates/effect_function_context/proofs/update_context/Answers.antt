@@ -1,0 +1,7 @@
+use mathlib.Core.Path.{refl}
+use Rattle.effect_function_context.specs.Laws.Function.{updates_context}
+use borrow.Author.Rules.{rules}
+use Rattle.effect_function_context.proofs.update_context.Goals as goal
+
+pub returns : goal.returns
+returns c = updates_context _ _ _ _ _ _ _ refl c.copy_context.ensures c.update_places.ensures

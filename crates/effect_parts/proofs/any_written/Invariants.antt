@@ -1,0 +1,10 @@
+use borrow.Author.Rules.{rules}
+use Prim.Native.Nat.{◌-◌}
+use Rattle.effect_parts.specs.Laws.Part.{Asks, asks_start, asks_yes, asks_more, asks_no}
+use Rattle.effect_parts.proofs.any_written.Given as goal
+
+abbrev pub invariant-loop-k : goal.invariant-loop-k
+invariant-loop-k l = Asks l.values l.sets l.captures l.n l.k
+
+abbrev pub decreases-loop-k : goal.decreases-loop-k
+decreases-loop-k l = l.n - l.k

@@ -1,0 +1,11 @@
+use Prim.Native.Nat.{◌-◌}
+use Rattle.effect_parts.specs.Laws.Part.{emit_full, emit_one}
+use borrow.Author.Rules.{rules}
+use Rattle.effect_parts.proofs.emit.Goals as goal
+
+pub returns-then-run-ge4294967295 : goal.returns-then-run-ge4294967295
+returns-then-run-ge4294967295 c = λ vs ss cs. emit_full vs ss cs _ _ _ c.if-run-ge4294967295.true
+
+pub returns : goal.returns
+returns c =
+    λ vs ss cs. emit_one vs ss cs _ _ _ _ _ c.if-run-ge4294967295.false c.wide32.ensures c.put_effect.ensures

@@ -1,0 +1,6 @@
+use Rattle.effect_reports.specs.Laws.Mutation.{hoisted_is}
+use borrow.Author.Rules.{rules}
+use Rattle.effect_reports.proofs.hoisted_diagnostic.Goals as goal
+
+pub returns : goal.returns
+returns c = hoisted_is c.args.p c.args.name c.args.access _ c.access_label-label.ensures

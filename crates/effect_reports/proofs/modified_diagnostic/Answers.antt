@@ -1,0 +1,6 @@
+use Rattle.effect_reports.specs.Laws.Mutation.{modified_is}
+use borrow.Author.Rules.{rules}
+use Rattle.effect_reports.proofs.modified_diagnostic.Goals as goal
+
+pub returns : goal.returns
+returns c = modified_is c.args.p c.args.name _ c.args.a c.get_write_error_reason.ensures

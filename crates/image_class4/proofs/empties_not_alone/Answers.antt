@@ -1,0 +1,24 @@
+-- `image_class4::empties_not_alone` meets its contract. The loop's invariant: none of those passed passes the test. The measure is those that are left. Assumes nothing.
+use borrow.Author.Rules.{rules}
+use borrow.Author.Count.{below_more, below_none}
+use Prim.Native.Nat.{◌-◌, ◌<◌, ℕ}
+use mathlib.Core.Path.{◌∙◌, ◌≡◌, sym}
+use Rattle.def_image.specs.Refusals.{any_neighbours, empty_not_alone}
+use mathlib.Core.Bool.{false}
+use Rattle.base_tests.specs.Laws.Chains.{any_found, any_none}
+use Rattle.image_class4.proofs.empties_not_alone.Goals as goal
+
+pub loop-k-init : goal.loop-k-init
+loop-k-init c = below_none _
+
+pub returns-then-empty_not_alone : goal.returns-then-empty_not_alone
+unfolding any_neighbours
+returns-then-empty_not_alone c =
+    any_found _ _ (λ (i : ℕ). empty_not_alone c.args.im.now i) c.loop-k.k _ c.neighbours_of-n.ensures c.loop-k-test.true c.empty_not_alone.ensures c.if-empty_not_alone.true
+
+pub loop-k-preserved : goal.loop-k-preserved
+loop-k-preserved c = below_more _ _ c.loop-k.invariant (sym c.empty_not_alone.ensures ∙ c.if-empty_not_alone.false)
+
+pub returns : goal.returns
+unfolding any_neighbours
+returns c = any_none _ _ (λ (i : ℕ). empty_not_alone c.args.im.now i) c.loop-k.k c.neighbours_of-n.ensures c.loop-k-test.false c.loop-k.invariant

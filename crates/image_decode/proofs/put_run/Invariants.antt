@@ -1,0 +1,16 @@
+use native.Mathlib.Omega.{arith}
+use mathlib.Core.Path.{◌≡◌, refl, ap, ◌∙◌}
+use Prim.Native.Nat.{◌-◌, ◌+◌, ◌≤◌}
+use lib.ListN.{length}
+use Rattle.lent_tables.specs.Words.{put_places}
+use Rattle.lent_tables.specs.Laws.Word.{place_length}
+use Rattle.def_image.specs.Decode.{list_from, place_at, places_from}
+use Rattle.image_decode.specs.Laws.Context.{run_start, run_more, run_none}
+use borrow.Author.Rules.{rules}
+use Rattle.image_decode.proofs.put_run.Given as goal
+
+abbrev pub invariant-loop-k : goal.invariant-loop-k
+invariant-loop-k l = (l.k ≤ l.n) × (put_places l.t l.xs l.i l.w l.k (list_from (l.n - l.k) (l.first + l.k) (place_at l.im)) ≡ put_places l.t l.initial.xs l.i l.w 0 (places_from l.im l.first l.n)) × (length l.xs ≡ length l.initial.xs)
+
+abbrev pub decreases-loop-k : goal.decreases-loop-k
+decreases-loop-k l = l.n - l.k

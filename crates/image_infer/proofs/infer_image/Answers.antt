@@ -1,0 +1,12 @@
+-- `image_infer::infer_image` meets its contract: what it leaves, its pieces, what is zero; what that means on plain tables is a law. Assumes nothing.
+use mathlib.Core.Path.{ap, ◌∙◌}
+use Rattle.lent_copies.specs.Copies.{zeros}
+use Rattle.image_outcome.specs.Inferring.{pieces_of}
+use Rattle.image_outcome.specs.Laws.Pieces.{leaves_written}
+use Rattle.image_means.specs.Laws.Inferred.{inferred_is}
+use borrow.Author.Rules.{rules}
+use Rattle.image_infer.proofs.infer_image.Goals as goal
+
+pub returns : goal.returns
+returns c =
+    let e = c.settle.ensures ∙ c.run_image-shown.ensures in (e, ap pieces_of e ∙ leaves_written _ _ _ _ _ _ _ _ _, c.clear_work.ensures.0 ∙ ap zeros c.run_image-shown.auto.words, c.clear_work.ensures.1 ∙ ap zeros c.run_image-shown.auto.context, c.clear_work.ensures.2 ∙ ap zeros c.run_image-shown.auto.candidates, c.clear_work.ensures.3 ∙ ap zeros c.run_image-shown.auto.scratch64, c.clear_work.ensures.4 ∙ ap zeros c.run_image-shown.auto.scratch32, inferred_is _)

@@ -1,0 +1,23 @@
+-- `image_listing::put_effects` meets its contract: the loop's invariant is what is left to write. Assumes nothing.
+use mathlib.Core.Path.{◌≡◌, refl, ◌∙◌}
+use Prim.Native.Nat.{◌-◌}
+use native.Mathlib.Omega.{arith}
+use lib.ListN.{length}
+use borrow.Author.Rules.{rules}
+use Rattle.image_text.specs.Laws.Loops.{lines_step, lines_end}
+use Rattle.image_text.specs.Texts.{cursor, put_all}
+use Rattle.def_image.specs.Listing.{lines_from}
+use Rattle.image_pieces.specs.Pieces.{effect_line}
+use Rattle.image_pieces.specs.Laws.Suffices.{effects_suffice}
+use Rattle.image_listing.proofs.put_effects.Goals as goal
+
+pub loop-k-init : goal.loop-k-init
+loop-k-init c = (refl, refl)
+
+pub loop-k-preserved : goal.loop-k-preserved
+loop-k-preserved c =
+    (c.put_effect_line-next.auto.buffer ∙ c.loop-k.invariant.0, lines_step _ _ _ _ _ _ c.loop-k-test.true c.put_effect_line-next.ensures c.loop-k.invariant.1)
+
+pub returns : goal.returns
+returns c =
+    λ h. record { bytes = lines_end _ _ _ _ _ c.loop-k-test.false c.loop-k.invariant.1; suffices = effects_suffice _ _ _ _ (λ j. omega (arith, c.shared_slice_known-1.given j)) h }

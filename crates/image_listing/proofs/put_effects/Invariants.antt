@@ -1,0 +1,17 @@
+use mathlib.Core.Path.{◌≡◌, refl, ◌∙◌}
+use Prim.Native.Nat.{◌-◌}
+use native.Mathlib.Omega.{arith}
+use lib.ListN.{length}
+use borrow.Author.Rules.{rules}
+use Rattle.image_text.specs.Laws.Loops.{lines_step, lines_end}
+use Rattle.image_text.specs.Texts.{cursor, put_all}
+use Rattle.def_image.specs.Listing.{lines_from}
+use Rattle.image_pieces.specs.Pieces.{effect_line}
+use Rattle.image_pieces.specs.Laws.Suffices.{effects_suffice}
+use Rattle.image_listing.proofs.put_effects.Given as goal
+
+abbrev pub invariant-loop-k : goal.invariant-loop-k
+invariant-loop-k l = (length l.buffer ≡ length l.initial.buffer) × (put_all (lines_from (l.to - l.k) l.k (effect_line l.output l.count)) (cursor l.next l.buffer) ≡ put_all (lines_from (l.to - l.initial.k) l.initial.k (effect_line l.output l.count)) (cursor l.initial.next l.initial.buffer))
+
+abbrev pub decreases-loop-k : goal.decreases-loop-k
+decreases-loop-k l = l.to - l.k

@@ -1,0 +1,22 @@
+-- `image_listing::put_values` meets its contract: the loop's invariant is what is left to write. Assumes nothing.
+use mathlib.Core.Path.{◌≡◌, refl, ◌∙◌}
+use Prim.Native.Nat.{◌-◌}
+use native.Mathlib.Omega.{arith}
+use lib.ListN.{length}
+use borrow.Author.Rules.{rules}
+use Rattle.image_text.specs.Laws.Loops.{lines_step, lines_end}
+use Rattle.image_text.specs.Texts.{cursor, put_all}
+use Rattle.def_image.specs.Listing.{lines_from, value_line}
+use Rattle.lent_values.specs.Cells.{value_at}
+use Rattle.image_pieces.specs.Laws.Suffices.{values_suffice}
+use Rattle.image_listing.proofs.put_values.Goals as goal
+
+pub loop-v-init : goal.loop-v-init
+loop-v-init c = (refl, refl)
+
+pub loop-v-preserved : goal.loop-v-preserved
+loop-v-preserved c =
+    (c.put_value_line-next.auto.buffer ∙ c.loop-v.invariant.0, lines_step _ _ _ _ _ _ c.loop-v-test.true c.put_value_line-next.ensures c.loop-v.invariant.1)
+
+pub returns : goal.returns
+returns c = λ h. record { bytes = lines_end _ _ _ _ _ c.loop-v-test.false c.loop-v.invariant.1; suffices = values_suffice _ _ _ (omega arith) (omega arith) h }

@@ -1,0 +1,17 @@
+use mathlib.Core.Path.{◌≡◌, refl, ◌∙◌}
+use Prim.Native.Nat.{◌-◌}
+use native.Mathlib.Omega.{arith}
+use lib.ListN.{length}
+use borrow.Author.Rules.{rules}
+use Rattle.image_text.specs.Laws.Loops.{lines_step, lines_end}
+use Rattle.image_text.specs.Texts.{cursor, put_all}
+use Rattle.def_image.specs.Listing.{lines_from, value_line}
+use Rattle.lent_values.specs.Cells.{value_at}
+use Rattle.image_pieces.specs.Laws.Suffices.{values_suffice}
+use Rattle.image_listing.proofs.put_values.Given as goal
+
+abbrev pub invariant-loop-v : goal.invariant-loop-v
+invariant-loop-v l = (length l.buffer ≡ length l.initial.buffer) × (put_all (lines_from (l.to - l.v) l.v (λ k. value_line k (value_at l.values k))) (cursor l.next l.buffer) ≡ put_all (lines_from (l.to - l.initial.v) l.initial.v (λ k. value_line k (value_at l.values k))) (cursor l.initial.next l.initial.buffer))
+
+abbrev pub decreases-loop-v : goal.decreases-loop-v
+decreases-loop-v l = l.to - l.v

@@ -1,0 +1,10 @@
+-- `image_run::shown_of` meets its contract: a refusal's number, or what the call answered. Assumes nothing.
+use Rattle.image_outcome.specs.Laws.Inferring.{answered_refused, answered_ran}
+use borrow.Author.Rules.{rules}
+use Rattle.image_run.proofs.shown_of.Goals as goal
+
+pub returns-then-applied-ne0 : goal.returns-then-applied-ne0
+returns-then-applied-ne0 c = answered_refused _ _ c.if-applied-ne0.true c.refused.ensures
+
+pub returns : goal.returns
+returns c = answered_ran _ c.if-applied-ne0.false

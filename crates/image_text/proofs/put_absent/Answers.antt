@@ -1,0 +1,6 @@
+use Rattle.image_text.specs.Laws.Columns.{absent_is}
+use borrow.Author.Rules.{rules}
+use Rattle.image_text.proofs.put_absent.Goals as goal
+
+pub returns : goal.returns
+returns c = absent_is _ _ _ c.put_byte-next.ensures c.put_byte.ensures

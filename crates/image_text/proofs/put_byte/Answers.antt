@@ -1,0 +1,9 @@
+use Rattle.image_text.specs.Laws.Text.{put_inside, put_outside}
+use borrow.Author.Rules.{rules}
+use Rattle.image_text.proofs.put_byte.Goals as goal
+
+pub returns-then-at-buffer : goal.returns-then-at-buffer
+returns-then-at-buffer c = put_inside _ _ _ c.if-at-buffer.true
+
+pub returns : goal.returns
+returns c = put_outside _ _ _ c.if-at-buffer.false

@@ -1,0 +1,6 @@
+use Rattle.image_text.specs.Laws.Lines.{access_some}
+use borrow.Author.Rules.{rules}
+use Rattle.image_text.proofs.undefined_identifier.Goals as goal
+
+pub returns : goal.returns
+returns c = access_some _ c.if-access-eq0.false

@@ -1,0 +1,14 @@
+use borrow.Author.Rules.{rules}
+use native.Mathlib.Omega.{arith}
+use mathlib.Core.Path.{◌≡◌, refl, ◌∙◌}
+use Prim.Native.Nat.{ℕ, ◌-◌, ◌<◌}
+use lib.ListN.{length, get_or}
+use Rattle.def_image.specs.Layout.{word, words_of}
+use Rattle.image_words.specs.Laws.Load.{load_more, load_end}
+use Rattle.image_words.proofs.load_words.Given as goal
+
+abbrev pub invariant-loop-k : goal.invariant-loop-k
+invariant-loop-k l = (length l.words ≡ length l.initial.words) × ((j : ℕ) → j < l.k → get_or l.words j 0 ≡ word (words_of l.bytes) j)
+
+abbrev pub decreases-loop-k : goal.decreases-loop-k
+decreases-loop-k l = length l.words - l.k

@@ -1,0 +1,7 @@
+use Prim.Native.Nat.{◌-◌}
+use Rattle.lent_context.specs.Laws.Code.{access_is}
+use borrow.Author.Rules.{rules}
+use Rattle.lent_context.proofs.access_span.Goals as goal
+
+pub returns : goal.returns
+returns c = access_is _ _ _ _ _ _ c.wide32.ensures c.field-start.ensures c.wide32-2.ensures c.field-end.ensures

@@ -1,0 +1,7 @@
+use Prim.Native.Nat.{◌-◌}
+use Rattle.lent_context.specs.Laws.Code.{hoisted_is}
+use borrow.Author.Rules.{rules}
+use Rattle.lent_context.proofs.is_hoisted.Goals as goal
+
+pub returns : goal.returns
+returns c = hoisted_is _ _ _ _ c.wide32.ensures c.field.ensures

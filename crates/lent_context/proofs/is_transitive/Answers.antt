@@ -1,0 +1,7 @@
+use Prim.Native.Nat.{◌-◌}
+use Rattle.lent_context.specs.Laws.Code.{transitive_is}
+use borrow.Author.Rules.{rules}
+use Rattle.lent_context.proofs.is_transitive.Goals as goal
+
+pub returns : goal.returns
+returns c = transitive_is _ _ c.get32.ensures

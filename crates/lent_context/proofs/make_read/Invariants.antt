@@ -1,0 +1,15 @@
+use borrow.Author.Rules.{rules}
+use mathlib.Core.Path.{◌≡◌, refl, ◌∙◌}
+use Prim.Native.Nat.{◌-◌}
+use lib.ListN.{length}
+use Rattle.lent_context.specs.Lent.{read_places}
+use Rattle.lent_context.specs.Laws.Code.{reads_more, reads_none}
+use Rattle.lent_context.proofs.make_read.Given as goal
+
+abbrev pub invariant-loop-k : goal.invariant-loop-k
+invariant-loop-k l =
+    (length l.context ≡ length l.initial.context)
+    × (read_places l.f l.i l.initial.k (l.n - l.initial.k) l.initial.context ≡ read_places l.f l.i l.k (l.n - l.k) l.context)
+
+abbrev pub decreases-loop-k : goal.decreases-loop-k
+decreases-loop-k l = l.n - l.k

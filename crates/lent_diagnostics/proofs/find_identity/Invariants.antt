@@ -1,0 +1,13 @@
+use borrow.Author.Rules.{rules}
+use mathlib.Core.Path.{◌≡◌, refl, ◌∙◌}
+use Prim.Native.Nat.{◌-◌}
+use Rattle.lent_context.specs.Lent.{diagnostics_in}
+use Rattle.def_transfer.specs.Pure.{find_identity as first_identity}
+use Rattle.lent_diagnostics.specs.Laws.Diagnostic.{identity_passed, identity_found, identity_nowhere}
+use Rattle.lent_diagnostics.proofs.find_identity.Given as goal
+
+abbrev pub invariant-loop-k : goal.invariant-loop-k
+invariant-loop-k l = first_identity (diagnostics_in l.context l.initial.k (l.n - l.initial.k)) l.d ≡ first_identity (diagnostics_in l.context l.k (l.n - l.k)) l.d
+
+abbrev pub decreases-loop-k : goal.decreases-loop-k
+decreases-loop-k l = l.n - l.k

@@ -1,0 +1,17 @@
+use borrow.Author.Rules.{rules}
+use native.Mathlib.Omega.{arith}
+use Prim.Native.Nat.{◌-◌, ◌≤◌}
+use mathlib.Core.Path.{◌≡◌, refl, ap, ◌∙◌}
+use lib.ListN.{length}
+use Rattle.lent_tables.specs.Words.{put_places, places_in}
+use Rattle.lent_tables.specs.Laws.Word.{place_length}
+use Rattle.lent_effects.specs.Records.{captures_of}
+use Rattle.lent_effects.specs.Laws.Capture.{put_start, put_more, put_none}
+use Rattle.lent_layout.specs.Layout.{one_run}
+use Rattle.lent_effects.proofs.put_captures.Given as goal
+
+abbrev pub invariant-loop-k : goal.invariant-loop-k
+invariant-loop-k l = (l.k ≤ l.n) × (put_places l.t l.xs l.i 18 l.k (places_in one_run l.captures 0 1 l.k (l.n - l.k)) ≡ put_places l.t l.initial.xs l.i 18 0 (captures_of l.captures)) × (length l.xs ≡ length l.initial.xs)
+
+abbrev pub decreases-loop-k : goal.decreases-loop-k
+decreases-loop-k l = l.n - l.k

@@ -1,0 +1,6 @@
+-- `lent_effects::put_one` meets its contract: two writes. Assumes nothing.
+use borrow.Author.Rules.{rules}
+use Rattle.lent_effects.proofs.put_one.Goals as goal
+
+pub returns : goal.returns
+returns c = cc

@@ -1,0 +1,14 @@
+use borrow.Author.Rules.{rules}
+use native.Mathlib.Omega.{arith}
+use Prim.Native.Nat.{◌-◌, ◌≤◌}
+use mathlib.Core.Path.{◌≡◌, sym, ◌∙◌}
+use Rattle.base_search.specs.Comparings.{compare_lists}
+use Rattle.lent_keys.specs.KeyRecords.{numbers_in}
+use Rattle.lent_key_order.specs.Laws.Runs.{left, left_all, second_done, past_both, one_less, one_more_is, one_same, first_done, both_done}
+use Rattle.lent_key_order.proofs.compare_runs.Given as goal
+
+abbrev pub invariant-loop-k : goal.invariant-loop-k
+invariant-loop-k l = (l.k ≤ l.n) × (compare_lists (numbers_in l.t l.xs l.i l.w l.s 0 l.n) (numbers_in l.u l.ys l.j l.v l.r 0 l.m) ≡ left l.t l.xs l.i l.w l.s l.u l.ys l.j l.v l.r l.k l.n l.m)
+
+abbrev pub decreases-loop-k : goal.decreases-loop-k
+decreases-loop-k l = l.n - l.k

@@ -1,0 +1,30 @@
+-- `lent_keys::put_identifiers` meets its contract: each turn writes one of the identifiers that are left. Assumes nothing.
+use borrow.Author.Rules.{rules}
+use native.Mathlib.Omega.{arith}
+use Prim.Native.Nat.{◌-◌, ◌≤◌}
+use mathlib.Core.Path.{◌≡◌, refl, ap, ◌∙◌}
+use lib.ListN.{length}
+use Rattle.lent_tables.specs.Laws.Word.{put_length}
+use Rattle.lent_keys.specs.KeyRecords.{numbers_in, put_numbers}
+use Rattle.lent_keys.specs.Laws.KeyRecord.{write_start, write_more, write_none}
+use Rattle.lent_layout.specs.Layout.{one_run}
+use Rattle.lent_keys.proofs.put_identifiers.Goals as goal
+
+pub loop-k-init : goal.loop-k-init
+loop-k-init c = (omega arith, write_start _ _ _ _ _, refl)
+
+pub overflow_add-wide32 : goal.overflow_add-wide32
+overflow_add-wide32 c = omega arith
+
+pub overflow_add-k : goal.overflow_add-k
+overflow_add-k c = omega arith
+
+pub loop-k-smaller : goal.loop-k-smaller
+loop-k-smaller c = omega arith
+
+pub loop-k-preserved : goal.loop-k-preserved
+loop-k-preserved c =
+    (omega arith, write_more _ _ _ _ _ _ _ _ _ c.loop-k-test.true c.number_in-x.ensures c.wide32.ensures c.put_field.ensures ∙ c.loop-k.invariant.1, ap length c.put_field.ensures ∙ put_length _ _ _ _ _ ∙ c.loop-k.invariant.2)
+
+pub returns : goal.returns
+returns c = write_none _ _ _ _ _ _ (omega arith) ∙ c.loop-k.invariant.1

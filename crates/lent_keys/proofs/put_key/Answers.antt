@@ -1,0 +1,8 @@
+-- `lent_keys::put_key` meets its contract: the head, the count and the identifiers. Assumes nothing.
+use Rattle.lent_keys.specs.Laws.KeyRecord.{writes_key}
+use borrow.Author.Rules.{rules}
+use Rattle.lent_keys.proofs.put_key.Goals as goal
+
+pub returns : goal.returns
+returns c =
+    writes_key _ _ _ _ _ _ c.args.key _ _ _ c.field.ensures c.taken-n.ensures c.put_head.ensures c.put_field.ensures c.put_identifiers.ensures

@@ -1,0 +1,6 @@
+use Rattle.lent_context.specs.Laws.Search.{keys_counted}
+use borrow.Author.Rules.{rules}
+use Rattle.lent_links.proofs.key_count.Goals as goal
+
+pub returns : goal.returns
+returns c = keys_counted _ _ c.get32.ensures

@@ -1,0 +1,14 @@
+use borrow.Author.Rules.{rules}
+use native.Mathlib.Omega.{arith}
+use mathlib.Core.Path.{◌≡◌, sym, ◌∙◌}
+use Prim.Native.Nat.{ℕ, ◌-◌, ◌<◌}
+use lib.ListN.{get_or}
+use borrow.Author.Count.{below_more, below_none}
+use Rattle.lent_sets.specs.Laws.Code.{empty_yes, empty_no}
+use Rattle.lent_members.proofs.is_empty.Given as goal
+
+abbrev pub invariant-loop-w : goal.invariant-loop-w
+invariant-loop-w l = (k : ℕ) → k < l.w → get_or l.acc k 0 ≡ 0
+
+abbrev pub decreases-loop-w : goal.decreases-loop-w
+decreases-loop-w l = 16 - l.w

@@ -1,0 +1,28 @@
+use borrow.Author.Rules.{rules}
+use Prim.Native.Nat.{ℕ, ◌-◌}
+use native.Mathlib.Omega.{arith}
+use mathlib.Core.Path.{◌≡◌, refl, ◌∙◌}
+use lib.ListN.{length}
+use Rattle.lent_order.specs.Order.{moved_up}
+use Rattle.lent_order.specs.Laws.Insert.{put_long, moves, moved_all}
+use Rattle.lent_order.proofs.insert.Goals as goal
+
+pub loop-k-init : goal.loop-k-init
+loop-k-init c = (refl, refl)
+
+pub overflow_sub-k : goal.overflow_sub-k
+overflow_sub-k c = omega arith
+
+pub overflow_sub-k-in-loop-k : goal.overflow_sub-k-in-loop-k
+overflow_sub-k-in-loop-k c = omega arith
+
+pub loop-k-smaller : goal.loop-k-smaller
+loop-k-smaller c = omega arith
+
+pub loop-k-preserved : goal.loop-k-preserved
+loop-k-preserved c =
+    (put_long _ _ _ _ _ _ c.put_field.ensures c.loop-k.invariant.0, c.loop-k.invariant.1 ∙ moves _ _ _ _ _ _ _ _ c.loop-k-test.true c.wide32.ensures c.field-x.ensures c.wide32-in-loop-k.ensures c.put_field.ensures)
+
+pub returns : goal.returns
+returns c =
+    moved_all _ _ _ _ _ _ _ _ _ c.loop-k-test.false c.loop-k.invariant.1 c.wide32-2.ensures c.put_field-2.ensures

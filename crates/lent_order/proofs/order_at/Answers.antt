@@ -1,0 +1,6 @@
+use borrow.Author.Rules.{rules}
+use Rattle.lent_order.specs.Laws.Insert.{order_read}
+use Rattle.lent_order.proofs.order_at.Goals as goal
+
+pub returns : goal.returns
+returns c = order_read _ _ _ _ _ c.wide32.ensures c.field.ensures

@@ -1,0 +1,11 @@
+use Rattle.lent_work.specs.Laws.Mark.{marked_past, mark_in}
+use Rattle.lent_sets.specs.Laws.Bit.{one_shl}
+use native.Mathlib.Nat.{mod-lt, zero-lt-suc}
+use borrow.Author.Rules.{rules}
+use Rattle.lent_work.proofs.mark.Goals as goal
+
+pub returns-then-i-ge512 : goal.returns-then-i-ge512
+returns-then-i-ge512 c = marked_past _ _ c.if-i-ge512.true
+
+pub returns : goal.returns
+returns c = mark_in _ _ _ _ c.if-i-ge512.false c.wide32-w.ensures (one_shl _ (mod-lt _ (zero-lt-suc 63)))

@@ -1,0 +1,7 @@
+use Rattle.refuse_records.specs.Laws.Accepting.{effects_are}
+use borrow.Author.Rules.{rules}
+use Rattle.refuse_context.proofs.effects_class.Goals as goal
+
+pub returns : goal.returns
+returns c =
+    effects_are _ _ _ _ _ _ _ _ _ _ c.interned_count.ensures c.wide32-n.ensures c.effect_records-records.ensures c.stray_after-after.ensures c.order_class.ensures c.lower.ensures c.lower-2.ensures

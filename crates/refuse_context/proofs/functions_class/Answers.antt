@@ -1,0 +1,7 @@
+use Rattle.refuse_records.specs.Laws.Accepting.{functions_are}
+use borrow.Author.Rules.{rules}
+use Rattle.refuse_context.proofs.functions_class.Goals as goal
+
+pub returns : goal.returns
+returns c =
+    functions_are _ _ _ _ _ _ _ _ _ c.wide32-n.ensures c.function_records-records.ensures c.stray_after-after.ensures c.stray_after.ensures c.lower.ensures c.lower-2.ensures

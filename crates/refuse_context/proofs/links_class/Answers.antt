@@ -1,0 +1,6 @@
+use Rattle.refuse_records.specs.Laws.Accepting.{links_are}
+use borrow.Author.Rules.{rules}
+use Rattle.refuse_context.proofs.links_class.Goals as goal
+
+pub returns : goal.returns
+returns c = links_are _ _ _ _ _ _ _ _ c.handed_out.ensures c.wide32-n.ensures c.link_records-records.ensures c.stray_after.ensures c.lower.ensures

@@ -1,0 +1,17 @@
+use native.Mathlib.Omega.{arith}
+use Rattle.lent_context.specs.Lent.{key_here}
+use Rattle.lent_layout.specs.Layout as Layout
+use Rattle.lent_order.specs.Order.{order_at}
+use Rattle.refuse_order.specs.Laws.Order.{last_place, next_place}
+use borrow.Author.Rules.{rules}
+use Rattle.refuse_key_order.proofs.key_descends.Goals as goal
+
+pub returns-then-n-eq0 : goal.returns-then-n-eq0
+returns-then-n-eq0 c = last_place (key_here c.args.context.now) (order_at Layout.key_order c.args.context.now) c.args.n c.args.j (omega arith)
+
+pub returns-then-j-n : goal.returns-then-j-n
+returns-then-j-n c = last_place (key_here c.args.context.now) (order_at Layout.key_order c.args.context.now) c.args.n c.args.j (omega arith)
+
+pub returns : goal.returns
+returns c =
+    next_place (key_here c.args.context.now) (order_at Layout.key_order c.args.context.now) c.args.n c.args.j _ _ _ _ _ (omega arith) c.order_at-a.ensures (omega arith) c.order_at-b.ensures c.compare_cached.ensures c.is_less.ensures

@@ -1,0 +1,18 @@
+use borrow.Author.Rules.{rules}
+use mathlib.Core.Path.{◌≡◌, refl, ◌∙◌}
+use Prim.Native.Nat.{max, ◌-◌}
+use Rattle.lent_context.specs.Lent.{diagnostics_in}
+use Rattle.def_transfer.specs.Pure.{identities}
+use Rattle.lent_diagnostics.specs.Laws.Diagnostic.{identities_more}
+use Rattle.refuse_repeats.specs.Laws.Diagnostic.{identities_end}
+use Rattle.refuse_repeats.proofs.identities_before.Goals as goal
+
+pub loop-k-init : goal.loop-k-init
+loop-k-init c = refl
+
+pub loop-k-preserved : goal.loop-k-preserved
+loop-k-preserved c =
+    c.loop-k.invariant ∙ identities_more _ _ _ _ _ _ _ c.loop-k-test.true c.wide32.ensures c.field-identity.ensures c.larger-most.ensures
+
+pub returns : goal.returns
+returns c = identities_end _ _ _ _ c.loop-k-test.false c.loop-k.invariant

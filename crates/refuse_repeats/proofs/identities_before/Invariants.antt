@@ -1,0 +1,14 @@
+use borrow.Author.Rules.{rules}
+use mathlib.Core.Path.{◌≡◌, refl, ◌∙◌}
+use Prim.Native.Nat.{max, ◌-◌}
+use Rattle.lent_context.specs.Lent.{diagnostics_in}
+use Rattle.def_transfer.specs.Pure.{identities}
+use Rattle.lent_diagnostics.specs.Laws.Diagnostic.{identities_more}
+use Rattle.refuse_repeats.specs.Laws.Diagnostic.{identities_end}
+use Rattle.refuse_repeats.proofs.identities_before.Given as goal
+
+abbrev pub invariant-loop-k : goal.invariant-loop-k
+invariant-loop-k l = max l.initial.most (identities (diagnostics_in l.context l.initial.k (l.n - l.initial.k))) ≡ max l.most (identities (diagnostics_in l.context l.k (l.n - l.k)))
+
+abbrev pub decreases-loop-k : goal.decreases-loop-k
+decreases-loop-k l = l.n - l.k

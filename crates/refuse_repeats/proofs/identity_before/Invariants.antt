@@ -1,0 +1,14 @@
+use borrow.Author.Rules.{rules}
+use mathlib.Core.Path.{◌≡◌, refl, ◌∙◌}
+use Prim.Native.Nat.{◌-◌}
+use Rattle.lent_context.specs.Lent.{diagnostics_in}
+use Rattle.def_transfer.specs.Pure.{find_identity}
+use Rattle.lent_diagnostics.specs.Laws.Diagnostic.{identity_passed}
+use Rattle.refuse_repeats.specs.Laws.Diagnostic.{identity_found, identity_nowhere}
+use Rattle.refuse_repeats.proofs.identity_before.Given as goal
+
+abbrev pub invariant-loop-k : goal.invariant-loop-k
+invariant-loop-k l = find_identity (diagnostics_in l.context l.initial.k (l.n - l.initial.k)) l.d ≡ find_identity (diagnostics_in l.context l.k (l.n - l.k)) l.d
+
+abbrev pub decreases-loop-k : goal.decreases-loop-k
+decreases-loop-k l = l.n - l.k

@@ -1,0 +1,22 @@
+use borrow.Author.Rules.{rules}
+use mathlib.Core.Path.{◌≡◌, refl, ◌∙◌}
+use Prim.Native.Nat.{◌-◌}
+use Rattle.lent_context.specs.Lent.{diagnostics_in}
+use Rattle.def_transfer.specs.Pure.{find_instance}
+use Rattle.lent_diagnostics.specs.Laws.Diagnostic.{instance_passed}
+use Rattle.refuse_repeats.specs.Laws.Diagnostic.{instance_found, instance_nowhere}
+use Rattle.refuse_repeats.proofs.instance_before.Goals as goal
+
+pub loop-k-init : goal.loop-k-init
+loop-k-init c = refl
+
+pub returns-then-is_instance : goal.returns-then-is_instance
+returns-then-is_instance c =
+    instance_found _ _ _ _ _ c.loop-k.invariant _ _ c.loop-k-test.true c.diagnostic_in.ensures c.is_instance.ensures c.if-is_instance.true
+
+pub loop-k-preserved : goal.loop-k-preserved
+loop-k-preserved c =
+    c.loop-k.invariant ∙ instance_passed _ _ _ _ _ _ _ c.loop-k-test.true c.diagnostic_in.ensures c.is_instance.ensures c.if-is_instance.false
+
+pub returns : goal.returns
+returns c = instance_nowhere _ _ _ _ _ c.loop-k.invariant c.loop-k-test.false

@@ -1,0 +1,16 @@
+use borrow.Author.Rules.{rules}
+use mathlib.Core.Path.{◌≡◌}
+use Prim.Native.Nat.{◌-◌, ◌≤◌}
+use native.Mathlib.Omega.{arith}
+use Rattle.lent_layout.specs.Layout as Layout
+use Rattle.refuse_words.specs.Classes.{words_below}
+use Rattle.refuse_words.specs.Laws.Class.{words_none, words_more, words_end}
+use Rattle.refuse_tables.specs.TableClasses.{identifier_limit}
+use Rattle.refuse_tables.specs.Laws.Table.{identifier_is}
+use Rattle.refuse_tables.proofs.identifier_class.Given as goal
+
+abbrev pub invariant-loop-w : goal.invariant-loop-w
+invariant-loop-w l = (l.w ≤ 4) × (l.worst ≡ words_below Layout.identifiers l.context (identifier_limit l.flags) l.i l.w)
+
+abbrev pub decreases-loop-w : goal.decreases-loop-w
+decreases-loop-w l = 4 - l.w

@@ -1,0 +1,20 @@
+use borrow.Author.Rules.{rules}
+use mathlib.Core.Path.{◌≡◌}
+use Prim.Native.Nat.{◌-◌, ◌≤◌}
+use native.Mathlib.Omega.{arith}
+use Rattle.lent_layout.specs.Layout as Layout
+use Rattle.refuse_words.specs.Classes.{words_below}
+use Rattle.refuse_words.specs.Laws.Class.{words_none, words_more, words_end}
+use Rattle.refuse_tables.specs.TableClasses.{link_limit}
+use Rattle.refuse_tables.specs.Laws.Table.{link_is}
+use Rattle.refuse_tables.proofs.link_class.Goals as goal
+
+pub loop-w-init : goal.loop-w-init
+loop-w-init c = (omega arith, words_none _ _ _ _)
+
+pub loop-w-preserved : goal.loop-w-preserved
+loop-w-preserved c =
+    (omega arith, words_more _ _ _ _ _ _ _ _ _ _ c.loop-w.invariant.1 c.link_limit.ensures c.field.ensures c.word_class.ensures c.lower-worst.ensures)
+
+pub returns : goal.returns
+returns c = link_is _ _ _ _ _ c.field-flag.ensures (words_end _ _ _ _ _ _ c.loop-w.invariant.0 c.loop-w-test.false c.loop-w.invariant.1)

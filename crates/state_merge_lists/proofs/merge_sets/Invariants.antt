@@ -1,0 +1,14 @@
+use borrow.Author.Rules.{rules}
+use mathlib.Core.Path.{◌≡◌, refl, ap, ◌∙◌}
+use Prim.Native.Nat.{ℕ, ◌-◌}
+use lib.ListN.{length}
+use Rattle.lent_sets.specs.Rows.{upto}
+use Rattle.state_adds.specs.Lists.{merge_set, merge_sets}
+use Rattle.state_adds.specs.Laws.Code.{loop_start, loop_turn, loop_end}
+use Rattle.state_merge_lists.proofs.merge_sets.Given as goal
+
+abbrev pub invariant-loop-i : goal.invariant-loop-i
+invariant-loop-i l = (length l.sets ≡ length l.initial.sets) × (merge_sets l.n l.initial.sets l.other ≡ upto (merge_set l.other) (l.n - l.i) l.i l.sets)
+
+abbrev pub decreases-loop-i : goal.decreases-loop-i
+decreases-loop-i l = l.n - l.i
