@@ -1,4 +1,4 @@
-use Rattle.call_apply_lent.specs.Laws.Answer.{answered}
+use Rattle.call_apply_lent.proofs.Laws.Answer.{answered}
 use Rattle.call_apply_lent.proofs.apply.Goals as goal
 
 pub returns : goal.returns

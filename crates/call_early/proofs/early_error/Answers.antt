@@ -1,7 +1,5 @@
 -- `call_early::early_error` meets its contract: one law for each of its two ways. Assumes nothing.
-use Rattle.base_tests.specs.Laws.Bool.{not_true, not-false}
-use Rattle.call_parts.specs.Laws.Instruction.{early_far, early_near}
-use borrow.Author.Rules.{rules}
+use Rattle.call_parts.proofs.Laws.Instruction.{early_far, early_near}
 use Rattle.call_early.proofs.early_error.Goals as goal
 
 pub returns-then-not-is_near : goal.returns-then-not-is_near

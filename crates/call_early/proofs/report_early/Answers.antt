@@ -1,7 +1,5 @@
 -- `call_early::report_early` meets its contract: one law for each of its four ways. Assumes nothing.
-use Rattle.base_tests.specs.Laws.Bool.{not_true, not-false}
-use Rattle.call_parts.specs.Laws.Instruction.{report_undefined, report_other, report_refused, report_lists}
-use borrow.Author.Rules.{rules}
+use Rattle.call_parts.proofs.Laws.Instruction.{report_undefined, report_other, report_refused, report_lists}
 use Rattle.call_early.proofs.report_early.Goals as goal
 
 pub returns-then-not-is_defined : goal.returns-then-not-is_defined

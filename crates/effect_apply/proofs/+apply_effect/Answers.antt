@@ -1,16 +1,7 @@
-use borrow.Author.Rules.{rules}
-use native.Mathlib.Omega.{arith}
-use mathlib.Core.Path.{◌≡◌, refl, ◌∙◌}
-use Prim.Native.Nat.{◌-◌, ◌+◌, ◌*◌, ℕ, ◌<◌}
-use lib.ListN.{length}
+use mathlib.Core.Path.{refl, ◌∙◌}
 use mathlib.Core.List.{[]}
-use Rattle.def_transfer.specs.Monad.{each}
 use Rattle.def_transfer.specs.Step as Text
-use Rattle.def_effects.specs.Effects as Effects
-use Rattle.lent_tables.specs.Words.{places_in}
-use Rattle.lent_world.specs.World.{world}
-use Rattle.effect_apply.specs.Laws.Step.{step_none, step_refused, step_acts, arm_plain, arm_mutating, arm_flowing, arm_assigning, arm_from, arm_function, follow_nothing, follow_itself, follow_derived, part_stops, part_goes, created_follows, assign_plain, assign_stops, assign_goes, captures_start, captures_next, captures_stop, captures_end, chosen_copied}
-use Rattle.lent_layout.specs.Layout.{one_run}
+use Rattle.effect_apply.proofs.Laws.Step.{step_none, step_refused, step_acts, arm_plain, arm_mutating, arm_flowing, arm_assigning, arm_from, arm_function, follow_nothing, follow_itself, follow_derived, part_stops, part_goes, created_follows, assign_plain, assign_stops, assign_goes, captures_start, captures_next, captures_stop, captures_end, chosen_copied}
 use Rattle.effect_apply.proofs.+apply_effect.Goals as goal
 
 pub assigning-returns-then-b-ne0 : goal.assigning-returns-then-b-ne0

@@ -1,6 +1,4 @@
-use Rattle.base_tests.specs.Laws.Bool.{not_true, not-false}
-use Rattle.effect_flow.specs.Laws.Flow.{refuses_not, refuses_marked, refuses_unmarked}
-use borrow.Author.Rules.{rules}
+use Rattle.effect_flow.proofs.Laws.Flow.{refuses_not, refuses_marked, refuses_unmarked}
 use Rattle.effect_flow.proofs.refuses_flow.Goals as goal
 
 pub returns-then-not-alias : goal.returns-then-not-alias

@@ -1,7 +1,4 @@
-use Prim.Native.Nat.{◌-◌}
-use Rattle.base_tests.specs.Laws.Bool.{not_true, not-false}
-use Rattle.effect_freeze.specs.Laws.Freeze.{freezing_not, freezing_plain, freezing_walks}
-use borrow.Author.Rules.{rules}
+use Rattle.effect_freeze.proofs.Laws.Freeze.{freezing_not, freezing_plain, freezing_walks}
 use Rattle.effect_freeze.proofs.freezing.Goals as goal
 
 pub returns-then-not-freeze : goal.returns-then-not-freeze

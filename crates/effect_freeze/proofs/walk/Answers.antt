@@ -1,11 +1,8 @@
-use borrow.Author.Rules.{rules}
 use native.Mathlib.Omega.{arith}
-use mathlib.Core.Path.{◌≡◌, refl, ◌∙◌}
-use Prim.Native.Nat.{◌-◌, ◌+◌}
-use lib.ListN.{length}
-use Rattle.base_tests.specs.Laws.Bool.{not_true, not-false}
-use Rattle.lent_sets.specs.Laws.Row.{next_ge}
-use Rattle.effect_freeze.specs.Laws.Freeze.{walk_none, Walks, walks_start, walks_next, walks_refused, walks_end}
+use mathlib.Core.Path.{refl, ◌∙◌}
+use Prim.Native.Nat.{◌+◌}
+use Rattle.lent_sets.proofs.Laws.Row.{next_ge}
+use Rattle.effect_freeze.proofs.Laws.Freeze.{walk_none, walks_start, walks_next, walks_refused, walks_end}
 use Rattle.effect_freeze.proofs.walk.Goals as goal
 
 pub returns-then-not-is_defined : goal.returns-then-not-is_defined

@@ -1,6 +1,4 @@
-use Rattle.base_tests.specs.Laws.Bool.{not_true, not-false}
-use Rattle.effect_function_context.specs.Laws.Function.{update_other, update_undefined, update_copied, update_frozen, update_kept}
-use borrow.Author.Rules.{rules}
+use Rattle.effect_function_context.proofs.Laws.Function.{update_other, update_undefined, update_copied, update_frozen, update_kept}
 use Rattle.effect_function_context.proofs.update_place.Goals as goal
 
 pub returns-then-p-ne3 : goal.returns-then-p-ne3

@@ -1,7 +1,4 @@
-use Prim.Native.Nat.{◌-◌}
-use Rattle.base_tests.specs.Laws.Bool.{not_true, not-false}
-use Rattle.effect_parts.specs.Laws.Part.{written_not, written_is}
-use borrow.Author.Rules.{rules}
+use Rattle.effect_parts.proofs.Laws.Part.{written_not, written_is}
 use Rattle.effect_parts.proofs.is_written.Goals as goal
 
 pub returns-then-not-is_defined : goal.returns-then-not-is_defined

@@ -1,12 +1,7 @@
-use borrow.Author.Rules.{rules}
-use native.Mathlib.Omega.{arith}
-use mathlib.Core.Path.{◌≡◌, refl, ap, ◌∙◌}
-use mathlib.Core.Logic.{⊎_elim}
-use Prim.Native.Nat.{◌-◌, ◌+◌, ℕ, ◌<◌}
+use mathlib.Core.Path.{◌≡◌}
+use Prim.Native.Nat.{◌-◌}
 use lib.ListN.{length}
-use Rattle.lent_sets.specs.Laws.Row.{next_ge}
-use Rattle.lent_keys.specs.KeyRecords.{option_of}
-use Rattle.effect_walk.specs.Laws.Walk.{Runs, RunsRow, enters_none, enters_plain, runs_start, runs_end, runs_shut, row_start, runs_open, runs_refused, row_next, row_refused}
+use Rattle.effect_walk.proofs.Laws.Walk.{Runs, RunsRow}
 use Rattle.effect_walk.proofs.+freeze_function_captures_transitive.Given as goal
 
 abbrev pub invariant-loop-m : goal.invariant-loop-m

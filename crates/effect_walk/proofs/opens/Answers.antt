@@ -1,7 +1,4 @@
-use Prim.Native.Nat.{◌-◌}
-use Rattle.base_tests.specs.Laws.Bool.{not_true, not-false}
-use Rattle.effect_walk.specs.Laws.Walk.{opens_not, opens_is}
-use borrow.Author.Rules.{rules}
+use Rattle.effect_walk.proofs.Laws.Walk.{opens_not, opens_is}
 use Rattle.effect_walk.proofs.opens.Goals as goal
 
 pub returns-then-not-is_defined : goal.returns-then-not-is_defined

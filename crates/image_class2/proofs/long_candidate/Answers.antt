@@ -3,9 +3,7 @@ use mathlib.Core.Path.{◌∙◌, ap}
 use Rattle.def_image.specs.Refusals.{long_candidate}
 use lib.Dec.{ltb}
 use Prim.Native.Nat.{ℕ}
-use Rattle.base_tests.specs.Laws.Chains.{and_at, and_on}
-use Rattle.base_tests.specs.Laws.Bool.{not-false, not_true}
-use borrow.Author.Rules.{rules}
+use Rattle.base_tests.proofs.Laws.Chains.{and_at, and_on}
 use Rattle.image_class2.proofs.long_candidate.Goals as goal
 
 pub returns-then-not-creates_function : goal.returns-then-not-creates_function

@@ -4,8 +4,7 @@ use Rattle.def_image.specs.Refusals.{are_flags, bad_identifier}
 use lib.Dec.{ltb}
 use mathlib.Core.Bool.{not}
 use Prim.Native.Nat.{ℕ}
-use Rattle.base_tests.specs.Laws.Chains.{or_at, or_on}
-use borrow.Author.Rules.{rules}
+use Rattle.base_tests.proofs.Laws.Chains.{or_at, or_on}
 use Rattle.image_class3.proofs.bad_identifier.Goals as goal
 
 pub returns-then-not-are_flags : goal.returns-then-not-are_flags

@@ -3,8 +3,7 @@ use mathlib.Core.Path.{◌∙◌, ap}
 use Rattle.def_image.specs.Refusals.{bad_pair, is_in}
 use mathlib.Core.Bool.{not}
 use Prim.Native.Nat.{ℕ}
-use Rattle.base_tests.specs.Laws.Chains.{or_at, or_on}
-use borrow.Author.Rules.{rules}
+use Rattle.base_tests.proofs.Laws.Chains.{or_at, or_on}
 use Rattle.image_class3.proofs.bad_pair.Goals as goal
 
 pub returns-then-not-is_in : goal.returns-then-not-is_in

@@ -4,8 +4,7 @@ use Rattle.def_image.specs.Refusals.{bad_place, is_in}
 use lib.Dec.{ltb}
 use mathlib.Core.Bool.{not}
 use Prim.Native.Nat.{ℕ}
-use Rattle.base_tests.specs.Laws.Chains.{or_at, or_on}
-use borrow.Author.Rules.{rules}
+use Rattle.base_tests.proofs.Laws.Chains.{or_at, or_on}
 use Rattle.image_class3.proofs.bad_place.Goals as goal
 
 pub returns-then-not-is_in : goal.returns-then-not-is_in

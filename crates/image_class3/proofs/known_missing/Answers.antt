@@ -3,9 +3,7 @@ use Prim.Native.Nat.{◌%◌, ℕ}
 use mathlib.Core.Path.{◌∙◌, ap}
 use lib.Dec.{eqb}
 use mathlib.Core.Bool.{not}
-use Rattle.base_tests.specs.Laws.Chains.{and_at, and_on}
-use Rattle.base_tests.specs.Laws.Bool.{not-false, not_true}
-use borrow.Author.Rules.{rules}
+use Rattle.base_tests.proofs.Laws.Chains.{and_at, and_on}
 use Rattle.image_class3.proofs.known_missing.Goals as goal
 
 pub returns-then-not-needs_known : goal.returns-then-not-needs_known

@@ -4,9 +4,7 @@ use Rattle.def_image.specs.Refusals.{bad_word, limit_of}
 use lib.Dec.{ltb}
 use mathlib.Core.Bool.{not}
 use Prim.Native.Nat.{ℕ}
-use Rattle.base_tests.specs.Laws.Chains.{and_at, and_on}
-use Rattle.base_tests.specs.Laws.Bool.{not-false, not_true}
-use borrow.Author.Rules.{rules}
+use Rattle.base_tests.proofs.Laws.Chains.{and_at, and_on}
 use Rattle.image_class3_candidates.proofs.bad_word.Goals as goal
 
 pub returns-then-not-uses : goal.returns-then-not-uses

@@ -2,9 +2,7 @@
 use mathlib.Core.Path.{◌∙◌, ap₂}
 use Rattle.def_image.specs.Refusals.{passes_end}
 use Prim.Native.Nat.{ℕ}
-use Rattle.base_tests.specs.Laws.Chains.{and_at, and_on}
-use Rattle.base_tests.specs.Laws.Bool.{not-false, not_true}
-use borrow.Author.Rules.{rules}
+use Rattle.base_tests.proofs.Laws.Chains.{and_at, and_on}
 use Rattle.image_class3_candidates.proofs.captures_pass_end.Goals as goal
 
 pub returns-then-not-creates_function : goal.returns-then-not-creates_function

@@ -3,9 +3,7 @@ use mathlib.Core.Path.{◌∙◌, ap}
 use lib.Dec.{eqb}
 use mathlib.Core.Bool.{not}
 use Prim.Native.Nat.{ℕ}
-use Rattle.base_tests.specs.Laws.Chains.{and_at, and_on}
-use Rattle.base_tests.specs.Laws.Bool.{not-false, not_true}
-use borrow.Author.Rules.{rules}
+use Rattle.base_tests.proofs.Laws.Chains.{and_at, and_on}
 use Rattle.image_class3_candidates.proofs.captures_used.Goals as goal
 
 pub returns-then-not-same : goal.returns-then-not-same

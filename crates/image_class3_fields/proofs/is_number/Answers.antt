@@ -1,8 +1,6 @@
 -- `image_class3_fields::is_number` meets its contract: the ways through it, one after the other. Assumes nothing.
 use Rattle.def_image.specs.Refusals.{is_number}
-use Rattle.base_tests.specs.Laws.Chains.{and_at, and_on}
-use Rattle.base_tests.specs.Laws.Bool.{not-false, not_true}
-use borrow.Author.Rules.{rules}
+use Rattle.base_tests.proofs.Laws.Chains.{and_at, and_on}
 use Rattle.image_class3_fields.proofs.is_number.Goals as goal
 
 pub returns-then-not-at_most : goal.returns-then-not-at_most

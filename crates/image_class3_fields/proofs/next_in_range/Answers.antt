@@ -2,9 +2,7 @@
 use mathlib.Core.Path.{◌∙◌, ap}
 use lib.Dec.{leb}
 use Prim.Native.Nat.{ℕ}
-use Rattle.base_tests.specs.Laws.Chains.{and_at, and_on}
-use Rattle.base_tests.specs.Laws.Bool.{not-false, not_true}
-use borrow.Author.Rules.{rules}
+use Rattle.base_tests.proofs.Laws.Chains.{and_at, and_on}
 use Rattle.image_class3_fields.proofs.next_in_range.Goals as goal
 
 pub returns-then-not-at_most : goal.returns-then-not-at_most

@@ -2,9 +2,7 @@
 use mathlib.Core.Path.{◌∙◌, ap}
 use lib.Dec.{eqb}
 use Prim.Native.Nat.{ℕ}
-use Rattle.base_tests.specs.Laws.Chains.{and_at, and_on}
-use Rattle.base_tests.specs.Laws.Bool.{not-false, not_true}
-use borrow.Author.Rules.{rules}
+use Rattle.base_tests.proofs.Laws.Chains.{and_at, and_on}
 use Rattle.image_class4.proofs.access_empty.Goals as goal
 
 pub returns-then-not-same : goal.returns-then-not-same

@@ -3,9 +3,7 @@ use mathlib.Core.Path.{◌∙◌, ap}
 use lib.Dec.{leb}
 use Rattle.def_image.specs.Refusals.{not_yet_fresh}
 use Prim.Native.Nat.{ℕ}
-use Rattle.base_tests.specs.Laws.Chains.{and_at, and_on}
-use Rattle.base_tests.specs.Laws.Bool.{not-false, not_true}
-use borrow.Author.Rules.{rules}
+use Rattle.base_tests.proofs.Laws.Chains.{and_at, and_on}
 use Rattle.image_class4_entries.proofs.not_yet_fresh.Goals as goal
 
 pub returns-then-not-is_fresh : goal.returns-then-not-is_fresh

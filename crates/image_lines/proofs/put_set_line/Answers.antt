@@ -1,10 +1,7 @@
 use mathlib.Core.Path.{refl, sym, ◌∙◌}
-use Prim.Native.Nat.{◌-◌}
-use borrow.Author.Rules.{rules}
 use native.Mathlib.Omega.{arith}
-use Rattle.image_text.specs.Laws.Loops.{set_absent, set_is}
-use Rattle.image_pieces.specs.Laws.Suffices.{set_suffices}
-use Rattle.base_tests.specs.Laws.Bool.{not_true, not-false}
+use Rattle.image_text.proofs.Laws.Loops.{set_absent, set_is}
+use Rattle.image_pieces.proofs.Laws.Suffices.{set_suffices}
 use Rattle.image_lines.proofs.put_set_line.Goals as goal
 
 pub returns-then-not-is_defined : goal.returns-then-not-is_defined

@@ -1,6 +1,5 @@
-use native.Mathlib.Omega.{arith}
 use mathlib.Core.Path.{refl}
-use Rattle.image_text.specs.Laws.Columns.{decimal_one, decimal_next}
+use Rattle.image_text.proofs.Laws.Columns.{decimal_one, decimal_next}
 use Rattle.image_text.proofs.+put_decimal.Goals as goal
 
 pub returns-then-n-lt10 : goal.returns-then-n-lt10

@@ -1,7 +1,6 @@
 use Rattle.std.specs.Prelude.{not}
 use Rattle.std.proofs.Common.{ap}
-use Rattle.lent_diagnostics.specs.Laws.Diagnostic.{access_differs, own_differs, access_labelled, own_labelled, none_labelled}
-use borrow.Author.Rules.{rules}
+use Rattle.lent_diagnostics.proofs.Laws.Diagnostic.{access_differs, own_differs, access_labelled, own_labelled, none_labelled}
 use Rattle.lent_diagnostics.proofs.same_labels.Goals as goal
 
 pub returns-then-not-same_span : goal.returns-then-not-same_span

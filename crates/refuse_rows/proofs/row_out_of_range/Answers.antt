@@ -1,8 +1,6 @@
 -- `refuse_rows::row_out_of_range` meets its contract: the next member from 512 + n on is below 1,024 just where some member is no number. Assumes nothing.
 use mathlib.Core.Path.{sym, ◌∙◌}
-use Rattle.base_tests.specs.Laws.Bool.{not_true, not-false}
-use Rattle.refuse_entries.specs.Laws.Row.{out_undefined, out_full, out_search}
-use borrow.Author.Rules.{rules}
+use Rattle.refuse_entries.proofs.Laws.Row.{out_undefined, out_full, out_search}
 use Rattle.refuse_rows.proofs.row_out_of_range.Goals as goal
 
 pub returns-then-not-is_defined : goal.returns-then-not-is_defined

@@ -1,8 +1,6 @@
 -- `refuse_rows::row_too_new` meets its contract: the next member from next on is below 512 just where some member is too new. Assumes nothing.
 use mathlib.Core.Path.{sym, ◌∙◌}
-use Rattle.base_tests.specs.Laws.Bool.{not_true, not-false}
-use Rattle.refuse_entries.specs.Laws.Row.{new_undefined, new_zero, new_search}
-use borrow.Author.Rules.{rules}
+use Rattle.refuse_entries.proofs.Laws.Row.{new_undefined, new_zero, new_search}
 use Rattle.refuse_rows.proofs.row_too_new.Goals as goal
 
 pub returns-then-not-is_defined : goal.returns-then-not-is_defined

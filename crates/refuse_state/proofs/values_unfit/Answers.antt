@@ -1,12 +1,11 @@
 -- `refuse_state::values_unfit` meets its contract. The loop's invariant: no word passed is unfit. The measure is the words that are left. Assumes nothing.
-use mathlib.Core.Path.{◌≡◌, sym, ap, ◌∙◌}
+use mathlib.Core.Path.{sym, ap, ◌∙◌}
 use mathlib.Core.Bool.{false}
-use borrow.Author.Rules.{rules}
 use native.Mathlib.Omega.{arith}
-use Prim.Native.Nat.{ℕ, ◌<◌, ◌-◌}
+use Prim.Native.Nat.{ℕ}
 use borrow.Author.Count.{below_more, below_none}
 use lib.ListN.{get_or}
-use Rattle.base_tests.specs.Laws.Below.{any_yes, any_no}
+use Rattle.base_tests.proofs.Laws.Below.{any_yes, any_no}
 use Rattle.refuse_entries.specs.Words.{word_unfit, values_unfit}
 use Rattle.refuse_state.proofs.values_unfit.Goals as goal
 

@@ -1,10 +1,8 @@
 -- `state_adds::adds_bits` meets its contract. The loop's invariant: each word passed of the first row has every bit of the second row's.
 -- The measure is the words that are left. Assumes nothing.
-use borrow.Author.Rules.{rules}
 use native.Mathlib.Omega.{arith}
-use Prim.Native.Nat.{ℕ, ◌<◌, ◌-◌}
 use borrow.Author.Count.{below_more, below_none}
-use Rattle.state_adds.specs.Laws.Code.{Covers, bits_same, bits_new, bits_none}
+use Rattle.state_adds.proofs.Laws.Code.{bits_same, bits_new, bits_none}
 use Rattle.state_adds.proofs.adds_bits.Goals as goal
 
 pub loop-w-init : goal.loop-w-init

@@ -1,10 +1,6 @@
 -- `state_adds::adds_sets` meets its contract. The loop's invariant: some set is added to exactly if one below `i` is.
 -- The measure is `i`. Assumes nothing.
-use borrow.Author.Rules.{rules}
-use mathlib.Core.Path.{◌≡◌}
-use Rattle.base_tests.specs.Tests.{any_below}
-use Rattle.state_adds.specs.Lists.{set_adds}
-use Rattle.state_adds.specs.Laws.Code.{any_found, any_next, any_end, rows_cut}
+use Rattle.state_adds.proofs.Laws.Code.{any_found, any_next, any_end, rows_cut}
 use Rattle.state_adds.proofs.adds_sets.Goals as goal
 
 pub loop-i-init : goal.loop-i-init

@@ -1,6 +1,5 @@
 -- `state_adds::adds_value` meets its contract, by the entries that it reads: what is absent adds nothing, and two values are compared. Assumes nothing.
-use Rattle.state_adds.specs.Laws.Code.{adds_absent, adds_new, adds_both}
-use borrow.Author.Rules.{rules}
+use Rattle.state_adds.proofs.Laws.Code.{adds_absent, adds_new, adds_both}
 use Rattle.state_adds.proofs.adds_value.Goals as goal
 
 pub returns-in-Absent : goal.returns-in-Absent

@@ -1,10 +1,7 @@
 -- `state_adds::adds_values` meets its contract. The loop's invariant: some value is added to exactly if one below `v` is.
 -- The measure is `v`. Assumes nothing.
-use borrow.Author.Rules.{rules}
-use mathlib.Core.Path.{◌≡◌, refl}
-use Rattle.base_tests.specs.Tests.{any_below}
-use Rattle.state_adds.specs.Lists.{value_adds}
-use Rattle.state_adds.specs.Laws.Code.{any_found, any_next, any_end}
+use mathlib.Core.Path.{refl}
+use Rattle.state_adds.proofs.Laws.Code.{any_found, any_next, any_end}
 use Rattle.state_adds.proofs.adds_values.Goals as goal
 
 pub loop-v-init : goal.loop-v-init

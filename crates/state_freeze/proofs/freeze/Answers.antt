@@ -1,9 +1,5 @@
 use mathlib.Core.Path.{sym, ◌∙◌}
-use Prim.Native.Nat.{◌-◌}
-use Rattle.base_tests.specs.Laws.Bool.{not_true, not-false}
-use Rattle.lent_sets.specs.Rows.{left}
-use Rattle.state_ops.specs.Laws.List.{freeze_undefined, freeze_not, freeze_acts}
-use borrow.Author.Rules.{rules}
+use Rattle.state_ops.proofs.Laws.List.{freeze_undefined, freeze_not, freeze_acts}
 use Rattle.state_freeze.proofs.freeze.Goals as goal
 
 pub returns-then-not-is_defined : goal.returns-then-not-is_defined

@@ -1,13 +1,10 @@
 -- `state_merge::clear_words` meets its contract. The loop's invariant: the turns that are left do to the list what all do to the list at the start.
 -- The measure is the words that are left. Assumes nothing.
-use borrow.Author.Rules.{rules}
 use native.Mathlib.Omega.{arith}
-use mathlib.Core.Path.{◌≡◌, refl, ◌∙◌}
-use Prim.Native.Nat.{◌-◌}
+use mathlib.Core.Path.{refl, ◌∙◌}
 use lib.ListN.{length}
-use Rattle.lent_sets.specs.Rows.{upto}
 use Rattle.state_adds.specs.Lists.{clear_word}
-use Rattle.state_adds.specs.Laws.Code.{loop_start, loop_turn, loop_end, cleared}
+use Rattle.state_adds.proofs.Laws.Code.{loop_start, loop_turn, loop_end, cleared}
 use Rattle.state_merge.proofs.clear_words.Goals as goal
 
 pub loop-k-init : goal.loop-k-init

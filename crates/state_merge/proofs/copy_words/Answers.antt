@@ -1,12 +1,9 @@
 -- `state_merge::copy_words` meets its contract. The loop's invariant: the turns that are left do to the list what all do to the list at the start.
 -- The measure is the words that are left. Assumes nothing.
-use borrow.Author.Rules.{rules}
-use mathlib.Core.Path.{◌≡◌, refl, ◌∙◌}
-use Prim.Native.Nat.{◌-◌}
+use mathlib.Core.Path.{refl, ◌∙◌}
 use lib.ListN.{length}
-use Rattle.lent_sets.specs.Rows.{upto}
 use Rattle.state_adds.specs.Lists.{copy_word, copy_words}
-use Rattle.state_adds.specs.Laws.Code.{loop_start, loop_turn, loop_end, copied}
+use Rattle.state_adds.proofs.Laws.Code.{loop_start, loop_turn, loop_end, copied}
 use Rattle.state_merge.proofs.copy_words.Goals as goal
 
 pub loop-k-init : goal.loop-k-init

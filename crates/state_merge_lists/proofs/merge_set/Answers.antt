@@ -2,8 +2,7 @@
 use mathlib.Core.Path.{refl}
 use lib.Dec.{lit≤}
 use Rattle.lent_sets.specs.Rows.{number}
-use Rattle.state_adds.specs.Laws.Code.{merge_set_is, merge_set_not}
-use borrow.Author.Rules.{rules}
+use Rattle.state_adds.proofs.Laws.Code.{merge_set_is, merge_set_not}
 use Rattle.state_merge_lists.proofs.merge_set.Goals as goal
 
 pub returns-then-adds_set : goal.returns-then-adds_set

@@ -1,12 +1,9 @@
 -- `state_merge_lists::merge_sets` meets its contract. The loop's invariant: the turns that are left do to the sets what all do to the sets at the start.
 -- The measure is the rows that are left. Assumes nothing.
-use borrow.Author.Rules.{rules}
-use mathlib.Core.Path.{◌≡◌, refl, ap, ◌∙◌}
-use Prim.Native.Nat.{ℕ, ◌-◌}
-use lib.ListN.{length}
-use Rattle.lent_sets.specs.Rows.{upto}
+use mathlib.Core.Path.{refl, ap, ◌∙◌}
+use Prim.Native.Nat.{ℕ}
 use Rattle.state_adds.specs.Lists.{merge_set, merge_sets}
-use Rattle.state_adds.specs.Laws.Code.{loop_start, loop_turn, loop_end}
+use Rattle.state_adds.proofs.Laws.Code.{loop_start, loop_turn, loop_end}
 use Rattle.state_merge_lists.proofs.merge_sets.Goals as goal
 
 pub loop-i-init : goal.loop-i-init

@@ -1,6 +1,5 @@
 -- `state_merge_lists::merge_value` meets its contract: the join is stored where the other adds to the entry. Assumes nothing.
-use Rattle.state_adds.specs.Laws.Code.{merge_value_is, merge_value_not}
-use borrow.Author.Rules.{rules}
+use Rattle.state_adds.proofs.Laws.Code.{merge_value_is, merge_value_not}
 use Rattle.state_merge_lists.proofs.merge_value.Goals as goal
 
 pub returns-then-adds_value : goal.returns-then-adds_value

@@ -1,12 +1,8 @@
 -- `state_merge_lists::merge_values` meets its contract. The loop's invariant: the turns that are left do to the values what all do to the values at the start.
 -- The measure is the values that are left. Assumes nothing.
-use borrow.Author.Rules.{rules}
-use mathlib.Core.Path.{◌≡◌, refl, ◌∙◌}
-use Prim.Native.Nat.{◌-◌}
-use lib.ListN.{length}
-use Rattle.lent_sets.specs.Rows.{upto}
+use mathlib.Core.Path.{refl, ◌∙◌}
 use Rattle.state_adds.specs.Lists.{merge_value, merge_values}
-use Rattle.state_adds.specs.Laws.Code.{loop_turn, loop_end}
+use Rattle.state_adds.proofs.Laws.Code.{loop_turn, loop_end}
 use Rattle.state_merge_lists.proofs.merge_values.Goals as goal
 
 pub loop-v-init : goal.loop-v-init
