@@ -5,8 +5,8 @@ use borrow.Author.Rules.{rules}
 use Rattle.call_early.proofs.early_error.Goals as goal
 
 pub returns-then-not-is_near : goal.returns-then-not-is_near
-returns-then-not-is_near c = early_far _ _ _ _ _ _ _ _ c.is_near.ensures (not_true _ c.if-not-is_near.true)
+returns-then-not-is_near c = early_far _ _ _ _ _ _ _ _ c.is_near.ensures (c.if-not-is_near.true)
 
 pub returns : goal.returns
 returns c =
-    early_near _ _ _ _ _ _ _ _ c.is_near.ensures _ (not-false _ c.if-not-is_near.false) c.report_early.ensures
+    early_near _ _ _ _ _ _ _ _ c.is_near.ensures _ (c.if-not-is_near.false) c.report_early.ensures

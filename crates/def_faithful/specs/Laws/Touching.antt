@@ -214,7 +214,7 @@ module _ {n : ℕ} {T : Tables} {F : Faithful n T} where
     where
       go : (a b : Bool) → a ≡ b → SameSession F (elim a as (λ x. Session) [ true ↦ record { next = s.next; access = T.access_of i; span = span; entries = s.entries } | false ↦ s ])
           (elim b as (λ x. Session) [ true ↦ record { next = t.next; access = suc i; span = span; entries = t.entries } | false ↦ t ])
-      go true true e = record { low = h.low; next = h.next; access = F.Access-of i l; span = refl; entries = h.entries }
+      go true true e = record { low = h.low; next = h.next; access = F.access_of_is i l; span = refl; entries = h.entries }
       go true false e = absurd (false≢true (sym e))
       go false true e = absurd (false≢true e)
       go false false e = h

@@ -19,7 +19,7 @@ image =
 
 -- "All of its output"
 abbrev pub output : List ℕ
-output = ascii "OK 2 0\n_e 9 - 0 1 1 -\n_e 11 0 1 - - -\n_v 1 1 2\n_v 2 1 2\n_p 0 1\n_p 1 2\n_u -\n"
+output = ascii "OK 2 0\nE 9 - 0 1 1 -\nE 11 0 1 - - -\nV 1 1 2\nV 2 1 2\nP 0 1\nP 1 2\nU -\n"
 
 pub case_1 : infer (bytes_of image) ≡ output
 unfolding computing

@@ -120,16 +120,16 @@ module _ {T : Tables} {L : Lawful T} {𝓡 : Reaching T} where
         okay = h.okay;
         fits = (L.fit_value w.state.values v a h.fits.0, L.fit_value u.state.values v a h.fits.1, h.fits.2, h.fits.3);
         inside = h.inside;
-        agree = λ n. elim n [
+        agree = λ n. elim n as (λ k. R k → entry T (record { values = T.put_value w.state.values v a; sets = w.state.sets; is_function_expression = w.state.is_function_expression }) k ≡ entry T (record { values = T.put_value u.state.values v a; sets = u.state.sets; is_function_expression = u.state.is_function_expression }) k) [
           | val x ↦ λ q. ap valued (L.value_cong w.state.values u.state.values v a x h.fits.0 h.fits.1 (ap abstract (h.agree (val x) q)))
           | id i ↦ h.agree (id i)
         ];
         flags = h.flags;
-        left = λ n. elim n [
+        left = λ n. elim n as (λ k. ¬ R k → entry T (record { values = T.put_value w.state.values v a; sets = w.state.sets; is_function_expression = w.state.is_function_expression }) k ≡ entry T s₀ k) [
           | val x ↦ λ q. ap valued (L.value_other w.state.values v a x (λ e. q (subst (λ (y : ℕ). R (val y)) e r))) ∙ h.left (val x) q
           | id i ↦ h.left (id i)
         ];
-        right = λ n. elim n [
+        right = λ n. elim n as (λ k. ¬ R k → entry T (record { values = T.put_value u.state.values v a; sets = u.state.sets; is_function_expression = u.state.is_function_expression }) k ≡ entry T t₀ k) [
           | val x ↦ λ q. ap valued (L.value_other u.state.values v a x (λ e. q (subst (λ (y : ℕ). R (val y)) e r))) ∙ h.right (val x) q
           | id i ↦ h.right (id i)
         ];
@@ -148,16 +148,16 @@ module _ {T : Tables} {L : Lawful T} {𝓡 : Reaching T} where
         okay = h.okay;
         fits = (h.fits.0, h.fits.1, L.fit_set w.state.sets i s h.fits.2, L.fit_set u.state.sets i s h.fits.3);
         inside = λ j q. L.set_has (λ v. R (val v)) w.state.sets i s j a (h.inside j q);
-        agree = λ n. elim n [
+        agree = λ n. elim n as (λ k. R k → entry T (record { values = w.state.values; sets = T.put_set w.state.sets i s; is_function_expression = w.state.is_function_expression }) k ≡ entry T (record { values = u.state.values; sets = T.put_set u.state.sets i s; is_function_expression = u.state.is_function_expression }) k) [
           | val x ↦ h.agree (val x)
           | id j ↦ λ q. ap pointing (L.set_cong w.state.sets u.state.sets i s j h.fits.2 h.fits.3 (ap pointed (h.agree (id j) q)))
         ];
         flags = h.flags;
-        left = λ n. elim n [
+        left = λ n. elim n as (λ k. ¬ R k → entry T (record { values = w.state.values; sets = T.put_set w.state.sets i s; is_function_expression = w.state.is_function_expression }) k ≡ entry T s₀ k) [
           | val x ↦ h.left (val x)
           | id j ↦ λ q. ap pointing (L.set_other w.state.sets i s j (λ e. q (subst (λ (y : ℕ). R (id y)) e r))) ∙ h.left (id j) q
         ];
-        right = λ n. elim n [
+        right = λ n. elim n as (λ k. ¬ R k → entry T (record { values = u.state.values; sets = T.put_set u.state.sets i s; is_function_expression = u.state.is_function_expression }) k ≡ entry T t₀ k) [
           | val x ↦ h.right (val x)
           | id j ↦ λ q. ap pointing (L.set_other u.state.sets i s j (λ e. q (subst (λ (y : ℕ). R (id y)) e r))) ∙ h.right (id j) q
         ];

@@ -7,8 +7,8 @@ use Rattle.image_class3_fields.proofs.is_number.Goals as goal
 
 pub returns-then-not-at_most : goal.returns-then-not-at_most
 unfolding is_number
-returns-then-not-at_most c = and_at _ _ _ c.at_most.ensures (not_true _ c.if-not-at_most.true)
+returns-then-not-at_most c = and_at _ _ _ c.at_most.ensures (c.if-not-at_most.true)
 
 pub returns : goal.returns
 unfolding is_number
-returns c = and_on _ _ _ _ c.at_most.ensures (not-false _ c.if-not-at_most.false) c.number_below.ensures
+returns c = and_on _ _ _ _ c.at_most.ensures (c.if-not-at_most.false) c.number_below.ensures

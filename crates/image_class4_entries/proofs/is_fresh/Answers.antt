@@ -5,7 +5,7 @@ use borrow.Author.Rules.{rules}
 use Rattle.image_class4_entries.proofs.is_fresh.Goals as goal
 
 pub returns-then-not-at_most : goal.returns-then-not-at_most
-returns-then-not-at_most c = and_at _ _ _ c.at_most.ensures (not_true _ c.if-not-at_most.true)
+returns-then-not-at_most c = and_at _ _ _ c.at_most.ensures (c.if-not-at_most.true)
 
 pub returns : goal.returns
-returns c = and_on _ _ _ _ c.at_most.ensures (not-false _ c.if-not-at_most.false) c.below.ensures
+returns c = and_on _ _ _ _ c.at_most.ensures (c.if-not-at_most.false) c.below.ensures

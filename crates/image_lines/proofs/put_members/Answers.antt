@@ -16,14 +16,14 @@ use Rattle.image_lines.proofs.put_members.Goals as goal
 
 pub returns-then-not-is_defined : goal.returns-then-not-is_defined
 returns-then-not-is_defined c =
-    members_none _ _ _ _ (sym c.is_defined.ensures ∙ not_true _ c.if-not-is_defined.true) c.put_absent.ensures
+    members_none _ _ _ _ (sym c.is_defined.ensures ∙ c.if-not-is_defined.true) c.put_absent.ensures
 
 pub returns-then-m-ge1024 : goal.returns-then-m-ge1024
 returns-then-m-ge1024 c =
-    members_empty _ _ _ _ _ (sym c.is_defined.ensures ∙ not-false _ c.if-not-is_defined.false) c.next_member-m.ensures c.if-m-ge1024.true c.put_absent-then-m-ge1024.ensures
+    members_empty _ _ _ _ _ (sym c.is_defined.ensures ∙ c.if-not-is_defined.false) c.next_member-m.ensures c.if-m-ge1024.true c.put_absent-then-m-ge1024.ensures
 
 pub loop-m-init : goal.loop-m-init
-loop-m-init c = let h = sym c.is_defined.ensures ∙ not-false _ c.if-not-is_defined.false in ((walk_start _ _ _ h c.next_member-m.ensures).0, refl, members_start _ _ _ _ h c.next_member-m.ensures c.if-m-ge1024.false)
+loop-m-init c = let h = sym c.is_defined.ensures ∙ c.if-not-is_defined.false in ((walk_start _ _ _ h c.next_member-m.ensures).0, refl, members_start _ _ _ _ h c.next_member-m.ensures c.if-m-ge1024.false)
 
 pub loop-m-smaller : goal.loop-m-smaller
 loop-m-smaller c =

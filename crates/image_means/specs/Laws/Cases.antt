@@ -35,7 +35,7 @@ case_2 = record {
       ++ (0 ∷ 0 ∷ 0 ∷ 0xffffffff ∷ 0xffffffff ∷ [])
       ++ (1 ∷ 0 ∷ 0 ∷ 0xffffffff ∷ 0xffffffff ∷ [])
       ++ (10 ∷ 0 ∷ 1 ∷ 0 ∷ 0 ∷ 0 ∷ 0 ∷ 0 ∷ []);
-  listing = ascii "OK 1 0\n_e 10 0 1 - - -\n_v 1 0 2048\n_v 2 1 2\n_v 3 3 2050\n_p 0 1 2\n_p 1 3\n_u -\n";
+  listing = ascii "OK 1 0\nE 10 0 1 - - -\nV 1 0 2048\nV 2 1 2\nV 3 3 2050\nP 0 1 2\nP 1 3\nU -\n";
 }
 
 -- 3* "Context with Mutable: Context"
@@ -53,7 +53,7 @@ case_3 = record {
       ++ (0 ∷ 0 ∷ 0 ∷ 0xffffffff ∷ 0xffffffff ∷ [])
       ++ (1 ∷ 0 ∷ 0 ∷ 0xffffffff ∷ 0xffffffff ∷ [])
       ++ (10 ∷ 0 ∷ 1 ∷ 0 ∷ 0 ∷ 0 ∷ 0 ∷ 0 ∷ []);
-  listing = ascii "OK 1 0\n_e 10 0 1 - - -\n_v 1 0 2048\n_v 2 5 2048\n_v 3 5 2048\n_p 0 1 2\n_p 1 3\n_u -\n";
+  listing = ascii "OK 1 0\nE 10 0 1 - - -\nV 1 0 2048\nV 2 5 2048\nV 3 5 2048\nP 0 1 2\nP 1 3\nU -\n";
 }
 
 -- 4* "Global with Primitive: Global"; the Create that CreateFrom emits shows it
@@ -71,7 +71,7 @@ case_4 = record {
       ++ (0 ∷ 0 ∷ 0 ∷ 0xffffffff ∷ 0xffffffff ∷ [])
       ++ (1 ∷ 0 ∷ 0 ∷ 0xffffffff ∷ 0xffffffff ∷ [])
       ++ (10 ∷ 0 ∷ 1 ∷ 0 ∷ 0 ∷ 0 ∷ 0 ∷ 0 ∷ []);
-  listing = ascii "OK 1 0\n_e 9 - 1 4 7 -\n_v 1 4 128\n_v 2 2 2048\n_v 3 4 2176\n_p 0 1 2\n_p 1 3\n_u -\n";
+  listing = ascii "OK 1 0\nE 9 - 1 4 7 -\nV 1 4 128\nV 2 2 2048\nV 3 4 2176\nP 0 1 2\nP 1 3\nU -\n";
 }
 
 -- 5* "Undefined place: Mutable {Other}, recorded"
@@ -85,7 +85,7 @@ case_5 = record {
       ++ (0 ∷ 0 ∷ 0 ∷ 0xffffffff ∷ 0xffffffff ∷ [])
       ++ (1 ∷ 0 ∷ 0 ∷ 0xffffffff ∷ 0xffffffff ∷ [])
       ++ (10 ∷ 0 ∷ 1 ∷ 0 ∷ 0 ∷ 0 ∷ 0 ∷ 0 ∷ []);
-  listing = ascii "OK 1 0\n_e 10 0 1 - - -\n_v 1 0 2048\n_p 1 1\n_u 0\n";
+  listing = ascii "OK 1 0\nE 10 0 1 - - -\nV 1 0 2048\nP 1 1\nU 0\n";
 }
 
 -- 6* "Defined, empty set: the same, nothing recorded"
@@ -100,7 +100,7 @@ case_6 = record {
       ++ (0 ∷ 0 ∷ 0 ∷ 0xffffffff ∷ 0xffffffff ∷ [])
       ++ (1 ∷ 0 ∷ 0 ∷ 0xffffffff ∷ 0xffffffff ∷ [])
       ++ (10 ∷ 0 ∷ 1 ∷ 0 ∷ 0 ∷ 0 ∷ 0 ∷ 0 ∷ []);
-  listing = ascii "OK 1 0\n_e 10 0 1 - - -\n_v 1 0 2048\n_p 0 -\n_p 1 1\n_u -\n";
+  listing = ascii "OK 1 0\nE 10 0 1 - - -\nV 1 0 2048\nP 0 -\nP 1 1\nU -\n";
 }
 
 -- 7* "Freeze of {Mutable, Primitive}: both Frozen"
@@ -116,7 +116,7 @@ case_7 = record {
       ++ (0 ∷ 2 ∷ [])
       ++ (0 ∷ 0 ∷ 0 ∷ 0xffffffff ∷ 0xffffffff ∷ [])
       ++ (0 ∷ 0 ∷ 0 ∷ 0 ∷ 8 ∷ 0 ∷ 0 ∷ 0 ∷ []);
-  listing = ascii "OK 1 0\n_e 0 0 - - 8 -\n_v 1 1 256\n_v 2 1 256\n_p 0 1 2\n_u -\n";
+  listing = ascii "OK 1 0\nE 0 0 - - 8 -\nV 1 1 256\nV 2 1 256\nP 0 1 2\nU -\n";
 }
 
 -- 8* "Freeze of Frozen {State}: false, reason kept"
@@ -130,7 +130,7 @@ case_8 = record {
       ++ (0 ∷ 1 ∷ [])
       ++ (0 ∷ 0 ∷ 0 ∷ 0xffffffff ∷ 0xffffffff ∷ [])
       ++ (0 ∷ 0 ∷ 0 ∷ 0 ∷ 8 ∷ 0 ∷ 0 ∷ 0 ∷ []);
-  listing = ascii "OK 0 0\n_v 1 1 2\n_p 0 1\n_u -\n";
+  listing = ascii "OK 0 0\nV 1 1 2\nP 0 1\nU -\n";
 }
 
 -- 10* "Mutate of MaybeFrozen, no ref: MutateGlobal"
@@ -144,7 +144,7 @@ case_10a = record {
       ++ (0 ∷ 1 ∷ [])
       ++ (0 ∷ 0 ∷ 0 ∷ 0xffffffff ∷ 0xffffffff ∷ [])
       ++ (1 ∷ 0 ∷ 0 ∷ 0 ∷ 0 ∷ 0 ∷ 0 ∷ 0 ∷ []);
-  listing = ascii "OK 1 0\n_e 15 0 - - - 0\n_v 1 3 2\n_p 0 1\n_u -\n";
+  listing = ascii "OK 1 0\nE 15 0 - - - 0\nV 1 3 2\nP 0 1\nU -\n";
 }
 
 -- 10* "hoisted: MutateFrozen"
@@ -158,7 +158,7 @@ case_10b = record {
       ++ (0 ∷ 1 ∷ [])
       ++ (0 ∷ 0 ∷ 0 ∷ 0xffffffff ∷ 0xffffffff ∷ [])
       ++ (1 ∷ 0 ∷ 0 ∷ 0 ∷ 0 ∷ 0 ∷ 0 ∷ 0 ∷ []);
-  listing = ascii "OK 1 0\n_e 14 0 - - - 0\n_v 1 3 2\n_p 0 1\n_u -\n";
+  listing = ascii "OK 1 0\nE 14 0 - - - 0\nV 1 3 2\nP 0 1\nU -\n";
 }
 
 -- 11* "Create twice into 0: 6"
@@ -207,7 +207,7 @@ case_12b = record {
       ++ (0 ∷ 0 ∷ 0 ∷ 0xffffffff ∷ 0xffffffff ∷ [])
       ++ (1 ∷ 0 ∷ 0 ∷ 0xffffffff ∷ 0xffffffff ∷ [])
       ++ (5 ∷ 0 ∷ 1 ∷ 0 ∷ 0 ∷ 0 ∷ 0 ∷ 0 ∷ []);
-  listing = ascii "OK 1 0\n_e 5 0 1 - - -\n_v 1 0 2048\n_v 2 0 2048\n_p 0 1\n_p 1 2\n_u -\n";
+  listing = ascii "OK 1 0\nE 5 0 1 - - -\nV 1 0 2048\nV 2 0 2048\nP 0 1\nP 1 2\nU -\n";
 }
 
 -- 13* "Primitive source: MaybeAlias emitted"
@@ -225,7 +225,7 @@ case_13a = record {
       ++ (0 ∷ 0 ∷ 0 ∷ 0xffffffff ∷ 0xffffffff ∷ [])
       ++ (1 ∷ 0 ∷ 0 ∷ 0xffffffff ∷ 0xffffffff ∷ [])
       ++ (7 ∷ 0 ∷ 1 ∷ 0 ∷ 0 ∷ 0 ∷ 0 ∷ 0 ∷ []);
-  listing = ascii "OK 1 0\n_e 7 0 1 - - -\n_v 1 2 2048\n_v 2 0 2048\n_p 0 1\n_p 1 2\n_u -\n";
+  listing = ascii "OK 1 0\nE 7 0 1 - - -\nV 1 2 2048\nV 2 0 2048\nP 0 1\nP 1 2\nU -\n";
 }
 
 -- 13* "Capture not"
@@ -243,7 +243,7 @@ case_13b = record {
       ++ (0 ∷ 0 ∷ 0 ∷ 0xffffffff ∷ 0xffffffff ∷ [])
       ++ (1 ∷ 0 ∷ 0 ∷ 0xffffffff ∷ 0xffffffff ∷ [])
       ++ (5 ∷ 0 ∷ 1 ∷ 0 ∷ 0 ∷ 0 ∷ 0 ∷ 0 ∷ []);
-  listing = ascii "OK 0 0\n_v 1 2 2048\n_v 2 0 2048\n_p 0 1\n_p 1 2\n_u -\n";
+  listing = ascii "OK 0 0\nV 1 2 2048\nV 2 0 2048\nP 0 1\nP 1 2\nU -\n";
 }
 
 abbrev pub cases : List Case

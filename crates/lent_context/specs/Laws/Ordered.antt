@@ -94,9 +94,9 @@ module _ (c : List ℕ) (o : Ordered c) (k : EffectKey) where
   unfolding effect_spot keys
   says = search_says keys (interned_key c) (order_at Layout.effect_order c) (interned_count c) o.ascends o.inside k
 
-  pub first_under : find_effect c k ≡ first_under (effects_in Layout.interned c 0 (interned_count c)) k
+  pub first_under_is : find_effect c k ≡ first_under (effects_in Layout.interned c 0 (interned_count c)) k
   unfolding find_effect
-  first_under = go (effect_spot c k) says
+  first_under_is = go (effect_spot c k) says
     where
       go : (s : Spot) → Says keys (interned_key c) (order_at Layout.effect_order c) (interned_count c) o.ascends o.inside k s → effect_at c s ≡ first_under (effects_in Layout.interned c 0 (interned_count c)) k
       go (At j) h = sym (first_at Layout.interned c k 0 (interned_count c) (order_at Layout.effect_order c j) (omega arith) (let z = o.inside j h.1 in omega arith) h.0 (λ s l e. h.2 s (omega arith) e))
@@ -105,7 +105,7 @@ module _ (c : List ℕ) (o : Ordered c) (k : EffectKey) where
   -- the search of a context in order is the plain one
   pub effect_is : find_effect c k ≡ pure.find_effect (abstract c) k
   unfolding interned_count
-  effect_is = first_under
+  effect_is = first_under_is
 
   -- where it finds nothing, the key stands between two neighbours
   abbrev pub Parts : Spot → Type 0

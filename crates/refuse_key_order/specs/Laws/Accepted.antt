@@ -45,10 +45,10 @@ module _ (c : List ℕ) (m : ℕ) (few : m ≤ 512) (h : key_order_class c m ≡
 
   pub in_order_is : ((v : ℕ) → m ≤ v → is_keyed c v ≡ false) → is_keyed c 0 ≡ false → Numbered c
   unfolding keys
-  in_order_is none_after None-first = record {
+  in_order_is none_after none_first = record {
     inside = λ j l. let z = below j l in omega arith;
     there = keyed;
     ascends = rising;
     counted = count_all_is (is_keyed c) m 512 few (λ x a b. none_after x a) ∙ as_many;
-    zero_none = None-first;
+    zero_none = none_first;
   }

@@ -6,10 +6,10 @@ use borrow.Author.Rules.{rules}
 use Rattle.refuse_rows.proofs.row_too_new.Goals as goal
 
 pub returns-then-not-is_defined : goal.returns-then-not-is_defined
-returns-then-not-is_defined c = sym (new_undefined _ _ _ (sym c.is_defined.ensures ∙ not_true _ c.if-not-is_defined.true))
+returns-then-not-is_defined c = sym (new_undefined _ _ _ (sym c.is_defined.ensures ∙ c.if-not-is_defined.true))
 
 pub returns-then-next-eq0 : goal.returns-then-next-eq0
-returns-then-next-eq0 c = new_zero _ _ _ _ (sym c.is_defined.ensures ∙ not-false _ c.if-not-is_defined.false) c.if-next-eq0.true c.next_member.ensures
+returns-then-next-eq0 c = new_zero _ _ _ _ (sym c.is_defined.ensures ∙ c.if-not-is_defined.false) c.if-next-eq0.true c.next_member.ensures
 
 pub returns : goal.returns
-returns c = new_search _ _ _ _ (sym c.is_defined.ensures ∙ not-false _ c.if-not-is_defined.false) c.if-next-eq0.false c.next_member-2.ensures
+returns c = new_search _ _ _ _ (sym c.is_defined.ensures ∙ c.if-not-is_defined.false) c.if-next-eq0.false c.next_member-2.ensures

@@ -17,16 +17,14 @@ pub returns-then-value_out_of_range : goal.returns-then-value_out_of_range
 unfolding values_out_of_range
 returns-then-value_out_of_range c =
     let a = c.args in
-    let l = c.loop-v in
-    let e = sym (c.value_out_of_range.ensures ∙ ap (word_out_of_range a.n l.v) (c.get64.ensures ∙ ap (λ (k : ℕ). get_or a.values.now k 0) c.wide32.ensures)) in
-    sym (any_yes 1024 (λ k. word_out_of_range a.n k (get_or a.values.now k 0)) l.v (omega arith) (e ∙ c.if-value_out_of_range.true))
+    let e = sym (c.value_out_of_range.ensures ∙ ap (word_out_of_range a.n c.loop-v.v) (c.get64.ensures ∙ ap (λ (k : ℕ). get_or a.values.now k 0) c.wide32.ensures)) in
+    sym (any_yes 1024 (λ k. word_out_of_range a.n k (get_or a.values.now k 0)) c.loop-v.v (omega arith) (e ∙ c.if-value_out_of_range.true))
 
 pub loop-v-preserved : goal.loop-v-preserved
 loop-v-preserved c =
     let a = c.args in
-    let l = c.loop-v in
-    let e = sym (c.value_out_of_range.ensures ∙ ap (word_out_of_range a.n l.v) (c.get64.ensures ∙ ap (λ (k : ℕ). get_or a.values.now k 0) c.wide32.ensures)) in
-    below_more _ _ l.invariant (e ∙ c.if-value_out_of_range.false)
+    let e = sym (c.value_out_of_range.ensures ∙ ap (word_out_of_range a.n c.loop-v.v) (c.get64.ensures ∙ ap (λ (k : ℕ). get_or a.values.now k 0) c.wide32.ensures)) in
+    below_more _ _ c.loop-v.invariant (e ∙ c.if-value_out_of_range.false)
 
 pub returns : goal.returns
 unfolding values_out_of_range

@@ -12,19 +12,11 @@ loop-i-init c = rows_cut _ _ _ c.row_count-i.ensures
 
 pub returns-then-adds_set : goal.returns-then-adds_set
 returns-then-adds_set c =
-    let if1 = c.if-adds_set in
-    let adds_set_is = c.adds_set in
-    let test = c.loop-i-test in
-    let l = c.loop-i in
-    any_found _ _ _ _ l.invariant test.true adds_set_is.ensures if1.true
+    any_found _ _ _ _ c.loop-i.invariant c.loop-i-test.true c.adds_set.ensures c.if-adds_set.true
 
 pub loop-i-preserved : goal.loop-i-preserved
 loop-i-preserved c =
-    let if1 = c.if-adds_set in
-    let adds_set_is = c.adds_set in
-    let test = c.loop-i-test in
-    let l = c.loop-i in
-    any_next _ _ _ _ l.invariant test.true adds_set_is.ensures if1.false
+    any_next _ _ _ _ c.loop-i.invariant c.loop-i-test.true c.adds_set.ensures c.if-adds_set.false
 
 pub returns : goal.returns
 returns c = any_end _ _ _ c.loop-i.invariant c.loop-i-test.false

@@ -8,17 +8,8 @@ returns-in-Absent c = adds_absent _ _ _ c.in-Absent.is c.value_at.ensures
 
 pub returns-in-Absent-value_at : goal.returns-in-Absent-value_at
 returns-in-Absent-value_at c =
-    let enum-told2 = c.enum_told-in-Absent-value_at-1 in
-    let value-at2 = c.value_at-in-Present in
-    let b = c.b-1 in
-    let value-at = c.value_at in
-    adds_new _ _ _ _ _ b.given.1 value-at.ensures enum-told2.given.1 value-at2.ensures
+    adds_new _ _ _ _ _ c.in-Present.is c.value_at.ensures c.in-Absent-value_at.is c.value_at-in-Present.ensures
 
 pub returns-in-Present-value_at : goal.returns-in-Present-value_at
 returns-in-Present-value_at c =
-    let above = c.above in
-    let a = c.a-1 in
-    let value-at2 = c.value_at-in-Present in
-    let b = c.b-1 in
-    let value-at = c.value_at in
-    adds_both _ _ _ _ _ _ _ b.given.1 value-at.ensures a.given.1 value-at2.ensures above.ensures
+    adds_both _ _ _ _ _ _ _ c.in-Present.is c.value_at.ensures c.in-Present-value_at.is c.value_at-in-Present.ensures c.above.ensures

@@ -13,10 +13,10 @@ use Rattle.lent_values.specs.Laws.Cell.{put_length}
 use Rattle.state_freeze.proofs.freeze_values.Goals as goal
 
 pub returns-then-not-is_defined : goal.returns-then-not-is_defined
-returns-then-not-is_defined c = freeze_none _ _ _ _ (sym c.is_defined.ensures ∙ not_true _ c.if-not-is_defined.true)
+returns-then-not-is_defined c = freeze_none _ _ _ _ (sym c.is_defined.ensures ∙ c.if-not-is_defined.true)
 
 pub loop-m-init : goal.loop-m-init
-loop-m-init c = let h = sym c.is_defined.ensures ∙ not-false _ c.if-not-is_defined.false in ((walk_start _ _ _ h c.next_member-m.ensures).0, freeze_start _ _ _ _ _ h c.next_member-m.ensures, refl)
+loop-m-init c = let h = sym c.is_defined.ensures ∙ c.if-not-is_defined.false in ((walk_start _ _ _ h c.next_member-m.ensures).0, freeze_start _ _ _ _ _ h c.next_member-m.ensures, refl)
 
 pub overflow_add-m : goal.overflow_add-m
 overflow_add-m c = omega arith

@@ -16,13 +16,10 @@ loop-k-init c = (refl, loop_start _ _ _)
 pub loop-k-preserved : goal.loop-k-preserved
 unfolding clear_word
 loop-k-preserved c =
-    let set64 = c.set64 in
-    let l = c.loop-k in
     let a = c.args in
-    (set64.auto.0 ∙ l.invariant.0, loop_turn clear_word (length a.words.now) _ _ _ _ l.invariant.1 (omega arith) set64.ensures)
+    (c.set64.auto.xs ∙ c.loop-k.invariant.0, loop_turn clear_word (length a.words.now) _ _ _ _ c.loop-k.invariant.1 (omega arith) c.set64.ensures)
 
 pub returns : goal.returns
 returns c =
-    let l = c.loop-k in
     let a = c.args in
-    loop_end clear_word (length a.words.now) _ _ _ l.invariant.1 (omega arith) ∙ cleared a.words.now
+    loop_end clear_word (length a.words.now) _ _ _ c.loop-k.invariant.1 (omega arith) ∙ cleared a.words.now

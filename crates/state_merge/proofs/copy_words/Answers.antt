@@ -15,16 +15,10 @@ loop-k-init c = (refl, loop_start _ _ _)
 
 pub loop-k-preserved : goal.loop-k-preserved
 loop-k-preserved c =
-    let set64 = c.set64 in
-    let get64 = c.get64-x in
-    let test = c.loop-k-test in
-    let l = c.loop-k in
     let a = c.args in
-    (set64.auto.0 ∙ l.invariant.0, loop_turn (copy_word a.from.now) (length a.from.now) _ _ _ _ l.invariant.1 test.true (copied _ _ _ _ _ get64.ensures set64.ensures))
+    (c.set64.auto.xs ∙ c.loop-k.invariant.0, loop_turn (copy_word a.from.now) (length a.from.now) _ _ _ _ c.loop-k.invariant.1 c.loop-k-test.true (copied _ _ _ _ _ c.get64-x.ensures c.set64.ensures))
 
 pub returns : goal.returns
 returns c =
-    let test = c.loop-k-test in
-    let l = c.loop-k in
     let a = c.args in
-    loop_end (copy_word a.from.now) (length a.from.now) _ _ _ l.invariant.1 test.false
+    loop_end (copy_word a.from.now) (length a.from.now) _ _ _ c.loop-k.invariant.1 c.loop-k-test.false

@@ -15,16 +15,10 @@ loop-i-init c = (refl, loop_start _ _ _)
 
 pub loop-i-preserved : goal.loop-i-preserved
 loop-i-preserved c =
-    let merge-set = c.merge_set in
-    let test = c.loop-i-test in
-    let l = c.loop-i in
     let a = c.args in
-    (merge-set.auto.0 ∙ l.invariant.0, loop_turn (merge_set a.other.now) _ _ _ _ _ l.invariant.1 test.true merge-set.ensures)
+    (c.merge_set.auto.sets ∙ c.loop-i.invariant.0, loop_turn (merge_set a.other.now) _ _ _ _ _ c.loop-i.invariant.1 c.loop-i-test.true c.merge_set.ensures)
 
 pub returns : goal.returns
 returns c =
-    let test = c.loop-i-test in
-    let l = c.loop-i in
-    let row_count = c.row_count-n in
     let a = c.args in
-    loop_end (merge_set a.other.now) _ _ _ _ l.invariant.1 test.false ∙ ap (λ (k : ℕ). merge_sets k a.sets.now a.other.now) row_count.ensures
+    loop_end (merge_set a.other.now) _ _ _ _ c.loop-i.invariant.1 c.loop-i-test.false ∙ ap (λ (k : ℕ). merge_sets k a.sets.now a.other.now) c.row_count-n.ensures

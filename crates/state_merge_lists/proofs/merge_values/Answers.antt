@@ -15,11 +15,8 @@ loop-v-init c = (refl, refl)
 
 pub loop-v-preserved : goal.loop-v-preserved
 loop-v-preserved c =
-    let merge-value = c.merge_value in
-    let test = c.loop-v-test in
-    let l = c.loop-v in
     let a = c.args in
-    (merge-value.auto.0 ∙ l.invariant.0, loop_turn (merge_value a.other.now) 1024 _ _ _ _ l.invariant.1 test.true merge-value.ensures)
+    (c.merge_value.auto.values ∙ c.loop-v.invariant.0, loop_turn (merge_value a.other.now) 1024 _ _ _ _ c.loop-v.invariant.1 c.loop-v-test.true c.merge_value.ensures)
 
 pub returns : goal.returns
 returns c = loop_end (merge_value c.args.other.now) 1024 _ _ _ c.loop-v.invariant.1 c.loop-v-test.false

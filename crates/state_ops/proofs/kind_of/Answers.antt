@@ -13,10 +13,10 @@ use Rattle.state_ops.specs.Laws.List.{At, kind_none, kind_start, kind_next, kind
 use Rattle.state_ops.proofs.kind_of.Goals as goal
 
 pub returns-then-not-is_defined : goal.returns-then-not-is_defined
-returns-then-not-is_defined c = c.or_default.ensures ∙ sym (kind_none _ _ (sym c.is_defined.ensures ∙ not_true _ c.if-not-is_defined.true))
+returns-then-not-is_defined c = c.or_default.ensures ∙ sym (kind_none _ _ (sym c.is_defined.ensures ∙ c.if-not-is_defined.true))
 
 pub loop-m-init : goal.loop-m-init
-loop-m-init c = let h = sym c.is_defined.ensures ∙ not-false _ c.if-not-is_defined.false in ((walk_start _ _ _ h c.next_member-m.ensures).0, kind_start _ _ _ _ h c.next_member-m.ensures)
+loop-m-init c = let h = sym c.is_defined.ensures ∙ c.if-not-is_defined.false in ((walk_start _ _ _ h c.next_member-m.ensures).0, kind_start _ _ _ _ h c.next_member-m.ensures)
 
 pub overflow_add-m : goal.overflow_add-m
 overflow_add-m c = omega arith

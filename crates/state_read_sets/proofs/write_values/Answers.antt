@@ -13,10 +13,10 @@ use Rattle.state_calls.specs.Calls.{written}
 use Rattle.state_read_sets.proofs.write_values.Goals as goal
 
 pub returns-then-not-is_defined : goal.returns-then-not-is_defined
-returns-then-not-is_defined c = write_none _ _ _ (sym c.is_defined.ensures ∙ not_true _ c.if-not-is_defined.true)
+returns-then-not-is_defined c = write_none _ _ _ (sym c.is_defined.ensures ∙ c.if-not-is_defined.true)
 
 pub loop-m-init : goal.loop-m-init
-loop-m-init c = let h = sym c.is_defined.ensures ∙ not-false _ c.if-not-is_defined.false in ((walk_start _ _ _ h c.next_member-m.ensures).0, (walk_start _ _ _ h c.next_member-m.ensures).0.above, refl, write_start _ _ _ _ h c.next_member-m.ensures)
+loop-m-init c = let h = sym c.is_defined.ensures ∙ c.if-not-is_defined.false in ((walk_start _ _ _ h c.next_member-m.ensures).0, (walk_start _ _ _ h c.next_member-m.ensures).0.above, refl, write_start _ _ _ _ h c.next_member-m.ensures)
 
 pub overflow_add-k : goal.overflow_add-k
 overflow_add-k c = omega arith
