@@ -9,7 +9,7 @@ ghost use Rattle.lent_effects.specs.Records.{effect_with, captures_of};
 ghost use Rattle.effect_intern.specs.Interning.{chosen};
 ghost use Rattle.effect_acts.specs.Acts as Acts;
 ghost use Rattle.effect_flow.specs.Flows.{flows};
-ghost use Rattle.lent_world.specs.Promise.{Does};
+ghost use Rattle.lent_world.specs.Promise.{after, before, Does};
 
 use def_effects::{MutateVariant, Place};
 use effect_acts::{Act, Next, act_of};

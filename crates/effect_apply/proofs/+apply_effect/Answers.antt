@@ -58,10 +58,6 @@ pub creating_from-returns-then-g-ne0 : goal.creating_from-returns-then-g-ne0
 creating_from-returns-then-g-ne0 t c =
     part_stops _ _ _ _ (c.create_from-g.ensures (Text.apply_effect _) []) c.if-g-ne0.true
 
-pub creating_from-follow-requires : goal.creating_from-follow-requires
-creating_from-follow-requires t c =
-    (omega (arith, c.requires.0), tt)
-
 pub creating_from-returns : goal.creating_from-returns
 creating_from-returns t c =
     part_goes _ _ _ _ (c.create_from-g.ensures (Text.apply_effect _) _) _ c.if-g-ne0.false (created_follows _ _ _ _ _ _ _ c.follow.ensures)
@@ -69,10 +65,6 @@ creating_from-returns t c =
 pub creating_function-returns-then-m-ne0 : goal.creating_function-returns-then-m-ne0
 creating_function-returns-then-m-ne0 t c =
     part_stops _ _ _ _ (c.make_function-m.ensures (Text.apply_effect _)) c.if-m-ne0.true
-
-pub creating_function-capture_all-requires : goal.creating_function-capture_all-requires
-creating_function-capture_all-requires t c =
-    (omega (arith, c.requires.0), tt)
 
 pub creating_function-returns : goal.creating_function-returns
 creating_function-returns t c =
@@ -101,26 +93,6 @@ apply_effect-returns-then-depth-eq0 t c = step_none _ _ _ c.if-depth-eq0.true
 pub apply_effect-returns-then-g-ne0 : goal.apply_effect-returns-then-g-ne0
 apply_effect-returns-then-g-ne0 t c =
     step_refused _ _ _ _ _ _ c.if-depth-eq0.false (c.intern_effect-g.ensures _ _ _ _) c.if-g-ne0.true
-
-pub apply_effect-mutating-requires : goal.apply_effect-mutating-requires
-apply_effect-mutating-requires t c =
-    (omega (arith, c.requires.0, c.if-depth-eq0.false), tt)
-
-pub apply_effect-capturing-requires : goal.apply_effect-capturing-requires
-apply_effect-capturing-requires t c =
-    (omega (arith, c.requires.0, c.if-depth-eq0.false), tt)
-
-pub apply_effect-assigning-requires : goal.apply_effect-assigning-requires
-apply_effect-assigning-requires t c =
-    (omega (arith, c.requires.0, c.if-depth-eq0.false), tt)
-
-pub apply_effect-creating_from-requires : goal.apply_effect-creating_from-requires
-apply_effect-creating_from-requires t c =
-    (omega (arith, c.requires.0, c.if-depth-eq0.false), tt)
-
-pub apply_effect-creating_chosen-requires : goal.apply_effect-creating_chosen-requires
-apply_effect-creating_chosen-requires t c =
-    (omega (arith, c.requires.0, c.if-depth-eq0.false), tt)
 
 pub apply_effect-returns-in-Plain : goal.apply_effect-returns-in-Plain
 apply_effect-returns-in-Plain t c =

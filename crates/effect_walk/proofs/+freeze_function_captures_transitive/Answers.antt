@@ -8,7 +8,7 @@ use Rattle.lent_sets.specs.Laws.Row.{next_ge}
 use Rattle.lent_keys.specs.KeyRecords.{option_of}
 use Rattle.effect_walk.specs.Laws.Walk.{Runs, RunsRow, enters_none, enters_plain, runs_start, runs_end, runs_shut, row_start, runs_open, runs_refused, row_next, row_refused}
 use Rattle.effect_walk.proofs.+freeze_function_captures_transitive.Goals as goal
-use Rattle.effect_walk.proofs.+freeze_function_captures_transitive.Goals.{then-opens, else-opens}
+use Rattle.effect_walk.proofs.+freeze_function_captures_transitive.Goals.{then-opens+else-loop-m-test, else-opens}
 
 pub returns-then-freeze-ge4096 : goal.returns-then-freeze-ge4096
 returns-then-freeze-ge4096 t c = enters_none _ _ _ _ _ _ _ c.if-freeze-ge4096.true
@@ -23,10 +23,6 @@ loop-k-init t c =
 pub loop-m-init : goal.loop-m-init
 loop-m-init t c =
     (refl, row_start _ _ _ _ _ _ _ _ _ _ _ _ _ _ _ c.loop-k.invariant.1 c.loop-k-test.true c.context_identifier-i.ensures c.opens.ensures _ c.if-opens.true c.next_member-m.ensures)
-
-pub freeze_function_captures_transitive-w-requires : goal.freeze_function_captures_transitive-w-requires
-freeze_function_captures_transitive-w-requires t c =
-    (let x = c.loop-k.invariant.1.less in let y = c.loop-m.invariant.1.less in let z = c.loop-k.invariant.1.room in omega (arith, c.requires.0), tt)
 
 pub returns-then-w-ne0 : goal.returns-then-w-ne0
 returns-then-w-ne0 t c =
@@ -43,7 +39,7 @@ loop-m-preserved t c =
 pub loop-k-preserved : goal.loop-k-preserved
 loop-k-preserved t c =
     elim c.if-opens.branch [
-      | then-opens w ↦ rw (w.values-is, w.made-is, w.all-is) (w.loop-m.invariant.0 ∙ c.loop-k.invariant.0, runs_open _ _ _ _ _ _ _ _ _ _ _ _ _ _ _ c.loop-k.invariant.1 c.loop-k-test.true c.context_identifier-i.ensures c.opens.ensures _ _ _ _ w.if-opens.true w.loop-m.invariant.1 w.loop-m-test.false)
+      | then-opens+else-loop-m-test w ↦ rw (w.values-is, w.made-is, w.all-is) (w.loop-m.invariant.0 ∙ c.loop-k.invariant.0, runs_open _ _ _ _ _ _ _ _ _ _ _ _ _ _ _ c.loop-k.invariant.1 c.loop-k-test.true c.context_identifier-i.ensures c.opens.ensures _ _ _ _ w.if-opens.true w.loop-m.invariant.1 w.loop-m-test.false)
       | else-opens w ↦ rw (w.values-is, w.made-is, w.all-is) (c.loop-k.invariant.0, runs_shut _ _ _ _ _ _ _ _ _ _ _ _ _ _ _ c.loop-k.invariant.1 c.loop-k-test.true c.context_identifier-i.ensures c.opens.ensures w.if-opens.false)
     ]
 

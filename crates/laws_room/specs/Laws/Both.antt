@@ -76,7 +76,7 @@ module _ (t : Table) (i : ℕ) (R : List ℕ → List ℕ → Type 0) (s : (c d 
   places_both : (c d : List ℕ) (w k : ℕ) (ps : List Place) → R c d → R (put_places t c i w k ps) (put_places t d i w k ps)
   unfolding put_places
   places_both c d w k [] h = h
-  places_both c d w k (p ∷ ps) h = places_both _ _ w (suc k) ps (place_both c d (w + k * 5) p h)
+  places_both c d w k (p ∷ ps) h = places_both (put_place t c i (w + k * 5) p) (put_place t d i (w + k * 5) p) w (suc k) ps (place_both c d (w + k * 5) p h)
 
   -- a code and a place
   one_both : (c d : List ℕ) (n : ℕ) (p : Place) → R c d → R (one_place t c i n p) (one_place t d i n p)
@@ -120,7 +120,7 @@ module _ (t : Table) (i : ℕ) (R : List ℕ → List ℕ → Type 0) (s : (c d 
   numbers_both : (c d : List ℕ) (w a k : ℕ) (xs : List ℕ) → R c d → R (put_numbers t c i w a k xs) (put_numbers t d i w a k xs)
   unfolding put_numbers
   numbers_both c d w a k [] h = h
-  numbers_both c d w a k (x ∷ xs) h = numbers_both _ _ w a (suc k) xs (s c d (w + k * a) x h)
+  numbers_both c d w a k (x ∷ xs) h = numbers_both (put_field t c i (w + k * a) x) (put_field t d i (w + k * a) x) w a (suc k) xs (s c d (w + k * a) x h)
 
   -- a key
   pub key_both : (c d : List ℕ) (k : EffectKey) → R c d → R (put_key t c i k) (put_key t d i k)

@@ -10,7 +10,7 @@ use mathlib.Core.Option.{none}
 use Rattle.refuse_keys.proofs.no_key_class.Given as goal
 
 abbrev pub invariant-loop-w : goal.invariant-loop-w
-invariant-loop-w l = (l.w ≤ 28) × (l.worst ≡ words_below Layout.cached l.context (λ l.w. none) l.v l.w)
+invariant-loop-w l = (l.w ≤ 28) × (l.worst ≡ words_below Layout.cached l.context (λ w. none) l.v l.w)
 
 abbrev pub decreases-loop-w : goal.decreases-loop-w
 decreases-loop-w l = 28 - l.w
