@@ -9,11 +9,11 @@ use borrow.Author.Rules.{rules}
 use Rattle.image_class3_candidates.proofs.captures_used.Goals as goal
 
 pub returns-then-not-same : goal.returns-then-not-same
-returns-then-not-same c = and_at _ _ _ c.same.ensures (c.if-not-same.true)
+returns-then-not-same c = and_at _ _ _ c.same.ensures c.if-not-same.true
 
 pub returns-then-not-creates_function : goal.returns-then-not-creates_function
-returns-then-not-creates_function c = and_on _ _ _ _ c.same.ensures (c.if-not-same.false) (and_at _ _ _ c.creates_function.ensures (c.if-not-creates_function.true))
+returns-then-not-creates_function c = and_on _ _ _ _ c.same.ensures c.if-not-same.false (and_at _ _ _ c.creates_function.ensures c.if-not-creates_function.true)
 
 pub returns : goal.returns
 returns c =
-    and_on _ _ _ _ c.same.ensures (c.if-not-same.false) (and_on _ _ _ _ c.creates_function.ensures (c.if-not-creates_function.false) (ap not (c.same-2.ensures ∙ ap (λ (x' : ℕ). eqb x' 0) c.cell.ensures)))
+    and_on _ _ _ _ c.same.ensures c.if-not-same.false (and_on _ _ _ _ c.creates_function.ensures c.if-not-creates_function.false (ap not (c.same-2.ensures ∙ ap (λ (x' : ℕ). eqb x' 0) c.cell.ensures)))

@@ -9,8 +9,8 @@ use Rattle.image_class4.proofs.stray_first.Goals as goal
 
 pub returns-then-not-same : goal.returns-then-not-same
 unfolding stray_first
-returns-then-not-same c = and_at _ _ _ c.same.ensures (c.if-not-same.true)
+returns-then-not-same c = and_at _ _ _ c.same.ensures c.if-not-same.true
 
 pub returns : goal.returns
 unfolding stray_first
-returns c = and_on _ _ _ _ c.same.ensures (c.if-not-same.false) (ap not c.same-2.ensures)
+returns c = and_on _ _ _ _ c.same.ensures c.if-not-same.false (ap not c.same-2.ensures)
