@@ -12,8 +12,8 @@ A citation is one of these, in backticks:
     `crate::name`, `crate::Type::method`                      a function, a type or a constant of crates/crate/src
 
 A name that a file only imports counts as wrong there. Code, and any path that begins with crates/, tools/, docs/, oracle/, vectors/
-or examples/, is checked without backticks too; a path with NAME in it stands for any crate, one with `*` must match something.
-docs/NAMES.md has old names and docs/CHANGES.md those of its day, so they are left out.
+or examples/, is checked without backticks too; a path with NAME in it stands for any crate, one with `*` must match something, and one
+into a crate's out/ is made by rt. docs/NAMES.md and docs/PORT*.md have old names and docs/CHANGES.md those of its day, so they are left out.
 """
 
 import argparse
@@ -28,7 +28,7 @@ sys.path.insert(0, os.path.join(ROOT, "tools"))
 
 import deps  # noqa: E402
 
-LEFT_OUT = ("NAMES.md", "CHANGES.md")
+LEFT_OUT = re.compile(r"(NAMES|CHANGES|PORT[\w-]*)\.md$")
 FOLDERS = "crates|tools|docs|oracle|vectors|examples"
 # What --believe asks for: the plain definition, what lent words mean, and promises; each with the file of definitions that it names first.
 PROMISES = [
@@ -93,7 +93,7 @@ def code(crate):
 
 # The documents that are checked.
 def documents():
-    return ["README.md"] + sorted("docs/" + n for n in os.listdir(os.path.join(ROOT, "docs")) if n.endswith(".md") and n not in LEFT_OUT)
+    return ["README.md"] + sorted("docs/" + n for n in os.listdir(os.path.join(ROOT, "docs")) if n.endswith(".md") and not LEFT_OUT.match(n))
 
 
 # What is wrong with the definitions and laws that a line cites.
@@ -118,7 +118,7 @@ def wrong_specs(line, crates, known):
 # What is wrong with the code that a line cites.
 def wrong_code(line, crates, known):
     for crate, name in re.findall(r"(?<![\w:.])([a-z_0-9]+)::(\w+(?:::\w+)?)", line):
-        if crate in deps.KIT or crate == "std":
+        if crate in deps.KIT or crate in deps.LANGUAGE:
             continue
         if crate not in crates:
             yield "there is no crate %s (in %s::%s)" % (crate, crate, name)
@@ -131,9 +131,9 @@ def wrong_code(line, crates, known):
 
 # What is wrong with the paths that a line names.
 def wrong_paths(line):
-    for path in re.findall(r"(?<![\w./·-])((?:%s)/[\w./*+-]*)" % FOLDERS, line):
+    for path in re.findall(r"(?<![\w./-])((?:%s)/[\w./*+-]*)" % FOLDERS, line):
         path = path.rstrip(".")
-        if "NAME" not in path and not glob.glob(os.path.join(ROOT, path)):
+        if "NAME" not in path and "/out/" not in path and not glob.glob(os.path.join(ROOT, path)):
             yield "there is no %s" % path
 
 
@@ -172,7 +172,7 @@ def reached(path):
         if at in found or not os.path.exists(os.path.join(ROOT, at)):
             continue
         found.add(at)
-        todo += [os.path.join("crates", crate, "specs", name + ".antt") for crate, name in re.findall(r"Rattle·([a-z_0-9]+)(?:·specs)?\.specs\.([A-Z]\w*)", read(at))]
+        todo += [os.path.join("crates", crate, "specs", name + ".antt") for crate, name in re.findall(r"Rattle\.([a-z_0-9]+)\.specs\.([A-Z]\w*)", read(at))]
     return found
 
 
