@@ -7,7 +7,7 @@
 A citation is one of these, in backticks:
 
     `crate` `File.antt`: `name`, `name` (a remark), `name`    definitions, declared in crates/crate/specs/File.antt
-    `crate` `Laws/File.antt`: `name`                          laws, declared in crates/crate/specs/Laws/File.antt
+    `crate` `Laws/File.antt`: `name`                          laws, declared in crates/crate/proofs/Laws/File.antt
     `crates/crate/specs/File.antt`: `name`                    the same, by its path
     `crate::name`, `crate::Type::method`                      a function, a type or a constant of crates/crate/src
 
@@ -98,13 +98,13 @@ def documents():
 
 # What is wrong with the definitions and laws that a line cites.
 def wrong_specs(line, crates, known):
-    line = re.sub(r"`crates/([a-z_0-9]+)/specs/((?:Laws/)?[A-Z]\w*\.antt)`", r"`\1` `\2`", line)
+    line = re.sub(r"`crates/([a-z_0-9]+)/(?:specs/|proofs/(?=Laws/))((?:Laws/)?[A-Z]\w*\.antt)`", r"`\1` `\2`", line)
     cited = r"(?:`([a-z_0-9]+)` )?`((?:Laws/)?[A-Z]\w*\.antt)`(?:: ((?:`[^`]+`(?: \([^()]*\))?(?:, )?)+))?"
     for crate, name, names in re.findall(cited, line):
         if crate not in crates:
             yield "%s stands behind no crate" % name if not crate else "there is no crate %s (before %s)" % (crate, name)
             continue
-        path = os.path.join("crates", crate, "specs", name)
+        path = os.path.join("crates", crate, "proofs" if name.startswith("Laws/") else "specs", name)
         if not os.path.exists(os.path.join(ROOT, path)):
             yield "there is no %s" % path
             continue
@@ -152,7 +152,7 @@ def check():
 
 # ---- how much must be believed
 
-# The files of definitions of a crate: all of specs/ but its laws, and but the lists of modules.
+# The files of definitions of a crate: all of specs/ but the lists of modules.
 def definitions(crate):
     paths = sorted(glob.glob(os.path.join(ROOT, "crates", crate, "specs", "*.antt")))
     return [os.path.relpath(p, ROOT) for p in paths if os.path.basename(p) not in ("Lib.antt", "Laws.antt")]
@@ -192,7 +192,7 @@ def believe():
             counted(group, paths)
         every += paths
     counted("all", every)
-    laws = glob.glob(os.path.join(ROOT, "crates", "*", "specs", "Laws", "*.antt"))
+    laws = glob.glob(os.path.join(ROOT, "crates", "*", "proofs", "Laws", "*.antt"))
     counted("(laws, which are checked)", [os.path.relpath(p, ROOT) for p in laws])
     print("\nwhat the promise rests on")
     for label, crate, name in PROMISES:
