@@ -22,4 +22,4 @@ slice_bounds-read_words-end-2 c =
 
 pub returns : goal.returns
 returns c =
-    (read_words_is _ _ _ _ _ _ _ _ (sym c.if-lent_wrong.false ∙ c.lent_wrong.ensures) (sym c.if-length_wrong.false ∙ c.length_wrong.ensures) (length-take-le _ _ (words_fit _ _ _ _ _ _ (sym c.if-lent_wrong.false ∙ c.lent_wrong.ensures) (sym c.if-length_wrong.false ∙ c.length_wrong.ensures))) c.read_words-job.ensures, c.clear32-2.ensures ∙ ap zeros (whole_length c.read_words-job.new.1.0 _ _ (words_fit _ _ _ _ _ _ (sym c.if-lent_wrong.false ∙ c.lent_wrong.ensures) (sym c.if-length_wrong.false ∙ c.length_wrong.ensures)) c.read_words-job.auto.words))
+    (read_words_is _ _ _ _ _ _ _ _ (sym c.if-lent_wrong.false ∙ c.lent_wrong.ensures) (sym c.if-length_wrong.false ∙ c.length_wrong.ensures) (length-take-le _ _ (words_fit _ _ _ _ _ _ (sym c.if-lent_wrong.false ∙ c.lent_wrong.ensures) (sym c.if-length_wrong.false ∙ c.length_wrong.ensures))) c.read_words-job.ensures, c.clear32-2.ensures ∙ ap zeros (whole_length c.read_words-job.new.words _ _ (words_fit _ _ _ _ _ _ (sym c.if-lent_wrong.false ∙ c.lent_wrong.ensures) (sym c.if-length_wrong.false ∙ c.length_wrong.ensures)) c.read_words-job.auto.words))
