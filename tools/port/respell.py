@@ -116,8 +116,16 @@ def turning():
     return turned
 
 
+STRING = re.compile(r'"(?:[^"\\\n]|\\.)*"')
+
+
 def turn_words(text, turned):
-    return WORD.sub(lambda m: turned.get(m[0], m[0]), text)
+    """Outside of strings."""
+    parts, last = [], 0
+    for m in STRING.finditer(text):
+        parts += [WORD.sub(lambda w: turned.get(w[0], w[0]), text[last : m.start()]), m[0]]
+        last = m.end()
+    return "".join(parts) + WORD.sub(lambda w: turned.get(w[0], w[0]), text[last:])
 
 
 # ---- contracts: what a lent reference holds

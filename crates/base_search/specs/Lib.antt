@@ -1,4 +1,3 @@
 pub mod Search
 pub mod Comparings
 pub mod Counting
-pub mod Laws

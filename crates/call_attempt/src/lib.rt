@@ -7,7 +7,7 @@ ghost use Rattle.laws_monad.specs.Answers.{answer};
 ghost use Rattle.call_parts.specs.Instructions.{instruction_of};
 ghost use Rattle.call_outcome.specs.Calls.{candidate_count, start_run};
 ghost use Rattle.call_outcome.specs.Attempts.{at_most, Ready};
-ghost use Rattle.lent_world.specs.Promise.{before, after};
+ghost use Rattle.lent_world.specs.Promise.{after, before};
 
 use call_run::run_instruction;
 use call_save::save;

@@ -5,7 +5,7 @@ ghost use Rattle.def_transfer.specs.Monad.{each};
 ghost use Rattle.def_transfer.specs.Step as Step;
 ghost use Rattle.lent_context.specs.Lent as Lent;
 ghost use Rattle.lent_effects.specs.Records.{effect_in};
-ghost use Rattle.lent_world.specs.Promise.{Does};
+ghost use Rattle.lent_world.specs.Promise.{after, before, Does};
 ghost use Rattle.lent_layout.specs.Layout.{candidate_table};
 
 use effect_apply::apply_effect;

@@ -5,7 +5,7 @@ ghost use Rattle.def_transfer.specs.Monad.{each};
 ghost use Rattle.def_transfer.specs.Instruction as Instruction;
 ghost use Rattle.call_parts.specs.Instructions.{inside_places};
 ghost use Rattle.def_transfer.specs.Instruction.{own_of};
-ghost use Rattle.lent_world.specs.Promise.{Does};
+ghost use Rattle.lent_world.specs.Promise.{after, before, Does};
 
 use call_parts::{copy_inside, is_near};
 use def_effects::Place;

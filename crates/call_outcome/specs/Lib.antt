@@ -1,4 +1,3 @@
 pub mod Calls
 pub mod Isolation
 pub mod Attempts
-pub mod Laws

@@ -4,7 +4,7 @@
 
 ghost use Rattle.def_transfer.specs.Instruction as Instruction;
 ghost use Rattle.call_parts.specs.Instructions.{instruction_of};
-ghost use Rattle.lent_world.specs.Promise.{Does};
+ghost use Rattle.lent_world.specs.Promise.{after, before, Does};
 
 use call_candidates::candidates_in_order;
 use call_early::early_errors;

@@ -2,4 +2,3 @@ pub mod Effects
 pub mod Keys
 pub mod Mutation
 pub mod Places
-pub mod Laws

@@ -3,4 +3,3 @@ pub mod Refusals
 pub mod Decode
 pub mod Listing
 pub mod Infer
-pub mod Laws

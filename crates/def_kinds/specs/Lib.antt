@@ -1,4 +1,3 @@
 pub mod Kinds
 pub mod Reasons
 pub mod Values
-pub mod Laws

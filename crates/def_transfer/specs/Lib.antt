@@ -11,4 +11,3 @@ pub mod Accepted
 pub mod Reach
 pub mod Pure
 pub mod Lawful
-pub mod Laws

@@ -1,7 +1,7 @@
 -- The reach of an instruction, what it is for two states to agree on it, and how two runs end (document 01, 'Reach of an instruction').
 -- Assumes nothing: these are definitions.
 use Rattle.std.specs.Prelude.{ℕ, ◌≤◌, ◌<◌, ◌≡◌}
-use mathlib.Core.List.{List, Memᴰ}
+use mathlib.Core.List.{Memᴰ}
 use Rattle.std.proofs.Math.Option.{Option, some}
 use Rattle.base_sets.specs.Members.{members}
 use Rattle.def_kinds.specs.declared.AbstractValue.{AbstractValue}

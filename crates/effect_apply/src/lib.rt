@@ -9,7 +9,7 @@ ghost use Rattle.lent_effects.specs.Records.{effect_with, captures_of};
 ghost use Rattle.effect_intern.specs.Interning.{chosen};
 ghost use Rattle.effect_acts.specs.Acts as Acts;
 ghost use Rattle.effect_flow.specs.Flows.{flows};
-ghost use Rattle.lent_world.specs.Promise.{Does};
+ghost use Rattle.lent_world.specs.Promise.{after, before, Does};
 
 use def_effects::{MutateVariant, Place};
 use effect_acts::{Act, Next, act_of};
@@ -30,7 +30,7 @@ use lent_work::{Ran, Run};
 
 // What comes next: nothing, the effect itself is listed, or a derived effect goes through the same step.
 // The last part of each function below.
-#[cycle(apply_effect_assigning_capture_all_capturing_creating_chosen_creating_from_creating_function_follow_mutating)]
+#[cycle(apply_effect)]
 pub fn follow(
     values: &mut [u64],
     sets: &mut [u64],
@@ -62,7 +62,7 @@ pub fn follow(
 
 // Capture, Alias and MaybeAlias: an ImmutableCapture or a MaybeAlias may be derived.
 // 7 refuses an Alias into a place that was not initialized in this instruction.
-#[cycle(apply_effect_assigning_capture_all_capturing_creating_chosen_creating_from_creating_function_follow_mutating)]
+#[cycle(apply_effect)]
 pub fn capturing(
     values: &mut [u64],
     sets: &mut [u64],
@@ -98,7 +98,7 @@ pub fn capturing(
 
 // A mutation: a MutateFrozen or a MutateGlobal may be derived.
 // 10 refuses a 257th diagnostic or instance.
-#[cycle(apply_effect_assigning_capture_all_capturing_creating_chosen_creating_from_creating_function_follow_mutating)]
+#[cycle(apply_effect)]
 pub fn mutating(
     values: &mut [u64],
     sets: &mut [u64],
@@ -132,7 +132,7 @@ pub fn mutating(
 
 // CreateFrom: an ImmutableCapture may be derived.
 // 6 refuses a place that already began, 9 a fresh number at next 512.
-#[cycle(apply_effect_assigning_capture_all_capturing_creating_chosen_creating_from_creating_function_follow_mutating)]
+#[cycle(apply_effect)]
 pub fn creating_from(
     values: &mut [u64],
     sets: &mut [u64],
@@ -172,7 +172,7 @@ pub fn creating_from(
 
 // Assign: what is frozen is captured first, and takes its number afterwards.
 // 6 refuses a place that already began, 9 a fresh number at next 512.
-#[cycle(apply_effect_assigning_capture_all_capturing_creating_chosen_creating_from_creating_function_follow_mutating)]
+#[cycle(apply_effect)]
 pub fn assigning(
     values: &mut [u64],
     sets: &mut [u64],
@@ -225,7 +225,7 @@ pub fn assigning(
 
 // Each capture of a new function is derived, in order.
 // "CreateFunction is listed before its Captures."
-#[cycle(apply_effect_assigning_capture_all_capturing_creating_chosen_creating_from_creating_function_follow_mutating)]
+#[cycle(apply_effect)]
 pub fn capture_all(
     values: &mut [u64],
     sets: &mut [u64],
@@ -269,7 +269,7 @@ pub fn capture_all(
 
 // CreateFunction: its captures are derived. They are those of the interned effect, and are copied first, since the table changes.
 // 6 refuses a place that already began, 9 a fresh number at next 512.
-#[cycle(apply_effect_assigning_capture_all_capturing_creating_chosen_creating_from_creating_function_follow_mutating)]
+#[cycle(apply_effect)]
 pub fn creating_function(
     values: &mut [u64],
     sets: &mut [u64],
@@ -298,7 +298,7 @@ pub fn creating_function(
 
 // The same with the captures of the interned effect, which are copied first, since the table changes.
 // Those of the table's record where it was found, else those given.
-#[cycle(apply_effect_assigning_capture_all_capturing_creating_chosen_creating_from_creating_function_follow_mutating)]
+#[cycle(apply_effect)]
 pub fn creating_chosen(
     values: &mut [u64],
     sets: &mut [u64],
@@ -325,7 +325,7 @@ pub fn creating_chosen(
 
 // The step of an effect: it is interned, and what stands for it acts; the depth of derivation falls.
 // "A derived effect goes through the same step as a candidate"; interning comes before the step's own tests.
-#[cycle(apply_effect_assigning_capture_all_capturing_creating_chosen_creating_from_creating_function_follow_mutating)]
+#[cycle(apply_effect)]
 pub fn apply_effect(
     values: &mut [u64],
     sets: &mut [u64],

@@ -10,7 +10,7 @@ ghost use Rattle.laws_monad.specs.Answers.{answer};
 ghost use Rattle.lent_world.specs.World.{lent, world};
 ghost use Rattle.effect_acts.specs.Acts.{sequel};
 ghost use Rattle.effect_create.specs.Creations.{numbered, assigned};
-ghost use Rattle.lent_world.specs.Promise.{after, Does};
+ghost use Rattle.lent_world.specs.Promise.{after, before, Does};
 
 use def_effects::Place;
 use def_kinds::{AbstractValue, ValueKind};

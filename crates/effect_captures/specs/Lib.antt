@@ -1,2 +1,1 @@
 pub mod NewFunctions
-pub mod Laws

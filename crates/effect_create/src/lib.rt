@@ -11,7 +11,7 @@ ghost use Rattle.def_transfer.specs.Step as Step;
 ghost use Rattle.lent_world.specs.World.{lent, world};
 ghost use Rattle.effect_acts.specs.Acts.{follow, sequel};
 ghost use Rattle.effect_create.specs.Creations.{numbered};
-ghost use Rattle.lent_world.specs.Promise.{before, after, Does};
+ghost use Rattle.lent_world.specs.Promise.{after, before, Does};
 
 use def_effects::Place;
 use def_kinds::{AbstractValue, ValueKind, has_reason, single};

@@ -1,2 +1,1 @@
 pub mod Freezes
-pub mod Laws

@@ -12,7 +12,7 @@ ghost use Rattle.laws_monad.specs.Answers.{answer};
 ghost use Rattle.lent_sets.specs.Rows.{set_at};
 ghost use Rattle.lent_world.specs.World.{lent, world};
 ghost use Rattle.effect_freeze.specs.Freezes.{with_entries};
-ghost use Rattle.lent_world.specs.Promise.{Does};
+ghost use Rattle.lent_world.specs.Promise.{after, before, Does};
 
 use def_effects::Place;
 use effect_parts::emit;

@@ -12,7 +12,7 @@ ghost use Rattle.lent_effects.specs.Records.{captures_of};
 ghost use Rattle.lent_world.specs.World.{lent, world};
 ghost use Rattle.effect_acts.specs.Acts.{sequel};
 ghost use Rattle.effect_captures.specs.NewFunctions.{linked};
-ghost use Rattle.lent_world.specs.Promise.{before, after};
+ghost use Rattle.lent_world.specs.Promise.{after, before};
 
 use def_effects::Place;
 use def_kinds::{AbstractValue, ValueKind};

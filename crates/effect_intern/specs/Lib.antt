@@ -1,2 +1,1 @@
 pub mod Interning
-pub mod Laws

@@ -12,7 +12,7 @@ ghost use Rattle.lent_effects.specs.Records.{effect_with, captures_of};
 ghost use Rattle.lent_world.specs.World.{lent, world};
 ghost use Rattle.effect_acts.specs.Acts.{act_of};
 ghost use Rattle.effect_acts.specs.declared.Act.TheVariants as Acts;
-ghost use Rattle.lent_world.specs.Promise.{Does};
+ghost use Rattle.lent_world.specs.Promise.{after, before, Does};
 
 use effect_assign::capturing_immutably;
 use effect_create::creating;

@@ -1,2 +1,1 @@
 pub mod Mutations
-pub mod Laws

@@ -1,2 +1,1 @@
 pub mod Used
-pub mod Laws

@@ -61,7 +61,7 @@ effect_at c (At j) = some (effect_in Layout.interned c (order_at Layout.effect_o
 effect_at c (Before p) = none
 
 -- "The first effect under a key of `effect_key` is used ever after"
--- where no two have one key and the order is right, the search finds it (`Laws/Ordered.antt`: `first_under`)
+-- where no two have one key and the order is right, the search finds it (`proofs/Laws/Ordered.antt`: `first_under_is`)
 unfoldable pub find_effect : List ℕ → EffectKey → Option AliasingEffect
 find_effect c k = effect_at c (effect_spot c k)
 
@@ -107,7 +107,7 @@ number_at c (At j) = ite (is_keyed c (order_at Layout.key_order c j)) (some (ord
 number_at c (Before p) = none
 
 -- the fresh number that is cached under a key
--- where no two have one key and the order is right, the search finds it (`Laws/Numbered.antt`: `number_is`)
+-- where no two have one key and the order is right, the search finds it (`proofs/Laws/Numbered.antt`: `number_is`)
 unfoldable pub find_number : List ℕ → EffectKey → Option ℕ
 find_number c k = number_at c (key_spot c k)
 

@@ -11,7 +11,6 @@ use Rattle.lent_tables.specs.Words.{field, put_field, place_in, put_place, place
 use Rattle.lent_effects.specs.declared.AliasingEffect.{AliasingEffect as Head}
 use Rattle.lent_effects.specs.declared.AliasingEffect.TheVariants as Head
 use Rattle.lent_layout.specs.Layout.{one_run}
-use Rattle.lent_layout.specs.Layout as Layout
 
 -- the words of one record, in their order
 -- a destination is the second place, any other the first

@@ -1,2 +1,1 @@
 pub mod KeyRecords
-pub mod Laws

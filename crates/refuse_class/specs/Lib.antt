@@ -1,2 +1,1 @@
 pub mod Class
-pub mod Laws

@@ -1,3 +1,2 @@
 pub mod EffectClasses
 pub mod Parts
-pub mod Laws

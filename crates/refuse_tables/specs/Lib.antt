@@ -1,2 +1,1 @@
 pub mod TableClasses
-pub mod Laws

@@ -1,4 +1,3 @@
 pub mod Lists
 pub mod Use
 pub mod OnLists
-pub mod Laws

@@ -1,4 +1,3 @@
 pub mod MergeCalls
 pub mod Plain
 pub mod Promise
-pub mod Laws

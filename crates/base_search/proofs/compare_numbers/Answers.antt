@@ -2,7 +2,7 @@ use Prim.Native.Nat.{ℕ}
 use native.Mathlib.Omega.{arith}
 use mathlib.Core.Path.{◌≡◌, sym, ap, ◌∙◌}
 use Rattle.base_search.specs.Comparings.{compare_numbers}
-use Rattle.base_search.specs.Laws.Comparings.{less_is, more_is, same_is}
+use Rattle.base_search.proofs.Laws.Comparings.{less_is, more_is, same_is}
 use Rattle.base_search.proofs.compare_numbers.Goals as goal
 
 pub returns-then-a-b : goal.returns-then-a-b

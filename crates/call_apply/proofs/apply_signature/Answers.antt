@@ -1,8 +1,7 @@
 -- `call_apply::apply_signature` meets its contract: a class refuses it, or the transfer decides; what it means on plain tables, and isolation, follow. Assumes nothing.
-use Rattle.call_outcome.specs.Laws.Outcome.{outcome_refused, outcome_runs}
-use Rattle.call_outcome.specs.Laws.Isolation.{isolated}
-use Rattle.call_means.specs.Laws.CallMeans.{meant}
-use borrow.Author.Rules.{rules}
+use Rattle.call_outcome.proofs.Laws.Outcome.{outcome_refused, outcome_runs}
+use Rattle.call_outcome.proofs.Laws.Isolation.{isolated}
+use Rattle.call_means.proofs.Laws.CallMeans.{meant}
 use Rattle.call_apply.proofs.apply_signature.Goals as goal
 
 pub returns-then-class-ne0 : goal.returns-then-class-ne0

@@ -1,6 +1,5 @@
 -- `call_attempt::attempt` meets its contract: the run ends, or it is refused and all is put back. Assumes nothing.
-use Rattle.call_outcome.specs.Laws.Attempt.{attempt_ends, attempt_refused}
-use borrow.Author.Rules.{rules}
+use Rattle.call_outcome.proofs.Laws.Attempt.{attempt_ends, attempt_refused}
 use Rattle.call_attempt.proofs.attempt.Goals as goal
 
 pub returns-then-ran-eq0 : goal.returns-then-ran-eq0

@@ -1,8 +1,7 @@
 -- `call_candidates::candidate` meets its contract: one law, for its one way. Assumes nothing.
 use mathlib.Core.Path.{refl}
 use Rattle.def_transfer.specs.Step as Text
-use Rattle.call_parts.specs.Laws.Instruction.{candidate_is}
-use borrow.Author.Rules.{rules}
+use Rattle.call_parts.proofs.Laws.Instruction.{candidate_is}
 use Rattle.call_candidates.proofs.candidate.Goals as goal
 
 pub returns : goal.returns

@@ -1,15 +1,8 @@
 -- `call_candidates::candidates_in_order` meets its contract: the loop does one of the candidates that are left. Assumes nothing.
-use borrow.Author.Rules.{rules}
 use native.Mathlib.Omega.{arith}
-use mathlib.Core.Path.{◌≡◌, refl, ◌∙◌}
-use Prim.Native.Nat.{◌-◌}
-use lib.ListN.{length}
-use Rattle.def_transfer.specs.Monad.{each}
+use mathlib.Core.Path.{refl, ◌∙◌}
 use Rattle.def_transfer.specs.Step as Text
-use Rattle.lent_context.specs.Lent.{effects_in}
-use Rattle.lent_world.specs.World.{world}
-use Rattle.call_parts.specs.Laws.Instruction.{candidates_start, candidates_next, candidates_stop, candidates_end}
-use Rattle.lent_layout.specs.Layout.{candidate_table}
+use Rattle.call_parts.proofs.Laws.Instruction.{candidates_start, candidates_next, candidates_stop, candidates_end}
 use Rattle.call_candidates.proofs.candidates_in_order.Goals as goal
 
 pub loop-k-init : goal.loop-k-init

@@ -1,13 +1,10 @@
-use borrow.Author.Rules.{rules}
-use native.Mathlib.Omega.{arith}
-use mathlib.Core.Path.{◌≡◌, refl, ◌∙◌}
+use mathlib.Core.Path.{◌≡◌}
 use Prim.Native.Nat.{◌-◌}
 use lib.ListN.{length}
 use Rattle.def_transfer.specs.Monad.{each}
 use Rattle.def_transfer.specs.Step as Text
 use Rattle.lent_context.specs.Lent.{effects_in}
 use Rattle.lent_world.specs.World.{world}
-use Rattle.call_parts.specs.Laws.Instruction.{candidates_start, candidates_next, candidates_stop, candidates_end}
 use Rattle.lent_layout.specs.Layout.{candidate_table}
 use Rattle.call_candidates.proofs.candidates_in_order.Given as goal
 

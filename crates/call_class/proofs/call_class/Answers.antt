@@ -1,8 +1,7 @@
 -- `call_class::call_class` meets its contract: one law for each of its three ways. Assumes nothing.
 use mathlib.Core.Path.{refl}
 use native.Mathlib.Omega.{arith}
-use Rattle.call_outcome.specs.Laws.Class.{identifiers_fit, class_lengths, class_state, class_lowest}
-use borrow.Author.Rules.{rules}
+use Rattle.call_outcome.proofs.Laws.Class.{identifiers_fit, class_lengths, class_state, class_lowest}
 use Rattle.call_class.proofs.call_class.Goals as goal
 
 pub returns-then-lengths_wrong : goal.returns-then-lengths_wrong

@@ -1,5 +1,4 @@
-use Rattle.call_outcome.specs.Laws.Class.{context_tested, length_context, length_candidates, length_output, length_32, length_short, length_rest}
-use borrow.Author.Rules.{rules}
+use Rattle.call_outcome.proofs.Laws.Class.{context_tested, length_context, length_candidates, length_output, length_32, length_short, length_rest}
 use Rattle.call_class.proofs.lengths_wrong.Goals as goal
 
 pub returns-then-context_wrong : goal.returns-then-context_wrong

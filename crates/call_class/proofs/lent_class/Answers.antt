@@ -1,6 +1,5 @@
 -- `call_class::lent_class` meets its contract: too many candidates, or as many as a word holds. Assumes nothing.
-use Rattle.refuse_instruction.specs.Laws.Instruction.{instruction_many}
-use borrow.Author.Rules.{rules}
+use Rattle.refuse_instruction.proofs.Laws.Instruction.{instruction_many}
 use Rattle.call_class.proofs.lent_class.Goals as goal
 
 pub returns-then-n-gt64 : goal.returns-then-n-gt64

@@ -1,14 +1,7 @@
 -- `call_early::early_all` meets its contract: the loop does one of the places that are left. Assumes nothing.
-use borrow.Author.Rules.{rules}
-use mathlib.Core.Path.{◌≡◌, refl, ◌∙◌}
-use Prim.Native.Nat.{◌-◌}
-use lib.ListN.{length}
-use Rattle.def_transfer.specs.Monad.{each}
+use mathlib.Core.Path.{refl, ◌∙◌}
 use Rattle.def_transfer.specs.Instruction.{early_error}
-use Rattle.lent_tables.specs.Words.{places_in}
-use Rattle.lent_world.specs.World.{world}
-use Rattle.call_parts.specs.Laws.Instruction.{places_start, places_next, places_stop, places_end}
-use Rattle.lent_layout.specs.Layout.{inside_run}
+use Rattle.call_parts.proofs.Laws.Instruction.{places_start, places_next, places_stop, places_end}
 use Rattle.call_early.proofs.early_all.Goals as goal
 
 pub loop-k-init : goal.loop-k-init

@@ -1,12 +1,10 @@
-use borrow.Author.Rules.{rules}
-use mathlib.Core.Path.{◌≡◌, refl, ◌∙◌}
+use mathlib.Core.Path.{◌≡◌}
 use Prim.Native.Nat.{◌-◌}
 use lib.ListN.{length}
 use Rattle.def_transfer.specs.Monad.{each}
 use Rattle.def_transfer.specs.Instruction.{early_error}
 use Rattle.lent_tables.specs.Words.{places_in}
 use Rattle.lent_world.specs.World.{world}
-use Rattle.call_parts.specs.Laws.Instruction.{places_start, places_next, places_stop, places_end}
 use Rattle.lent_layout.specs.Layout.{inside_run}
 use Rattle.call_early.proofs.early_all.Given as goal
 

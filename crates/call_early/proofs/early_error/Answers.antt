@@ -1,12 +1,10 @@
 -- `call_early::early_error` meets its contract: one law for each of its two ways. Assumes nothing.
-use Rattle.base_tests.specs.Laws.Bool.{not_true, not-false}
-use Rattle.call_parts.specs.Laws.Instruction.{early_far, early_near}
-use borrow.Author.Rules.{rules}
+use Rattle.call_parts.proofs.Laws.Instruction.{early_far, early_near}
 use Rattle.call_early.proofs.early_error.Goals as goal
 
 pub returns-then-not-is_near : goal.returns-then-not-is_near
-returns-then-not-is_near c = early_far _ _ _ _ _ _ _ _ c.is_near.ensures (not_true _ c.if-not-is_near.true)
+returns-then-not-is_near c = early_far _ _ _ _ _ _ _ _ c.is_near.ensures (c.if-not-is_near.true)
 
 pub returns : goal.returns
 returns c =
-    early_near _ _ _ _ _ _ _ _ c.is_near.ensures _ (not-false _ c.if-not-is_near.false) c.report_early.ensures
+    early_near _ _ _ _ _ _ _ _ c.is_near.ensures _ (c.if-not-is_near.false) c.report_early.ensures

@@ -1,7 +1,6 @@
 -- `call_early::early_errors` meets its contract: one law for each of its two ways. Assumes nothing.
 use mathlib.Core.Path.{refl}
-use Rattle.call_parts.specs.Laws.Instruction.{own_none, own_some}
-use borrow.Author.Rules.{rules}
+use Rattle.call_parts.proofs.Laws.Instruction.{own_none, own_some}
 use Rattle.call_early.proofs.early_errors.Goals as goal
 
 pub returns-then-own-eq0 : goal.returns-then-own-eq0

@@ -1,20 +1,18 @@
 -- `call_early::report_early` meets its contract: one law for each of its four ways. Assumes nothing.
-use Rattle.base_tests.specs.Laws.Bool.{not_true, not-false}
-use Rattle.call_parts.specs.Laws.Instruction.{report_undefined, report_other, report_refused, report_lists}
-use borrow.Author.Rules.{rules}
+use Rattle.call_parts.proofs.Laws.Instruction.{report_undefined, report_other, report_refused, report_lists}
 use Rattle.call_early.proofs.report_early.Goals as goal
 
 pub returns-then-not-is_defined : goal.returns-then-not-is_defined
-returns-then-not-is_defined c = report_undefined _ _ _ _ _ _ _ c.is_defined.ensures (not_true _ c.if-not-is_defined.true)
+returns-then-not-is_defined c = report_undefined _ _ _ _ _ _ _ c.is_defined.ensures (c.if-not-is_defined.true)
 
 pub returns-then-not-is_frozen : goal.returns-then-not-is_frozen
 returns-then-not-is_frozen c =
-    report_other _ _ _ _ _ _ _ c.is_defined.ensures (not-false _ c.if-not-is_defined.false) _ c.kind_of-a.ensures _ c.is_frozen.ensures (not_true _ c.if-not-is_frozen.true)
+    report_other _ _ _ _ _ _ _ c.is_defined.ensures (c.if-not-is_defined.false) _ c.kind_of-a.ensures _ c.is_frozen.ensures (c.if-not-is_frozen.true)
 
 pub returns-then-g-ne0 : goal.returns-then-g-ne0
 returns-then-g-ne0 c =
-    report_refused _ _ _ _ _ _ _ c.is_defined.ensures (not-false _ c.if-not-is_defined.false) _ c.kind_of-a.ensures _ c.is_frozen.ensures (not-false _ c.if-not-is_frozen.false) _ c.name_of-name.ensures _ c.modified_diagnostic.ensures _ _ _ (c.intern_diagnostic-g.ensures _ _ _ _) c.if-g-ne0.true
+    report_refused _ _ _ _ _ _ _ c.is_defined.ensures (c.if-not-is_defined.false) _ c.kind_of-a.ensures _ c.is_frozen.ensures (c.if-not-is_frozen.false) _ c.name_of-name.ensures _ c.modified_diagnostic.ensures _ _ _ (c.intern_diagnostic-g.ensures _ _ _ _) c.if-g-ne0.true
 
 pub returns : goal.returns
 returns c =
-    report_lists _ _ _ _ _ _ _ c.is_defined.ensures (not-false _ c.if-not-is_defined.false) _ c.kind_of-a.ensures _ c.is_frozen.ensures (not-false _ c.if-not-is_frozen.false) _ c.name_of-name.ensures _ c.modified_diagnostic.ensures _ _ _ (c.intern_diagnostic-g.ensures _ _ _ _) _ _ _ c.if-g-ne0.false (c.emit-listed.ensures _ _ _)
+    report_lists _ _ _ _ _ _ _ c.is_defined.ensures (c.if-not-is_defined.false) _ c.kind_of-a.ensures _ c.is_frozen.ensures (c.if-not-is_frozen.false) _ c.name_of-name.ensures _ c.modified_diagnostic.ensures _ _ _ (c.intern_diagnostic-g.ensures _ _ _ _) _ _ _ c.if-g-ne0.false (c.emit-listed.ensures _ _ _)

@@ -1,11 +1,7 @@
 -- `call_parts::copy_inside` meets its contract: the loop writes one of the words that are left. Assumes nothing.
-use borrow.Author.Rules.{rules}
 use native.Mathlib.Omega.{arith}
-use mathlib.Core.Path.{◌≡◌, refl, ◌∙◌}
-use Prim.Native.Nat.{◌-◌, ◌≤◌}
-use lib.ListN.{length}
-use Rattle.call_parts.specs.Instructions.{copied_inside_from}
-use Rattle.call_parts.specs.Laws.Instruction.{inside_more, inside_done}
+use mathlib.Core.Path.{refl, ◌∙◌}
+use Rattle.call_parts.proofs.Laws.Instruction.{inside_more, inside_done}
 use Rattle.call_parts.proofs.copy_inside.Goals as goal
 
 pub loop-k-init : goal.loop-k-init

@@ -1,10 +1,7 @@
-use borrow.Author.Rules.{rules}
-use native.Mathlib.Omega.{arith}
-use mathlib.Core.Path.{◌≡◌, refl, ◌∙◌}
+use mathlib.Core.Path.{◌≡◌}
 use Prim.Native.Nat.{◌-◌, ◌≤◌}
 use lib.ListN.{length}
 use Rattle.call_parts.specs.Instructions.{copied_inside_from}
-use Rattle.call_parts.specs.Laws.Instruction.{inside_more, inside_done}
 use Rattle.call_parts.proofs.copy_inside.Given as goal
 
 abbrev pub invariant-loop-k : goal.invariant-loop-k

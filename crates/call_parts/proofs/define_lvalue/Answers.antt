@@ -1,8 +1,7 @@
 -- `call_parts::define_lvalue` meets its contract: one law for each of its two ends, and one for each of its sets. Assumes nothing.
 use mathlib.Core.Path.{refl}
-use Rattle.state_ops.specs.Laws.List.{own_past}
-use Rattle.call_parts.specs.Laws.Instruction.{lvalue_stays, lvalue_own, own_below}
-use borrow.Author.Rules.{rules}
+use Rattle.state_ops.proofs.Laws.List.{own_past}
+use Rattle.call_parts.proofs.Laws.Instruction.{lvalue_stays, lvalue_own, own_below}
 use Rattle.call_parts.proofs.define_lvalue.Goals as goal
 
 pub returns-then-is_defined : goal.returns-then-is_defined

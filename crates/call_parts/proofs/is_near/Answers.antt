@@ -1,12 +1,6 @@
 -- `call_parts::is_near` meets its contract: the loop asks one of the context places that are left. Assumes nothing.
-use borrow.Author.Rules.{rules}
-use mathlib.Core.Path.{◌≡◌, refl, ◌∙◌}
-use Prim.Native.Nat.{◌-◌}
-use Rattle.def_effects.specs.Places.{identifiers}
-use Rattle.def_transfer.specs.Instruction.{has}
-use Rattle.lent_tables.specs.Words.{places_in}
-use Rattle.lent_layout.specs.Layout as Layout
-use Rattle.call_parts.specs.Laws.Instruction.{near_more, near_yes, near_no}
+use mathlib.Core.Path.{refl, ◌∙◌}
+use Rattle.call_parts.proofs.Laws.Instruction.{near_more, near_yes, near_no}
 use Rattle.call_parts.proofs.is_near.Goals as goal
 
 pub loop-k-init : goal.loop-k-init

@@ -1,11 +1,9 @@
-use borrow.Author.Rules.{rules}
-use mathlib.Core.Path.{◌≡◌, refl, ◌∙◌}
+use mathlib.Core.Path.{◌≡◌}
 use Prim.Native.Nat.{◌-◌}
 use Rattle.def_effects.specs.Places.{identifiers}
 use Rattle.def_transfer.specs.Instruction.{has}
 use Rattle.lent_tables.specs.Words.{places_in}
 use Rattle.lent_layout.specs.Layout as Layout
-use Rattle.call_parts.specs.Laws.Instruction.{near_more, near_yes, near_no}
 use Rattle.call_parts.proofs.is_near.Given as goal
 
 abbrev pub invariant-loop-k : goal.invariant-loop-k

@@ -1,8 +1,7 @@
 use native.Mathlib.Omega.{arith}
 use mathlib.Core.Path.{refl}
 use mathlib.Core.Logic.{inl, inr}
-use Rattle.call_room.specs.Laws.Room.{capped_full, capped_past, capped_sum}
-use borrow.Author.Rules.{rules}
+use Rattle.call_room.proofs.Laws.Room.{capped_full, capped_past, capped_sum}
 use Rattle.call_room.proofs.capped.Goals as goal
 
 pub returns-then-total-ge2048 : goal.returns-then-total-ge2048

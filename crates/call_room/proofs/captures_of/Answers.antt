@@ -1,5 +1,4 @@
-use Rattle.call_room.specs.Laws.Room.{captures_there, captures_none}
-use borrow.Author.Rules.{rules}
+use Rattle.call_room.proofs.Laws.Room.{captures_there, captures_none}
 use Rattle.call_room.proofs.captures_of.Goals as goal
 
 pub returns-then-code-eq13 : goal.returns-then-code-eq13

@@ -1,6 +1,5 @@
 use native.Mathlib.Omega.{arith}
-use Rattle.call_outcome.specs.Laws.Class.{context_short, context_long, context_whole}
-use borrow.Author.Rules.{rules}
+use Rattle.call_outcome.proofs.Laws.Class.{context_short, context_long, context_whole}
 use Rattle.call_room.proofs.context_wrong.Goals as goal
 
 pub overflow_mul-least : goal.overflow_mul-least

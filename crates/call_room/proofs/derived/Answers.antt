@@ -1,5 +1,4 @@
-use borrow.Author.Rules.{rules}
-use Rattle.call_room.specs.Laws.Room.{derives_none, derives_report, derives_two, derives_one, derives_from, derives_rest}
+use Rattle.call_room.proofs.Laws.Room.{derives_none, derives_report, derives_two, derives_one, derives_from, derives_rest}
 use Rattle.call_room.proofs.derived.Goals as goal
 
 pub returns-then-code-eq0 : goal.returns-then-code-eq0

@@ -1,7 +1,6 @@
 use native.Mathlib.Omega.{arith}
 use mathlib.Core.Path.{refl}
-use Rattle.call_room.specs.Laws.Room.{derives_few, need_is}
-use borrow.Author.Rules.{rules}
+use Rattle.call_room.proofs.Laws.Room.{derives_few, need_is}
 use Rattle.call_room.proofs.need_of.Goals as goal
 
 pub overflow_add-result : goal.overflow_add-result

@@ -1,10 +1,8 @@
-use borrow.Author.Rules.{rules}
 use native.Mathlib.Omega.{arith}
-use Prim.Native.Nat.{◌+◌, ◌-◌, ◌/◌, ◌≤◌}
-use mathlib.Core.Path.{◌≡◌, refl}
+use Prim.Native.Nat.{◌+◌, ◌/◌}
+use mathlib.Core.Path.{refl}
 use lib.ListN.{length}
-use Rattle.call_outcome.specs.Calls.{room_for}
-use Rattle.call_room.specs.Laws.Room.{left, room_starts, room_more, room_ends, most_limit}
+use Rattle.call_room.proofs.Laws.Room.{room_starts, room_more, room_ends, most_limit}
 use Rattle.call_room.proofs.room_for.Goals as goal
 
 pub loop-k-init : goal.loop-k-init

@@ -1,7 +1,5 @@
 -- `call_run::run_instruction` meets its contract: one law for each of its three ways. Assumes nothing.
-use mathlib.Core.Path.{◌∙◌}
-use Rattle.call_parts.specs.Laws.Instruction.{run_early, run_stops, run_ends}
-use borrow.Author.Rules.{rules}
+use Rattle.call_parts.proofs.Laws.Instruction.{run_early, run_stops, run_ends}
 use Rattle.call_run.proofs.run_instruction.Goals as goal
 
 pub returns-then-early-ne0 : goal.returns-then-early-ne0

@@ -1,12 +1,10 @@
 -- `call_save::copy_saved` meets its contract: one loop, a word at each turn. Assumes nothing.
-use Prim.Native.Nat.{◌+◌, ◌-◌, ◌≤◌}
+use Prim.Native.Nat.{◌+◌}
 use native.Mathlib.Omega.{arith}
 use native.Mathlib.Nat.{zero-add}
-use mathlib.Core.Path.{◌≡◌, refl, sym, ◌∙◌}
-use lib.ListN.{length, get_or, length-set}
-use borrow.Author.Rules.{rules}
-use Rattle.lent_copies.specs.Copies.{copied}
-use Rattle.lent_copies.specs.Laws.Copy.{copy_more, copy_end}
+use mathlib.Core.Path.{refl, sym, ◌∙◌}
+use lib.ListN.{get_or, length-set}
+use Rattle.lent_copies.proofs.Laws.Copy.{copy_more, copy_end}
 use Rattle.call_undo.specs.Saves.{saved_context}
 use Rattle.call_save.proofs.copy_saved.Goals as goal
 

@@ -1,12 +1,7 @@
 use Prim.Native.Nat.{◌+◌, ◌-◌, ◌≤◌}
-use native.Mathlib.Omega.{arith}
-use native.Mathlib.Nat.{zero-add}
-use mathlib.Core.Path.{◌≡◌, refl, sym, ◌∙◌}
-use lib.ListN.{length, get_or, length-set}
-use borrow.Author.Rules.{rules}
+use mathlib.Core.Path.{◌≡◌}
+use lib.ListN.{length}
 use Rattle.lent_copies.specs.Copies.{copied}
-use Rattle.lent_copies.specs.Laws.Copy.{copy_more, copy_end}
-use Rattle.call_undo.specs.Saves.{saved_context}
 use Rattle.call_save.proofs.copy_saved.Given as goal
 
 abbrev pub invariant-loop-k : goal.invariant-loop-k

@@ -1,6 +1,5 @@
 -- `call_save::save_context` meets its contract: one copy, on each of its ways. Assumes nothing.
 use Rattle.call_undo.specs.Saves.{saved_context}
-use borrow.Author.Rules.{rules}
 use Rattle.call_save.proofs.save_context.Goals as goal
 
 pub returns-then-context-lt-EFFECTS_FROM : goal.returns-then-context-lt-EFFECTS_FROM

@@ -2,7 +2,6 @@
 use mathlib.Core.Path.{ap, ◌∙◌}
 use Rattle.lent_copies.specs.Copies.{copied}
 use Rattle.call_undo.specs.Saves.{saved_state}
-use borrow.Author.Rules.{rules}
 use Rattle.call_save.proofs.save_state.Goals as goal
 
 pub returns : goal.returns

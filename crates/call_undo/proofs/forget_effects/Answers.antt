@@ -1,11 +1,7 @@
 -- `call_undo::forget_effects` meets its contract: one loop, a word at each turn. Assumes nothing.
-use Prim.Native.Nat.{ℕ, ◌+◌, ◌-◌, ◌*◌}
-use mathlib.Core.Path.{◌≡◌, refl, ap, ◌∙◌}
-use mathlib.Core.List.{[]}
-use lib.ListN.{length}
-use borrow.Author.Rules.{rules}
-use Rattle.lent_copies.specs.Copies.{copied}
-use Rattle.call_undo.specs.Laws.Save.{forgets_none, forgets_more, forgets_end}
+use Prim.Native.Nat.{ℕ, ◌+◌, ◌*◌}
+use mathlib.Core.Path.{refl, ap, ◌∙◌}
+use Rattle.call_undo.proofs.Laws.Save.{forgets_none, forgets_more, forgets_end}
 use Rattle.call_undo.proofs.forget_effects.Goals as goal
 
 pub returns-then-to-from : goal.returns-then-to-from

@@ -1,10 +1,8 @@
-use Prim.Native.Nat.{ℕ, ◌+◌, ◌-◌, ◌*◌}
-use mathlib.Core.Path.{◌≡◌, refl, ap, ◌∙◌}
+use Prim.Native.Nat.{◌+◌, ◌-◌, ◌*◌}
+use mathlib.Core.Path.{◌≡◌}
 use mathlib.Core.List.{[]}
 use lib.ListN.{length}
-use borrow.Author.Rules.{rules}
 use Rattle.lent_copies.specs.Copies.{copied}
-use Rattle.call_undo.specs.Laws.Save.{forgets_none, forgets_more, forgets_end}
 use Rattle.call_undo.proofs.forget_effects.Given as goal
 
 abbrev pub invariant-loop-k : goal.invariant-loop-k

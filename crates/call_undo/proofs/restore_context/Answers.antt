@@ -1,6 +1,5 @@
 -- `call_undo::restore_context` meets its contract: one law. Assumes nothing.
-use Rattle.call_undo.specs.Laws.Save.{restores}
-use borrow.Author.Rules.{rules}
+use Rattle.call_undo.proofs.Laws.Save.{restores}
 use Rattle.call_undo.proofs.restore_context.Goals as goal
 
 pub returns : goal.returns

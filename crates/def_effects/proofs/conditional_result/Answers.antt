@@ -1,7 +1,6 @@
 use mathlib.Core.Path.{sym, ap}
 use mathlib.Core.Bool.{false}
 use Rattle.def_effects.specs.Mutation.{result_of}
-use borrow.Author.Rules.{rules}
 use Rattle.def_effects.proofs.conditional_result.Goals as goal
 
 pub returns-in-Mutable : goal.returns-in-Mutable

@@ -1,6 +1,5 @@
 use mathlib.Core.Bool.{true, false}
-use Rattle.def_effects.specs.Laws.Mutation.{result_strict}
-use borrow.Author.Rules.{rules}
+use Rattle.def_effects.proofs.Laws.Mutation.{result_strict}
 use Rattle.def_effects.proofs.result_of.Goals as goal
 
 pub returns-then-strict : goal.returns-then-strict

@@ -1,6 +1,6 @@
 use mathlib.Core.Path.{refl, sym}
 use Rattle.def_kinds.specs.Reasons.{has_reason}
-use Rattle.def_kinds.specs.Laws.Kinds.{no_reason}
+use Rattle.def_kinds.proofs.Laws.Kinds.{no_reason}
 use borrow.Author.Rules.{rules}
 use Rattle.def_kinds.proofs.has_reason.Goals as goal
 

@@ -1,4 +1,4 @@
-use Rattle.def_kinds.specs.Laws.Kinds.{no_single}
+use Rattle.def_kinds.proofs.Laws.Kinds.{no_single}
 use borrow.Author.Rules.{rules}
 use Rattle.def_kinds.proofs.single.Goals as goal
 

@@ -1,5 +1,4 @@
-use Rattle.effect_acts.specs.Laws.Act.{act_freeze, act_mutate, act_mutate_conditionally, act_mutate_transitive, act_mutate_transitive_conditionally, act_capture, act_alias, act_maybe_alias, act_assign, act_create, act_create_from, act_immutable_capture, act_create_function, act_mutate_frozen, act_mutate_global, act_impure, act_render}
-use borrow.Author.Rules.{rules}
+use Rattle.effect_acts.proofs.Laws.Act.{act_freeze, act_mutate, act_mutate_conditionally, act_mutate_transitive, act_mutate_transitive_conditionally, act_capture, act_alias, act_maybe_alias, act_assign, act_create, act_create_from, act_immutable_capture, act_create_function, act_mutate_frozen, act_mutate_global, act_impure, act_render}
 use Rattle.effect_acts.proofs.act_of.Goals as goal
 
 pub returns-in-Freeze : goal.returns-in-Freeze

@@ -1,6 +1,5 @@
 -- `effect_assign::assign_rest` meets its contract: one law for each of its two ways. Assumes nothing.
-use Rattle.effect_create.specs.Laws.Creation.{assigned_copied, assigned_listed}
-use borrow.Author.Rules.{rules}
+use Rattle.effect_create.proofs.Laws.Creation.{assigned_copied, assigned_listed}
 use Rattle.effect_assign.proofs.assign_rest.Goals as goal
 
 pub returns-then-is_copied : goal.returns-then-is_copied

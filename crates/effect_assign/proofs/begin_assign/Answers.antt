@@ -1,6 +1,5 @@
 -- `effect_assign::begin_assign` meets its contract: one law for each of its two ways. Assumes nothing.
-use Rattle.effect_create.specs.Laws.Creation.{assign_refused, assign_begun}
-use borrow.Author.Rules.{rules}
+use Rattle.effect_create.proofs.Laws.Creation.{assign_refused, assign_begun}
 use Rattle.effect_assign.proofs.begin_assign.Goals as goal
 
 pub returns-then-b-ne0 : goal.returns-then-b-ne0

@@ -1,6 +1,5 @@
 -- `effect_assign::capturing_immutably` meets its contract: one law for each of its two ways. Assumes nothing.
-use Rattle.effect_create.specs.Laws.Creation.{capturing_copied, capturing_listed}
-use borrow.Author.Rules.{rules}
+use Rattle.effect_create.proofs.Laws.Creation.{capturing_copied, capturing_listed}
 use Rattle.effect_assign.proofs.capturing_immutably.Goals as goal
 
 pub returns-then-is_copied : goal.returns-then-is_copied

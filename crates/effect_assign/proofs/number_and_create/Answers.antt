@@ -1,6 +1,5 @@
 -- `effect_assign::number_and_create` meets its contract: one law for each of its two ways. Assumes nothing.
-use Rattle.effect_create.specs.Laws.Creation.{numbered_full, numbered_done}
-use borrow.Author.Rules.{rules}
+use Rattle.effect_create.proofs.Laws.Creation.{numbered_full, numbered_done}
 use Rattle.effect_assign.proofs.number_and_create.Goals as goal
 
 pub returns-then-g-ne0 : goal.returns-then-g-ne0

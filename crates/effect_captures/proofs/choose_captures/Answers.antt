@@ -1,6 +1,5 @@
 -- `effect_captures::choose_captures` meets its contract: one law for each of its two ways. Assumes nothing.
-use Rattle.effect_captures.specs.Laws.NewFunction.{chosen_found, chosen_given}
-use borrow.Author.Rules.{rules}
+use Rattle.effect_captures.proofs.Laws.NewFunction.{chosen_found, chosen_given}
 use Rattle.effect_captures.proofs.choose_captures.Goals as goal
 
 pub returns-in-At : goal.returns-in-At

@@ -1,10 +1,7 @@
 -- `effect_captures::copy_run` meets its contract: each turn copies one of the words that are left. Assumes nothing.
-use borrow.Author.Rules.{rules}
 use native.Mathlib.Omega.{arith}
-use mathlib.Core.Path.{◌≡◌, refl, ◌∙◌}
-use Prim.Native.Nat.{◌-◌, ◌≤◌}
-use lib.ListN.{length}
-use Rattle.effect_captures.specs.Laws.NewFunction.{Copied, copied_start, copied_turn, copied_kept, copied_run}
+use mathlib.Core.Path.{refl, ◌∙◌}
+use Rattle.effect_captures.proofs.Laws.NewFunction.{copied_start, copied_turn, copied_kept, copied_run}
 use Rattle.effect_captures.proofs.copy_run.Goals as goal
 
 pub loop-k-init : goal.loop-k-init

@@ -1,9 +1,7 @@
-use borrow.Author.Rules.{rules}
-use native.Mathlib.Omega.{arith}
-use mathlib.Core.Path.{◌≡◌, refl, ◌∙◌}
+use mathlib.Core.Path.{◌≡◌}
 use Prim.Native.Nat.{◌-◌, ◌≤◌}
 use lib.ListN.{length}
-use Rattle.effect_captures.specs.Laws.NewFunction.{Copied, copied_start, copied_turn, copied_kept, copied_run}
+use Rattle.effect_captures.proofs.Laws.NewFunction.{Copied}
 use Rattle.effect_captures.proofs.copy_run.Given as goal
 
 abbrev pub invariant-loop-k : goal.invariant-loop-k

@@ -1,6 +1,5 @@
 -- `effect_create::create_from` meets its contract: one law for each of its three ways. Assumes nothing.
-use Rattle.effect_create.specs.Laws.Creation.{from_refused, from_full, from_listed}
-use borrow.Author.Rules.{rules}
+use Rattle.effect_create.proofs.Laws.Creation.{from_refused, from_full, from_listed}
 use Rattle.effect_create.proofs.create_from.Goals as goal
 
 pub returns-then-b-ne0 : goal.returns-then-b-ne0

@@ -1,6 +1,5 @@
 -- `effect_create::creating` meets its contract: one law for each of its three ways. Assumes nothing.
-use Rattle.effect_create.specs.Laws.Creation.{creating_refused, creating_full, creating_done}
-use borrow.Author.Rules.{rules}
+use Rattle.effect_create.proofs.Laws.Creation.{creating_refused, creating_full, creating_done}
 use Rattle.effect_create.proofs.creating.Goals as goal
 
 pub returns-then-b-ne0 : goal.returns-then-b-ne0

@@ -1,6 +1,5 @@
 -- `effect_create::list_created` meets its contract: one law for each of its three ways. Assumes nothing.
-use Rattle.effect_create.specs.Laws.Creation.{listed_copied, listed_frozen, listed_itself}
-use borrow.Author.Rules.{rules}
+use Rattle.effect_create.proofs.Laws.Creation.{listed_copied, listed_frozen, listed_itself}
 use Rattle.effect_create.proofs.list_created.Goals as goal
 
 pub returns-then-is_copied : goal.returns-then-is_copied

@@ -1,10 +1,6 @@
 -- `effect_create::primary_reason` meets its contract: the loop looks at one of the reasons that are left. Assumes nothing.
-use borrow.Author.Rules.{rules}
 use native.Mathlib.Omega.{arith}
-use mathlib.Core.Path.{◌≡◌}
-use Prim.Native.Nat.{◌-◌, ◌≤◌}
-use Rattle.def_kinds.specs.Reasons.{primary_reason}
-use Rattle.effect_create.specs.Laws.Creation.{primary_from, primary_start, primary_found, primary_more, primary_none}
+use Rattle.effect_create.proofs.Laws.Creation.{primary_start, primary_found, primary_more, primary_none}
 use Rattle.effect_create.proofs.primary_reason.Goals as goal
 
 pub loop-n-init : goal.loop-n-init

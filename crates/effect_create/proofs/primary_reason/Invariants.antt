@@ -1,9 +1,7 @@
-use borrow.Author.Rules.{rules}
-use native.Mathlib.Omega.{arith}
 use mathlib.Core.Path.{◌≡◌}
 use Prim.Native.Nat.{◌-◌, ◌≤◌}
 use Rattle.def_kinds.specs.Reasons.{primary_reason}
-use Rattle.effect_create.specs.Laws.Creation.{primary_from, primary_start, primary_found, primary_more, primary_none}
+use Rattle.effect_create.proofs.Laws.Creation.{primary_from}
 use Rattle.effect_create.proofs.primary_reason.Given as goal
 
 abbrev pub invariant-loop-n : goal.invariant-loop-n

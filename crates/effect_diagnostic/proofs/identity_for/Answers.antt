@@ -1,7 +1,6 @@
 use mathlib.Core.Path.{ap}
 use Rattle.lent_keys.specs.KeyRecords.{option_of}
-use Rattle.effect_diagnostic.specs.Laws.Reporting.{identity_found, identity_full, identity_next}
-use borrow.Author.Rules.{rules}
+use Rattle.effect_diagnostic.proofs.Laws.Reporting.{identity_found, identity_full, identity_next}
 use Rattle.effect_diagnostic.proofs.identity_for.Goals as goal
 
 pub returns-in-At : goal.returns-in-At

@@ -1,5 +1,4 @@
-use Rattle.effect_diagnostic.specs.Laws.Reporting.{intern_refused, intern_goes}
-use borrow.Author.Rules.{rules}
+use Rattle.effect_diagnostic.proofs.Laws.Reporting.{intern_refused, intern_goes}
 use Rattle.effect_diagnostic.proofs.intern_diagnostic.Goals as goal
 
 pub returns-then-first-ne0 : goal.returns-then-first-ne0

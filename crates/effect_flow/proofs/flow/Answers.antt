@@ -1,5 +1,4 @@
-use Rattle.effect_flow.specs.Laws.Flow.{flow_refused, flow_goes}
-use borrow.Author.Rules.{rules}
+use Rattle.effect_flow.proofs.Laws.Flow.{flow_refused, flow_goes}
 use Rattle.effect_flow.proofs.flow.Goals as goal
 
 pub returns-then-refuses_flow : goal.returns-then-refuses_flow

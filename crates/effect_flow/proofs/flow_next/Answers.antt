@@ -1,5 +1,4 @@
-use Rattle.effect_flow.specs.Laws.Flow.{from_frozen, from_maybe_frozen, maybe_mutable, maybe_context, maybe_primitive, maybe_global, from_primitive, from_global, mutable_into_mutable, context_into_mutable, mutable_into_maybe_frozen, context_into_maybe_frozen, mutable_into_context, context_into_context, mutable_into_frozen, context_into_frozen, mutable_into_primitive, context_into_primitive, mutable_into_global, context_into_global}
-use borrow.Author.Rules.{rules}
+use Rattle.effect_flow.proofs.Laws.Flow.{from_frozen, from_maybe_frozen, maybe_mutable, maybe_context, maybe_primitive, maybe_global, from_primitive, from_global, mutable_into_mutable, context_into_mutable, mutable_into_maybe_frozen, context_into_maybe_frozen, mutable_into_context, context_into_context, mutable_into_frozen, context_into_frozen, mutable_into_primitive, context_into_primitive, mutable_into_global, context_into_global}
 use Rattle.effect_flow.proofs.flow_next.Goals as goal
 
 pub returns-then-maybe : goal.returns-then-maybe

@@ -1,13 +1,11 @@
-use Rattle.base_tests.specs.Laws.Bool.{not_true, not-false}
-use Rattle.effect_flow.specs.Laws.Flow.{refuses_not, refuses_marked, refuses_unmarked}
-use borrow.Author.Rules.{rules}
+use Rattle.effect_flow.proofs.Laws.Flow.{refuses_not, refuses_marked, refuses_unmarked}
 use Rattle.effect_flow.proofs.refuses_flow.Goals as goal
 
 pub returns-then-not-alias : goal.returns-then-not-alias
-returns-then-not-alias c = refuses_not _ _ _ (not_true _ c.if-not-alias.true)
+returns-then-not-alias c = refuses_not _ _ _ (c.if-not-alias.true)
 
 pub returns-then-is_marked : goal.returns-then-is_marked
-returns-then-is_marked c = refuses_marked _ _ _ _ c.is_marked.ensures (not-false _ c.if-not-alias.false) c.if-is_marked.true
+returns-then-is_marked c = refuses_marked _ _ _ _ c.is_marked.ensures (c.if-not-alias.false) c.if-is_marked.true
 
 pub returns : goal.returns
-returns c = refuses_unmarked _ _ _ _ c.is_marked.ensures (not-false _ c.if-not-alias.false) c.if-is_marked.false
+returns c = refuses_unmarked _ _ _ _ c.is_marked.ensures (c.if-not-alias.false) c.if-is_marked.false

@@ -1,16 +1,13 @@
-use Prim.Native.Nat.{◌-◌}
-use Rattle.base_tests.specs.Laws.Bool.{not_true, not-false}
-use Rattle.effect_freeze.specs.Laws.Freeze.{freezing_not, freezing_plain, freezing_walks}
-use borrow.Author.Rules.{rules}
+use Rattle.effect_freeze.proofs.Laws.Freeze.{freezing_not, freezing_plain, freezing_walks}
 use Rattle.effect_freeze.proofs.freezing.Goals as goal
 
 pub returns-then-not-freeze : goal.returns-then-not-freeze
-returns-then-not-freeze c = λ again. freezing_not _ _ _ _ _ _ _ _ _ c.freeze.ensures.0 c.freeze.ensures.1 again (not_true _ c.if-not-freeze.true)
+returns-then-not-freeze c = λ again. freezing_not _ _ _ _ _ _ _ _ _ c.freeze.ensures.0 c.freeze.ensures.1 again (c.if-not-freeze.true)
 
 pub returns-then-not-is_transitive : goal.returns-then-not-is_transitive
 returns-then-not-is_transitive c =
-    λ again. freezing_plain _ _ _ _ _ _ _ _ _ c.freeze.ensures.0 c.freeze.ensures.1 again _ _ _ _ (not-false _ c.if-not-freeze.false) (c.emit-listed.ensures _ _ _) c.is_transitive.ensures (not_true _ c.if-not-is_transitive.true)
+    λ again. freezing_plain _ _ _ _ _ _ _ _ _ c.freeze.ensures.0 c.freeze.ensures.1 again _ _ _ _ (c.if-not-freeze.false) (c.emit-listed.ensures _ _ _) c.is_transitive.ensures (c.if-not-is_transitive.true)
 
 pub returns : goal.returns
 returns c =
-    λ again. freezing_walks _ _ _ _ _ _ _ _ _ c.freeze.ensures.0 c.freeze.ensures.1 again _ _ _ _ (not-false _ c.if-not-freeze.false) (c.emit-listed.ensures _ _ _) c.is_transitive.ensures _ _ _ (not-false _ c.if-not-is_transitive.false) (c.walk.ensures _)
+    λ again. freezing_walks _ _ _ _ _ _ _ _ _ c.freeze.ensures.0 c.freeze.ensures.1 again _ _ _ _ (c.if-not-freeze.false) (c.emit-listed.ensures _ _ _) c.is_transitive.ensures _ _ _ (c.if-not-is_transitive.false) (c.walk.ensures _)

@@ -1,18 +1,15 @@
-use borrow.Author.Rules.{rules}
 use native.Mathlib.Omega.{arith}
-use mathlib.Core.Path.{◌≡◌, refl, ◌∙◌}
-use Prim.Native.Nat.{◌-◌, ◌+◌}
-use lib.ListN.{length}
-use Rattle.base_tests.specs.Laws.Bool.{not_true, not-false}
-use Rattle.lent_sets.specs.Laws.Row.{next_ge}
-use Rattle.effect_freeze.specs.Laws.Freeze.{walk_none, Walks, walks_start, walks_next, walks_refused, walks_end}
+use mathlib.Core.Path.{refl, ◌∙◌}
+use Prim.Native.Nat.{◌+◌}
+use Rattle.lent_sets.proofs.Laws.Row.{next_ge}
+use Rattle.effect_freeze.proofs.Laws.Freeze.{walk_none, walks_start, walks_next, walks_refused, walks_end}
 use Rattle.effect_freeze.proofs.walk.Goals as goal
 
 pub returns-then-not-is_defined : goal.returns-then-not-is_defined
-returns-then-not-is_defined c = walk_none _ _ _ _ _ _ _ _ c.is_defined.ensures (not_true _ c.if-not-is_defined.true) c.with_entries.ensures
+returns-then-not-is_defined c = walk_none _ _ _ _ _ _ _ _ c.is_defined.ensures (c.if-not-is_defined.true) c.with_entries.ensures
 
 pub loop-m-init : goal.loop-m-init
-loop-m-init c = (refl, walks_start _ _ _ _ _ _ _ _ c.is_defined.ensures (not-false _ c.if-not-is_defined.false) c.next_member-m.ensures)
+loop-m-init c = (refl, walks_start _ _ _ _ _ _ _ _ c.is_defined.ensures (c.if-not-is_defined.false) c.next_member-m.ensures)
 
 pub returns-then-w-ne0 : goal.returns-then-w-ne0
 returns-then-w-ne0 c =

@@ -1,11 +1,7 @@
-use borrow.Author.Rules.{rules}
-use native.Mathlib.Omega.{arith}
-use mathlib.Core.Path.{◌≡◌, refl, ◌∙◌}
-use Prim.Native.Nat.{◌-◌, ◌+◌}
+use mathlib.Core.Path.{◌≡◌}
+use Prim.Native.Nat.{◌-◌}
 use lib.ListN.{length}
-use Rattle.base_tests.specs.Laws.Bool.{not_true, not-false}
-use Rattle.lent_sets.specs.Laws.Row.{next_ge}
-use Rattle.effect_freeze.specs.Laws.Freeze.{walk_none, Walks, walks_start, walks_next, walks_refused, walks_end}
+use Rattle.effect_freeze.proofs.Laws.Freeze.{Walks}
 use Rattle.effect_freeze.proofs.walk.Given as goal
 
 abbrev pub invariant-loop-m : goal.invariant-loop-m

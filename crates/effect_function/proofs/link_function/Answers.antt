@@ -1,7 +1,5 @@
 -- `effect_function::link_function` meets its contract: one law for each of its two ways. Assumes nothing.
-use mathlib.Core.Path.{◌∙◌}
-use Rattle.effect_captures.specs.Laws.NewFunction.{linked_full, linked_done}
-use borrow.Author.Rules.{rules}
+use Rattle.effect_captures.proofs.Laws.NewFunction.{linked_full, linked_done}
 use Rattle.effect_function.proofs.link_function.Goals as goal
 
 pub returns-then-g-ne0 : goal.returns-then-g-ne0

@@ -1,7 +1,5 @@
 -- `effect_function::make_function` meets its contract: one law for each of its two ways. Assumes nothing.
-use mathlib.Core.Path.{◌∙◌}
-use Rattle.effect_captures.specs.Laws.NewFunction.{function_refused, function_made}
-use borrow.Author.Rules.{rules}
+use Rattle.effect_captures.proofs.Laws.NewFunction.{function_refused, function_made}
 use Rattle.effect_function.proofs.make_function.Goals as goal
 
 pub returns-then-b-ne0 : goal.returns-then-b-ne0

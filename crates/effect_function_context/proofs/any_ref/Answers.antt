@@ -1,6 +1,4 @@
-use borrow.Author.Rules.{rules}
-use Prim.Native.Nat.{◌-◌}
-use Rattle.effect_function_context.specs.Laws.Function.{Seeks, seeks_start, seeks_yes, seeks_more, seeks_no}
+use Rattle.effect_function_context.proofs.Laws.Function.{seeks_start, seeks_yes, seeks_more, seeks_no}
 use Rattle.effect_function_context.proofs.any_ref.Goals as goal
 
 pub loop-k-init : goal.loop-k-init

@@ -1,6 +1,5 @@
-use borrow.Author.Rules.{rules}
 use Prim.Native.Nat.{◌-◌}
-use Rattle.effect_function_context.specs.Laws.Function.{Seeks, seeks_start, seeks_yes, seeks_more, seeks_no}
+use Rattle.effect_function_context.proofs.Laws.Function.{Seeks}
 use Rattle.effect_function_context.proofs.any_ref.Given as goal
 
 abbrev pub invariant-loop-k : goal.invariant-loop-k

@@ -1,10 +1,6 @@
-use borrow.Author.Rules.{rules}
-use mathlib.Core.Path.{◌≡◌, refl, ◌∙◌}
-use Prim.Native.Nat.{◌≤◌, ◌-◌}
-use lib.ListN.{length}
+use mathlib.Core.Path.{refl, ◌∙◌}
 use native.Mathlib.Omega.{arith}
-use Rattle.effect_function_context.specs.Functions.{copied_places}
-use Rattle.effect_function_context.specs.Laws.Function.{copied_more, copied_done}
+use Rattle.effect_function_context.proofs.Laws.Function.{copied_more, copied_done}
 use Rattle.effect_function_context.proofs.copy_context.Goals as goal
 
 pub loop-k-init : goal.loop-k-init

@@ -1,10 +1,7 @@
-use borrow.Author.Rules.{rules}
-use mathlib.Core.Path.{◌≡◌, refl, ◌∙◌}
+use mathlib.Core.Path.{◌≡◌}
 use Prim.Native.Nat.{◌≤◌, ◌-◌}
 use lib.ListN.{length}
-use native.Mathlib.Omega.{arith}
 use Rattle.effect_function_context.specs.Functions.{copied_places}
-use Rattle.effect_function_context.specs.Laws.Function.{copied_more, copied_done}
 use Rattle.effect_function_context.proofs.copy_context.Given as goal
 
 abbrev pub invariant-loop-k : goal.invariant-loop-k

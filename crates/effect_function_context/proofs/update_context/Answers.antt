@@ -1,6 +1,5 @@
 use mathlib.Core.Path.{refl}
-use Rattle.effect_function_context.specs.Laws.Function.{updates_context}
-use borrow.Author.Rules.{rules}
+use Rattle.effect_function_context.proofs.Laws.Function.{updates_context}
 use Rattle.effect_function_context.proofs.update_context.Goals as goal
 
 pub returns : goal.returns

@@ -1,8 +1,5 @@
-use borrow.Author.Rules.{rules}
-use mathlib.Core.Path.{◌≡◌, refl, ◌∙◌}
-use Prim.Native.Nat.{◌-◌}
-use lib.ListN.{length}
-use Rattle.effect_function_context.specs.Laws.Function.{Updates, updates_start, updates_more, updates_end}
+use mathlib.Core.Path.{refl, ◌∙◌}
+use Rattle.effect_function_context.proofs.Laws.Function.{updates_start, updates_more, updates_end}
 use Rattle.effect_function_context.proofs.update_places.Goals as goal
 
 pub loop-k-init : goal.loop-k-init

@@ -1,8 +1,7 @@
-use borrow.Author.Rules.{rules}
-use mathlib.Core.Path.{◌≡◌, refl, ◌∙◌}
+use mathlib.Core.Path.{◌≡◌}
 use Prim.Native.Nat.{◌-◌}
 use lib.ListN.{length}
-use Rattle.effect_function_context.specs.Laws.Function.{Updates, updates_start, updates_more, updates_end}
+use Rattle.effect_function_context.proofs.Laws.Function.{Updates}
 use Rattle.effect_function_context.proofs.update_places.Given as goal
 
 abbrev pub invariant-loop-k : goal.invariant-loop-k

@@ -1,6 +1,5 @@
 use Rattle.lent_effects.specs.Records.{captures_of}
-use Rattle.effect_intern.specs.Laws.Interning.{intern_found, intern_full, intern_new_is}
-use borrow.Author.Rules.{rules}
+use Rattle.effect_intern.proofs.Laws.Interning.{intern_found, intern_full, intern_new_is}
 use Rattle.effect_intern.proofs.intern_effect.Goals as goal
 
 pub returns-then-n-ge2048 : goal.returns-then-n-ge2048

@@ -1,5 +1,4 @@
-use Rattle.effect_intern.specs.Laws.Refresh as Refresh
-use borrow.Author.Rules.{rules}
+use Rattle.effect_intern.proofs.Laws.Refresh as Refresh
 use Rattle.effect_intern.proofs.refresh.Goals as goal
 
 pub returns-in-Freeze : goal.returns-in-Freeze

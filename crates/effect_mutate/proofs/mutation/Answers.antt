@@ -1,5 +1,4 @@
-use Rattle.effect_reports.specs.Laws.Mutation.{mutation_ref, mutation_goes}
-use borrow.Author.Rules.{rules}
+use Rattle.effect_reports.proofs.Laws.Mutation.{mutation_ref, mutation_goes}
 use Rattle.effect_mutate.proofs.mutation.Goals as goal
 
 pub returns-then-is_ref : goal.returns-then-is_ref

@@ -1,5 +1,4 @@
-use Rattle.effect_reports.specs.Laws.Mutation.{hoisted_refused, hoisted_goes}
-use borrow.Author.Rules.{rules}
+use Rattle.effect_reports.proofs.Laws.Mutation.{hoisted_refused, hoisted_goes}
 use Rattle.effect_mutate.proofs.report_hoisted.Goals as goal
 
 pub returns-then-g-ne0 : goal.returns-then-g-ne0

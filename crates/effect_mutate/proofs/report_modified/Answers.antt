@@ -1,5 +1,4 @@
-use Rattle.effect_reports.specs.Laws.Mutation.{modified_refused, modified_frozen, modified_global}
-use borrow.Author.Rules.{rules}
+use Rattle.effect_reports.proofs.Laws.Mutation.{modified_refused, modified_frozen, modified_global}
 use Rattle.effect_mutate.proofs.report_modified.Goals as goal
 
 pub returns-then-g-ne0 : goal.returns-then-g-ne0

@@ -1,5 +1,4 @@
-use Rattle.effect_reports.specs.Laws.Mutation.{result_none, result_ref, result_mutate, result_global, result_hoisted, result_frozen}
-use borrow.Author.Rules.{rules}
+use Rattle.effect_reports.proofs.Laws.Mutation.{result_none, result_ref, result_mutate, result_global, result_hoisted, result_frozen}
 use Rattle.effect_mutate.proofs.report_result.Goals as goal
 
 pub returns-then-is_hoisted : goal.returns-then-is_hoisted

@@ -1,5 +1,4 @@
-use Rattle.effect_intern.specs.Laws.Interning.{number_asked, number_put, number_found, number_none, number_new}
-use borrow.Author.Rules.{rules}
+use Rattle.effect_intern.proofs.Laws.Interning.{number_asked, number_put, number_found, number_none, number_new}
 use Rattle.effect_number.proofs.get_or_create_value_id.Goals as goal
 
 pub returns-in-At : goal.returns-in-At

@@ -1,6 +1,4 @@
-use borrow.Author.Rules.{rules}
-use Prim.Native.Nat.{◌-◌}
-use Rattle.effect_parts.specs.Laws.Part.{Asks, asks_start, asks_yes, asks_more, asks_no}
+use Rattle.effect_parts.proofs.Laws.Part.{asks_start, asks_yes, asks_more, asks_no}
 use Rattle.effect_parts.proofs.any_written.Goals as goal
 
 pub loop-k-init : goal.loop-k-init

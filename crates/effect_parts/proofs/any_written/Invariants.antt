@@ -1,6 +1,5 @@
-use borrow.Author.Rules.{rules}
 use Prim.Native.Nat.{◌-◌}
-use Rattle.effect_parts.specs.Laws.Part.{Asks, asks_start, asks_yes, asks_more, asks_no}
+use Rattle.effect_parts.proofs.Laws.Part.{Asks}
 use Rattle.effect_parts.proofs.any_written.Given as goal
 
 abbrev pub invariant-loop-k : goal.invariant-loop-k

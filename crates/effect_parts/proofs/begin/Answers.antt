@@ -1,6 +1,4 @@
-use Prim.Native.Nat.{◌-◌}
-use Rattle.effect_parts.specs.Laws.Part.{begin_again, begin_first}
-use borrow.Author.Rules.{rules}
+use Rattle.effect_parts.proofs.Laws.Part.{begin_again, begin_first}
 use Rattle.effect_parts.proofs.begin.Goals as goal
 
 pub returns-then-is_marked : goal.returns-then-is_marked

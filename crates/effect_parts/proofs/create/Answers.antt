@@ -1,6 +1,4 @@
-use Prim.Native.Nat.{◌-◌}
-use Rattle.effect_parts.specs.Laws.Part.{create_is}
-use borrow.Author.Rules.{rules}
+use Rattle.effect_parts.proofs.Laws.Part.{create_is}
 use Rattle.effect_parts.proofs.create.Goals as goal
 
 pub returns : goal.returns

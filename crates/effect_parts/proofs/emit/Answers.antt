@@ -1,6 +1,4 @@
-use Prim.Native.Nat.{◌-◌}
-use Rattle.effect_parts.specs.Laws.Part.{emit_full, emit_one}
-use borrow.Author.Rules.{rules}
+use Rattle.effect_parts.proofs.Laws.Part.{emit_full, emit_one}
 use Rattle.effect_parts.proofs.emit.Goals as goal
 
 pub returns-then-run-ge4294967295 : goal.returns-then-run-ge4294967295

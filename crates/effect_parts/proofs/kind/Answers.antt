@@ -1,6 +1,4 @@
-use Prim.Native.Nat.{◌-◌}
-use Rattle.effect_parts.specs.Laws.Part.{kind_plain}
-use borrow.Author.Rules.{rules}
+use Rattle.effect_parts.proofs.Laws.Part.{kind_plain}
 use Rattle.effect_parts.proofs.kind.Goals as goal
 
 pub returns : goal.returns

@@ -1,5 +1,4 @@
-use Rattle.effect_plain.specs.Laws.Plain.{listed_is}
-use borrow.Author.Rules.{rules}
+use Rattle.effect_plain.proofs.Laws.Plain.{listed_is}
 use Rattle.effect_plain.proofs.listing.Goals as goal
 
 pub returns : goal.returns

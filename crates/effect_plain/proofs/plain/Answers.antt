@@ -1,5 +1,4 @@
-use Rattle.effect_plain.specs.Laws.Plain.{plain_freeze, plain_mutate, plain_mutate_conditionally, plain_mutate_transitive, plain_mutate_transitive_conditionally, plain_capture, plain_alias, plain_maybe_alias, plain_assign, plain_create, plain_create_from, plain_immutable_capture, plain_create_function, plain_mutate_frozen, plain_mutate_global, plain_impure, plain_render}
-use borrow.Author.Rules.{rules}
+use Rattle.effect_plain.proofs.Laws.Plain.{plain_freeze, plain_mutate, plain_mutate_conditionally, plain_mutate_transitive, plain_mutate_transitive_conditionally, plain_capture, plain_alias, plain_maybe_alias, plain_assign, plain_create, plain_create_from, plain_immutable_capture, plain_create_function, plain_mutate_frozen, plain_mutate_global, plain_impure, plain_render}
 use Rattle.effect_plain.proofs.plain.Goals as goal
 
 pub returns-in-Freeze : goal.returns-in-Freeze

@@ -1,4 +1,4 @@
-use Rattle.effect_reports.specs.Laws.Mutation.{label_starts, label_ends, label_none}
+use Rattle.effect_reports.proofs.Laws.Mutation.{label_starts, label_ends, label_none}
 use Rattle.effect_reports.proofs.access_label.Goals as goal
 
 pub returns-then-access-own : goal.returns-then-access-own

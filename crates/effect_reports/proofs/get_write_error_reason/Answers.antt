@@ -1,5 +1,4 @@
-use Rattle.effect_reports.specs.Laws.Mutation.{left_all, left_here, left_next, left_none}
-use borrow.Author.Rules.{rules}
+use Rattle.effect_reports.proofs.Laws.Mutation.{left_all, left_here, left_next, left_none}
 use Rattle.effect_reports.proofs.get_write_error_reason.Goals as goal
 
 pub returns-then-has_reason : goal.returns-then-has_reason

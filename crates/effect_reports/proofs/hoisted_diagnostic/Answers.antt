@@ -1,5 +1,4 @@
-use Rattle.effect_reports.specs.Laws.Mutation.{hoisted_is}
-use borrow.Author.Rules.{rules}
+use Rattle.effect_reports.proofs.Laws.Mutation.{hoisted_is}
 use Rattle.effect_reports.proofs.hoisted_diagnostic.Goals as goal
 
 pub returns : goal.returns

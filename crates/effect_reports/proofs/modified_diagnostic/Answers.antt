@@ -1,5 +1,4 @@
-use Rattle.effect_reports.specs.Laws.Mutation.{modified_is}
-use borrow.Author.Rules.{rules}
+use Rattle.effect_reports.proofs.Laws.Mutation.{modified_is}
 use Rattle.effect_reports.proofs.modified_diagnostic.Goals as goal
 
 pub returns : goal.returns

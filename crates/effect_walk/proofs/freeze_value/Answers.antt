@@ -1,6 +1,4 @@
-use Prim.Native.Nat.{◌-◌}
-use Rattle.effect_walk.specs.Laws.Walk.{frozen_is}
-use borrow.Author.Rules.{rules}
+use Rattle.effect_walk.proofs.Laws.Walk.{frozen_is}
 use Rattle.effect_walk.proofs.freeze_value.Goals as goal
 
 pub returns : goal.returns

@@ -1,8 +1,7 @@
 -- `image_class::words_refusal` meets its contract: the ways through it, one after the other. Assumes nothing.
 use mathlib.Core.Path.{refl}
 use Rattle.def_image.specs.Refusals.{refusal_of_words}
-use Rattle.base_tests.specs.Laws.Chains.{pick_at, pick_on}
-use borrow.Author.Rules.{rules}
+use Rattle.base_tests.proofs.Laws.Chains.{pick_at, pick_on}
 use Rattle.image_class.proofs.words_refusal.Goals as goal
 
 pub returns-then-earns_two : goal.returns-then-earns_two

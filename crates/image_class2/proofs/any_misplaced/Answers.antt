@@ -1,11 +1,10 @@
 -- `image_class2::any_misplaced` meets its contract. The loop's invariant: none of those passed passes the test. The measure is those that are left. Assumes nothing.
-use borrow.Author.Rules.{rules}
 use borrow.Author.Count.{below_more, below_none}
-use Prim.Native.Nat.{◌-◌, ◌<◌, ℕ}
-use mathlib.Core.Path.{◌∙◌, ◌≡◌, refl, sym}
+use Prim.Native.Nat.{ℕ}
+use mathlib.Core.Path.{◌∙◌, refl, sym}
 use mathlib.Core.Bool.{false}
 use Rattle.def_image.specs.Refusals.{misplaced}
-use Rattle.base_tests.specs.Laws.Chains.{any_found, any_none}
+use Rattle.base_tests.proofs.Laws.Chains.{any_found, any_none}
 use Rattle.image_class2.proofs.any_misplaced.Goals as goal
 
 pub loop-s-init : goal.loop-s-init

@@ -3,7 +3,6 @@ use mathlib.Core.Path.{◌∙◌, ap}
 use Rattle.def_image.specs.Refusals.{creates_function}
 use lib.Dec.{eqb}
 use Prim.Native.Nat.{ℕ}
-use borrow.Author.Rules.{rules}
 use Rattle.image_class2.proofs.creates_function.Goals as goal
 
 pub returns : goal.returns

@@ -1,7 +1,6 @@
 -- `image_class2::earns_two` meets its contract: the ways through it, one after the other. Assumes nothing.
 use Rattle.def_image.specs.Refusals.{earns_two}
-use Rattle.base_tests.specs.Laws.Chains.{or_at, or_on}
-use borrow.Author.Rules.{rules}
+use Rattle.base_tests.proofs.Laws.Chains.{or_at, or_on}
 use Rattle.image_class2.proofs.earns_two.Goals as goal
 
 pub returns-then-wrong_header : goal.returns-then-wrong_header

@@ -1,7 +1,7 @@
 -- `image_class2::end_of` meets its contract: the ways through it, one after the other. Assumes nothing.
 use native.Mathlib.Omega.{arith}
 use mathlib.Core.Path.{◌∙◌}
-use Rattle.image_class2.specs.Laws.Layout.{end_is, span_fits}
+use Rattle.image_class2.proofs.Laws.Layout.{end_is, span_fits}
 use borrow.Author.Rules.{rules}
 use Rattle.image_class2.proofs.end_of.Goals as goal
 

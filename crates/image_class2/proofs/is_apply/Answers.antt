@@ -3,7 +3,6 @@ use mathlib.Core.Path.{◌∙◌, ap}
 use lib.Dec.{eqb}
 use Rattle.def_image.specs.Refusals.{is_apply}
 use Prim.Native.Nat.{ℕ}
-use borrow.Author.Rules.{rules}
 use Rattle.image_class2.proofs.is_apply.Goals as goal
 
 pub returns : goal.returns

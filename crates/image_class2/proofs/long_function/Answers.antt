@@ -3,8 +3,7 @@ use mathlib.Core.Path.{◌∙◌, ap}
 use Rattle.def_image.specs.Refusals.{long_function}
 use lib.Dec.{ltb}
 use Prim.Native.Nat.{ℕ}
-use Rattle.base_tests.specs.Laws.Chains.{or_at, or_on}
-use borrow.Author.Rules.{rules}
+use Rattle.base_tests.proofs.Laws.Chains.{or_at, or_on}
 use Rattle.image_class2.proofs.long_function.Goals as goal
 
 pub returns-then-below : goal.returns-then-below

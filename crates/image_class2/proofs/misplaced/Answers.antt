@@ -4,7 +4,6 @@ use lib.Dec.{eqb}
 use Rattle.def_image.specs.Refusals.{misplaced}
 use mathlib.Core.Bool.{not}
 use Prim.Native.Nat.{ℕ}
-use borrow.Author.Rules.{rules}
 use Rattle.image_class2.proofs.misplaced.Goals as goal
 
 pub returns : goal.returns

@@ -1,7 +1,7 @@
 -- `image_class2::next_cell` meets its contract: the ways through it, one after the other. Assumes nothing.
 use native.Mathlib.Omega.{arith}
 use mathlib.Core.Path.{◌∙◌}
-use Rattle.image_class2.specs.Laws.Layout.{next_is, next_fits}
+use Rattle.image_class2.proofs.Laws.Layout.{next_is, next_fits}
 use borrow.Author.Rules.{rules}
 use Rattle.image_class2.proofs.next_cell.Goals as goal
 

@@ -1,6 +1,5 @@
 -- `image_class2::start_of` meets its contract: the ways through it, one after the other. Assumes nothing.
-use Rattle.image_class2.specs.Laws.Layout.{start_first, start_next}
-use borrow.Author.Rules.{rules}
+use Rattle.image_class2.proofs.Laws.Layout.{start_first, start_next}
 use Rattle.image_class2.proofs.start_of.Goals as goal
 
 pub returns-then-s-eq0 : goal.returns-then-s-eq0

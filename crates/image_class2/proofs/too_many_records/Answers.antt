@@ -3,8 +3,7 @@ use mathlib.Core.Path.{◌∙◌, ap}
 use lib.Dec.{ltb}
 use Rattle.def_image.specs.Refusals.{too_many_records}
 use Prim.Native.Nat.{ℕ}
-use Rattle.base_tests.specs.Laws.Chains.{or_at, or_on}
-use borrow.Author.Rules.{rules}
+use Rattle.base_tests.proofs.Laws.Chains.{or_at, or_on}
 use Rattle.image_class2.proofs.too_many_records.Goals as goal
 
 pub returns-then-below : goal.returns-then-below

@@ -4,7 +4,6 @@ use lib.Dec.{eqb}
 use mathlib.Core.Bool.{not}
 use Rattle.def_image.specs.Refusals.{wrong_edition}
 use Prim.Native.Nat.{ℕ}
-use borrow.Author.Rules.{rules}
 use Rattle.image_class2.proofs.wrong_edition.Goals as goal
 
 pub returns : goal.returns

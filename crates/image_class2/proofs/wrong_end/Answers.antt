@@ -5,7 +5,6 @@ use lib.ListN.{length}
 use mathlib.Core.Bool.{not}
 use Rattle.def_image.specs.Refusals.{wrong_end}
 use Prim.Native.Nat.{ℕ}
-use borrow.Author.Rules.{rules}
 use Rattle.image_class2.proofs.wrong_end.Goals as goal
 
 pub returns : goal.returns

@@ -1,7 +1,6 @@
 -- `image_class2::wrong_header` meets its contract: the ways through it, one after the other. Assumes nothing.
 use Rattle.def_image.specs.Refusals.{wrong_header}
-use Rattle.base_tests.specs.Laws.Chains.{or_at, or_on}
-use borrow.Author.Rules.{rules}
+use Rattle.base_tests.proofs.Laws.Chains.{or_at, or_on}
 use Rattle.image_class2.proofs.wrong_header.Goals as goal
 
 pub returns-then-wrong_edition : goal.returns-then-wrong_edition

@@ -1,10 +1,7 @@
-use borrow.Author.Rules.{rules}
-use borrow.Author.Count.{below_more, below_none}
 use Prim.Native.Nat.{◌-◌, ◌<◌, ℕ}
-use mathlib.Core.Path.{◌∙◌, ◌≡◌, sym}
-use Rattle.def_image.specs.Refusals.{any_record, bad_value}
+use mathlib.Core.Path.{◌≡◌}
+use Rattle.def_image.specs.Refusals.{bad_value}
 use mathlib.Core.Bool.{false}
-use Rattle.base_tests.specs.Laws.Chains.{any_found, any_none}
 use Rattle.image_class3.proofs.bad_values.Given as goal
 
 abbrev pub invariant-loop-k : goal.invariant-loop-k

@@ -4,8 +4,7 @@ use mathlib.Core.Path.{◌∙◌, ap}
 use lib.Dec.{eqb, ltb}
 use Rattle.def_image.specs.Refusals.{needs_known}
 use mathlib.Core.Bool.{not}
-use Rattle.base_tests.specs.Laws.Chains.{or_at, or_on}
-use borrow.Author.Rules.{rules}
+use Rattle.base_tests.proofs.Laws.Chains.{or_at, or_on}
 use Rattle.image_class3.proofs.needs_known.Goals as goal
 
 pub returns-then-flag_two : goal.returns-then-flag_two

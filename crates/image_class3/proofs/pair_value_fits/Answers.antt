@@ -3,8 +3,7 @@ use mathlib.Core.Path.{◌∙◌, ap}
 use lib.Dec.{eqb}
 use Rattle.def_image.specs.Refusals.{is_number}
 use Prim.Native.Nat.{ℕ}
-use Rattle.base_tests.specs.Laws.Chains.{or_at, or_on}
-use borrow.Author.Rules.{rules}
+use Rattle.base_tests.proofs.Laws.Chains.{or_at, or_on}
 use Rattle.image_class3.proofs.pair_value_fits.Goals as goal
 
 pub returns-then-same : goal.returns-then-same

@@ -1,10 +1,7 @@
-use borrow.Author.Rules.{rules}
-use borrow.Author.Count.{below_more, below_none}
 use Prim.Native.Nat.{◌-◌, ◌<◌, ℕ}
-use mathlib.Core.Path.{◌∙◌, ◌≡◌, refl, sym}
+use mathlib.Core.Path.{◌≡◌}
 use Rattle.def_image.specs.Refusals.{bad_word}
 use mathlib.Core.Bool.{false}
-use Rattle.base_tests.specs.Laws.Chains.{any_found, any_none}
 use Rattle.image_class3_candidates.proofs.any_bad_word.Given as goal
 
 abbrev pub invariant-loop-j : goal.invariant-loop-j

@@ -1,11 +1,10 @@
 -- `image_class3_candidates::bad_candidates` meets its contract. The loop's invariant: none of those passed passes the test. The measure is those that are left. Assumes nothing.
-use borrow.Author.Rules.{rules}
 use borrow.Author.Count.{below_more, below_none}
-use Prim.Native.Nat.{◌-◌, ◌<◌, ℕ}
-use mathlib.Core.Path.{◌∙◌, ◌≡◌, sym}
+use Prim.Native.Nat.{ℕ}
+use mathlib.Core.Path.{◌∙◌, sym}
 use Rattle.def_image.specs.Refusals.{any_record, bad_candidate}
 use mathlib.Core.Bool.{false}
-use Rattle.base_tests.specs.Laws.Chains.{any_found, any_none}
+use Rattle.base_tests.proofs.Laws.Chains.{any_found, any_none}
 use Rattle.image_class3_candidates.proofs.bad_candidates.Goals as goal
 
 pub loop-k-init : goal.loop-k-init

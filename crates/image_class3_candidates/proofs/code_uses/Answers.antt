@@ -1,6 +1,5 @@
 -- `image_class3_candidates::code_uses` meets its contract: the ways through it, one after the other. Assumes nothing.
-use Rattle.image_class3_candidates.specs.Laws.Used.{used_is, used_out}
-use borrow.Author.Rules.{rules}
+use Rattle.image_class3_candidates.proofs.Laws.Used.{used_is, used_out}
 use Rattle.image_class3_candidates.proofs.code_uses.Goals as goal
 
 pub returns-then-c-ge18 : goal.returns-then-c-ge18

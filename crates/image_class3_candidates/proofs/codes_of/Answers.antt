@@ -1,8 +1,7 @@
 -- `image_class3_candidates::codes_of` meets its contract: the ways through it, one after the other. Assumes nothing.
-use Rattle.image_class3_candidates.specs.Laws.Used.{codes_out}
+use Rattle.image_class3_candidates.proofs.Laws.Used.{codes_out}
 use Rattle.image_class3_candidates.specs.Used.{codes_of}
 use mathlib.Core.Path.{refl}
-use borrow.Author.Rules.{rules}
 use Rattle.image_class3_candidates.proofs.codes_of.Goals as goal
 
 pub returns-then-j-lt8 : goal.returns-then-j-lt8

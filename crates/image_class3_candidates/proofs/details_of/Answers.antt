@@ -1,8 +1,7 @@
 -- `image_class3_candidates::details_of` meets its contract: the ways through it, one after the other. Assumes nothing.
 use Rattle.def_image.specs.Refusals.{details_of}
 use mathlib.Core.Path.{refl}
-use Rattle.base_tests.specs.Laws.Chains.{pick_at, pick_on}
-use borrow.Author.Rules.{rules}
+use Rattle.base_tests.proofs.Laws.Chains.{pick_at, pick_on}
 use Rattle.image_class3_candidates.proofs.details_of.Goals as goal
 
 pub returns-then-same : goal.returns-then-same

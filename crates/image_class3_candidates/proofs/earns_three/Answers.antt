@@ -1,7 +1,6 @@
 -- `image_class3_candidates::earns_three` meets its contract: the ways through it, one after the other. Assumes nothing.
 use Rattle.def_image.specs.Refusals.{earns_three}
-use Rattle.base_tests.specs.Laws.Chains.{or_at, or_on}
-use borrow.Author.Rules.{rules}
+use Rattle.base_tests.proofs.Laws.Chains.{or_at, or_on}
 use Rattle.image_class3_candidates.proofs.earns_three.Goals as goal
 
 pub returns-then-bad_header : goal.returns-then-bad_header

@@ -1,8 +1,7 @@
 -- `image_class3_candidates::limit_of` meets its contract: the ways through it, one after the other. Assumes nothing.
 use mathlib.Core.Path.{◌∙◌, ap, sym}
 use Rattle.def_image.specs.Refusals.{limit_of}
-use Rattle.image_class3_candidates.specs.Laws.Range.{limit_other}
-use borrow.Author.Rules.{rules}
+use Rattle.image_class3_candidates.proofs.Laws.Range.{limit_other}
 use Rattle.image_class3_candidates.proofs.limit_of.Goals as goal
 
 pub returns-then-j-eq1 : goal.returns-then-j-eq1

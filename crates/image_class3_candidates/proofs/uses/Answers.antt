@@ -5,8 +5,7 @@ use lib.ListN.{get_or}
 use Rattle.def_transfer.specs.Instruction.{has}
 use Rattle.def_image.specs.Refusals.{used_words, uses}
 use Prim.Native.Nat.{ℕ}
-use Rattle.base_tests.specs.Laws.Chains.{or_at, or_on}
-use borrow.Author.Rules.{rules}
+use Rattle.base_tests.proofs.Laws.Chains.{or_at, or_on}
 use Rattle.image_class3_candidates.proofs.uses.Goals as goal
 
 pub returns-then-code_uses : goal.returns-then-code_uses

@@ -3,7 +3,6 @@ use mathlib.Core.Path.{◌∙◌, ap}
 use Rattle.def_image.specs.Refusals.{is_in}
 use lib.Dec.{ltb}
 use Prim.Native.Nat.{ℕ}
-use borrow.Author.Rules.{rules}
 use Rattle.image_class3_fields.proofs.is_in.Goals as goal
 
 pub returns : goal.returns

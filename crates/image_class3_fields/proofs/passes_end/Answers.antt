@@ -2,8 +2,7 @@
 use mathlib.Core.Path.{ap}
 use mathlib.Core.Bool.{not}
 use Rattle.def_image.specs.Refusals.{passes_end}
-use Rattle.base_tests.specs.Laws.Chains.{and_at, and_on}
-use borrow.Author.Rules.{rules}
+use Rattle.base_tests.proofs.Laws.Chains.{and_at, and_on}
 use Rattle.image_class3_fields.proofs.passes_end.Goals as goal
 
 pub returns-then-same : goal.returns-then-same

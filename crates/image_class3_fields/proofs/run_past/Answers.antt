@@ -2,7 +2,6 @@
 use Prim.Native.Nat.{◌+◌, ℕ}
 use mathlib.Core.Path.{◌∙◌, ap₂}
 use lib.Dec.{ltb}
-use borrow.Author.Rules.{rules}
 use Rattle.image_class3_fields.proofs.run_past.Goals as goal
 
 pub returns : goal.returns

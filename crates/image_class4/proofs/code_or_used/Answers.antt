@@ -1,6 +1,5 @@
 -- `image_class4::code_or_used` meets its contract: the ways through it, one after the other. Assumes nothing.
-use Rattle.base_tests.specs.Laws.Chains.{or_at, or_on}
-use borrow.Author.Rules.{rules}
+use Rattle.base_tests.proofs.Laws.Chains.{or_at, or_on}
 use Rattle.image_class4.proofs.code_or_used.Goals as goal
 
 pub returns-then-same : goal.returns-then-same

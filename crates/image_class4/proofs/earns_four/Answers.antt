@@ -1,7 +1,6 @@
 -- `image_class4::earns_four` meets its contract: the ways through it, one after the other. Assumes nothing.
 use Rattle.def_image.specs.Refusals.{earns_four}
-use Rattle.base_tests.specs.Laws.Chains.{or_at, or_on}
-use borrow.Author.Rules.{rules}
+use Rattle.base_tests.proofs.Laws.Chains.{or_at, or_on}
 use Rattle.image_class4.proofs.earns_four.Goals as goal
 
 pub returns-then-stray_accesses : goal.returns-then-stray_accesses

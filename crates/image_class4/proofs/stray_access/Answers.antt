@@ -4,8 +4,7 @@ use mathlib.Core.Path.{◌∙◌, ap}
 use lib.Dec.{ltb}
 use mathlib.Core.Bool.{not}
 use Rattle.def_image.specs.Refusals.{stray_access}
-use Rattle.base_tests.specs.Laws.Chains.{and_at, and_on}
-use borrow.Author.Rules.{rules}
+use Rattle.base_tests.proofs.Laws.Chains.{and_at, and_on}
 use Rattle.image_class4.proofs.stray_access.Goals as goal
 
 pub returns-then-flag_two : goal.returns-then-flag_two

@@ -2,15 +2,13 @@
 use mathlib.Core.Path.{ap}
 use mathlib.Core.Bool.{not}
 use Rattle.def_image.specs.Refusals.{stray_first}
-use Rattle.base_tests.specs.Laws.Chains.{and_at, and_on}
-use Rattle.base_tests.specs.Laws.Bool.{not-false, not_true}
-use borrow.Author.Rules.{rules}
+use Rattle.base_tests.proofs.Laws.Chains.{and_at, and_on}
 use Rattle.image_class4.proofs.stray_first.Goals as goal
 
 pub returns-then-not-same : goal.returns-then-not-same
 unfolding stray_first
-returns-then-not-same c = and_at _ _ _ c.same.ensures (not_true _ c.if-not-same.true)
+returns-then-not-same c = and_at _ _ _ c.same.ensures c.if-not-same.true
 
 pub returns : goal.returns
 unfolding stray_first
-returns c = and_on _ _ _ _ c.same.ensures (not-false _ c.if-not-same.false) (ap not c.same-2.ensures)
+returns c = and_on _ _ _ _ c.same.ensures c.if-not-same.false (ap not c.same-2.ensures)

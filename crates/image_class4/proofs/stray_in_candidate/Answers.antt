@@ -2,8 +2,7 @@
 use mathlib.Core.Path.{ap}
 use mathlib.Core.Bool.{not}
 use Rattle.def_image.specs.Refusals.{stray_in_candidate}
-use Rattle.base_tests.specs.Laws.Chains.{and_at, and_on}
-use borrow.Author.Rules.{rules}
+use Rattle.base_tests.proofs.Laws.Chains.{and_at, and_on}
 use Rattle.image_class4.proofs.stray_in_candidate.Goals as goal
 
 pub returns-then-is_apply : goal.returns-then-is_apply

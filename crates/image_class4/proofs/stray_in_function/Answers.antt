@@ -2,8 +2,7 @@
 use mathlib.Core.Path.{◌∙◌, ap₂}
 use Rattle.def_image.specs.Refusals.{stray_first, stray_in_function}
 use Prim.Native.Nat.{ℕ}
-use Rattle.base_tests.specs.Laws.Chains.{or_at, or_on}
-use borrow.Author.Rules.{rules}
+use Rattle.base_tests.proofs.Laws.Chains.{or_at, or_on}
 use Rattle.image_class4.proofs.stray_in_function.Goals as goal
 
 pub returns-then-stray_first : goal.returns-then-stray_first

@@ -4,8 +4,7 @@ use lib.Dec.{eqb}
 use mathlib.Core.Bool.{not}
 use Rattle.def_image.specs.Refusals.{stray_word}
 use Prim.Native.Nat.{ℕ}
-use Rattle.base_tests.specs.Laws.Chains.{and_at, and_on}
-use borrow.Author.Rules.{rules}
+use Rattle.base_tests.proofs.Laws.Chains.{and_at, and_on}
 use Rattle.image_class4.proofs.stray_word.Goals as goal
 
 pub returns-then-code_or_used : goal.returns-then-code_or_used

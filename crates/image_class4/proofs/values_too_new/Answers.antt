@@ -1,12 +1,11 @@
 -- `image_class4::values_too_new` meets its contract. The loop's invariant: none of those passed passes the test. The measure is those that are left. Assumes nothing.
-use borrow.Author.Rules.{rules}
 use borrow.Author.Count.{below_more, below_none}
-use Prim.Native.Nat.{◌-◌, ◌<◌, ℕ}
-use mathlib.Core.Path.{◌∙◌, ◌≡◌, sym}
+use Prim.Native.Nat.{ℕ}
+use mathlib.Core.Path.{◌∙◌, sym}
 use Rattle.def_image.specs.Refusals.{any_record, not_yet_fresh}
 use Rattle.def_image.specs.Layout.{cell}
 use mathlib.Core.Bool.{false}
-use Rattle.base_tests.specs.Laws.Chains.{any_found, any_none}
+use Rattle.base_tests.proofs.Laws.Chains.{any_found, any_none}
 use Rattle.image_class4.proofs.values_too_new.Goals as goal
 
 pub loop-k-init : goal.loop-k-init

@@ -2,7 +2,6 @@
 use mathlib.Core.Path.{◌∙◌, ap}
 use Rattle.def_image.specs.Refusals.{not_yet_fresh}
 use Prim.Native.Nat.{ℕ}
-use borrow.Author.Rules.{rules}
 use Rattle.image_class4_entries.proofs.pair_too_new.Goals as goal
 
 pub returns : goal.returns

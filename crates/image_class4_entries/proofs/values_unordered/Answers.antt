@@ -3,7 +3,6 @@ use mathlib.Core.Path.{◌∙◌, ap₂}
 use lib.Dec.{leb}
 use Rattle.def_image.specs.Refusals.{values_unordered}
 use Prim.Native.Nat.{ℕ}
-use borrow.Author.Rules.{rules}
 use Rattle.image_class4_entries.proofs.values_unordered.Goals as goal
 
 pub returns : goal.returns

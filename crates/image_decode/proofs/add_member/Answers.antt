@@ -1,6 +1,5 @@
 -- `image_decode::add_member` meets its contract: value 0 adds nothing. Assumes nothing.
-use Rattle.image_decode.specs.Laws.State.{member_none, member_some}
-use borrow.Author.Rules.{rules}
+use Rattle.image_decode.proofs.Laws.State.{member_none, member_some}
 use Rattle.image_decode.proofs.add_member.Goals as goal
 
 pub returns-then-v-ne0 : goal.returns-then-v-ne0

@@ -1,6 +1,5 @@
 -- `image_decode::decode_context` meets its contract: header, identifiers, functions. Assumes nothing.
-use Rattle.image_decode.specs.Laws.Context.{context_is}
-use borrow.Author.Rules.{rules}
+use Rattle.image_decode.proofs.Laws.Context.{context_is}
 use Rattle.image_decode.proofs.decode_context.Goals as goal
 
 pub returns : goal.returns

@@ -1,6 +1,5 @@
 -- `image_decode::decode_function` meets its contract: flags and counts, then two runs of places. Assumes nothing.
-use Rattle.image_decode.specs.Laws.Context.{function_is}
-use borrow.Author.Rules.{rules}
+use Rattle.image_decode.proofs.Laws.Context.{function_is}
 use Rattle.image_decode.proofs.decode_function.Goals as goal
 
 pub returns : goal.returns

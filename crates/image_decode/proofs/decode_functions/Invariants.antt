@@ -1,10 +1,7 @@
-use native.Mathlib.Omega.{arith}
-use mathlib.Core.Path.{◌≡◌, refl, ◌∙◌}
+use mathlib.Core.Path.{◌≡◌}
 use Prim.Native.Nat.{◌-◌, ◌≤◌}
 use lib.ListN.{length}
-use Rattle.image_decode.specs.Decoded.{after, decoded_function, decoded_functions}
-use Rattle.image_decode.specs.Laws.Read.{after_more, after_end}
-use borrow.Author.Rules.{rules}
+use Rattle.image_decode.specs.Decoded.{after, decoded_function}
 use Rattle.image_decode.proofs.decode_functions.Given as goal
 
 abbrev pub invariant-loop-k : goal.invariant-loop-k

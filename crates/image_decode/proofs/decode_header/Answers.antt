@@ -1,6 +1,5 @@
 -- `image_decode::decode_header` meets its contract: three reads and writes. Assumes nothing.
-use Rattle.image_decode.specs.Laws.Context.{header_is}
-use borrow.Author.Rules.{rules}
+use Rattle.image_decode.proofs.Laws.Context.{header_is}
 use Rattle.image_decode.proofs.decode_header.Goals as goal
 
 pub returns : goal.returns

@@ -1,6 +1,5 @@
 -- `image_decode::decode_identifier` meets its contract: four reads and writes. Assumes nothing.
-use Rattle.image_decode.specs.Laws.Context.{identifier_is}
-use borrow.Author.Rules.{rules}
+use Rattle.image_decode.proofs.Laws.Context.{identifier_is}
 use Rattle.image_decode.proofs.decode_identifier.Goals as goal
 
 pub returns : goal.returns

@@ -1,11 +1,8 @@
 -- `image_decode::decode_identifiers` meets its contract: each turn does one record more. Assumes nothing.
 use native.Mathlib.Omega.{arith}
-use mathlib.Core.Path.{◌≡◌, refl, ◌∙◌}
-use Prim.Native.Nat.{◌-◌, ◌≤◌}
-use lib.ListN.{length}
-use Rattle.image_decode.specs.Decoded.{after, decoded_identifier, decoded_identifiers}
-use Rattle.image_decode.specs.Laws.Read.{after_more, after_end}
-use borrow.Author.Rules.{rules}
+use mathlib.Core.Path.{refl, ◌∙◌}
+use Rattle.image_decode.specs.Decoded.{after, decoded_identifiers}
+use Rattle.image_decode.proofs.Laws.Read.{after_more, after_end}
 use Rattle.image_decode.proofs.decode_identifiers.Goals as goal
 
 pub loop-k-init : goal.loop-k-init

@@ -2,8 +2,7 @@
 use mathlib.Core.Path.{refl}
 use lib.Dec.{lit≤}
 use Rattle.lent_sets.specs.Rows.{number}
-use Rattle.image_decode.specs.Laws.State.{pair_is}
-use borrow.Author.Rules.{rules}
+use Rattle.image_decode.proofs.Laws.State.{pair_is}
 use Rattle.image_decode.proofs.decode_pair.Goals as goal
 
 pub returns : goal.returns

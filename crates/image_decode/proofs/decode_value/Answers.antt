@@ -1,6 +1,5 @@
 -- `image_decode::decode_value` meets its contract: three reads and a write. Assumes nothing.
-use Rattle.image_decode.specs.Laws.State.{value_is}
-use borrow.Author.Rules.{rules}
+use Rattle.image_decode.proofs.Laws.State.{value_is}
 use Rattle.image_decode.proofs.decode_value.Goals as goal
 
 pub returns : goal.returns

@@ -1,11 +1,8 @@
 -- `image_decode::decode_values` meets its contract: each turn does one record more. Assumes nothing.
 use native.Mathlib.Omega.{arith}
-use mathlib.Core.Path.{◌≡◌, refl, ◌∙◌}
-use Prim.Native.Nat.{◌-◌, ◌≤◌}
-use lib.ListN.{length}
-use Rattle.image_decode.specs.Decoded.{after, decoded_value, decoded_values}
-use Rattle.image_decode.specs.Laws.Read.{after_more, after_end}
-use borrow.Author.Rules.{rules}
+use mathlib.Core.Path.{refl, ◌∙◌}
+use Rattle.image_decode.specs.Decoded.{after, decoded_values}
+use Rattle.image_decode.proofs.Laws.Read.{after_more, after_end}
 use Rattle.image_decode.proofs.decode_values.Goals as goal
 
 pub loop-k-init : goal.loop-k-init

@@ -1,6 +1,5 @@
 -- `image_decode::place_at` meets its contract: a run of its own. Assumes nothing.
-use Rattle.image_decode.specs.Laws.Read.{place_alone}
-use borrow.Author.Rules.{rules}
+use Rattle.image_decode.proofs.Laws.Read.{place_alone}
 use Rattle.image_decode.proofs.place_at.Goals as goal
 
 pub returns : goal.returns

@@ -1,6 +1,5 @@
 -- `image_decode::place_of` meets its contract: five total reads of words that follow one another. Assumes nothing.
-use Rattle.image_decode.specs.Laws.Read.{place_is}
-use borrow.Author.Rules.{rules}
+use Rattle.image_decode.proofs.Laws.Read.{place_is}
 use Rattle.image_decode.proofs.place_of.Goals as goal
 
 pub returns : goal.returns

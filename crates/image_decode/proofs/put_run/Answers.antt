@@ -1,13 +1,9 @@
 -- `image_decode::put_run` meets its contract: each turn writes one of the places that are left. Assumes nothing.
 use native.Mathlib.Omega.{arith}
-use mathlib.Core.Path.{◌≡◌, refl, ap, ◌∙◌}
-use Prim.Native.Nat.{◌-◌, ◌+◌, ◌≤◌}
+use mathlib.Core.Path.{refl, ap, ◌∙◌}
 use lib.ListN.{length}
-use Rattle.lent_tables.specs.Words.{put_places}
-use Rattle.lent_tables.specs.Laws.Word.{place_length}
-use Rattle.def_image.specs.Decode.{list_from, place_at, places_from}
-use Rattle.image_decode.specs.Laws.Context.{run_start, run_more, run_none}
-use borrow.Author.Rules.{rules}
+use Rattle.lent_tables.proofs.Laws.Word.{place_length}
+use Rattle.image_decode.proofs.Laws.Context.{run_start, run_more, run_none}
 use Rattle.image_decode.proofs.put_run.Goals as goal
 
 pub loop-k-init : goal.loop-k-init

@@ -1,12 +1,8 @@
-use native.Mathlib.Omega.{arith}
-use mathlib.Core.Path.{◌≡◌, refl, ap, ◌∙◌}
+use mathlib.Core.Path.{◌≡◌}
 use Prim.Native.Nat.{◌-◌, ◌+◌, ◌≤◌}
 use lib.ListN.{length}
 use Rattle.lent_tables.specs.Words.{put_places}
-use Rattle.lent_tables.specs.Laws.Word.{place_length}
 use Rattle.def_image.specs.Decode.{list_from, place_at, places_from}
-use Rattle.image_decode.specs.Laws.Context.{run_start, run_more, run_none}
-use borrow.Author.Rules.{rules}
 use Rattle.image_decode.proofs.put_run.Given as goal
 
 abbrev pub invariant-loop-k : goal.invariant-loop-k

@@ -1,6 +1,5 @@
 -- `image_decode_candidates::decode_candidate` meets its contract: a CreateFunction with its captures, any other by its head. Assumes nothing.
-use Rattle.image_decode.specs.Laws.Candidate.{candidate_creation, candidate_plain}
-use borrow.Author.Rules.{rules}
+use Rattle.image_decode.proofs.Laws.Candidate.{candidate_creation, candidate_plain}
 use Rattle.image_decode_candidates.proofs.decode_candidate.Goals as goal
 
 pub returns-then-code-eq13 : goal.returns-then-code-eq13

@@ -1,11 +1,8 @@
 -- `image_decode_candidates::decode_candidates` meets its contract: each turn does one record more. Assumes nothing.
 use native.Mathlib.Omega.{arith}
-use mathlib.Core.Path.{◌≡◌, refl, ◌∙◌}
-use Prim.Native.Nat.{◌-◌, ◌≤◌}
-use lib.ListN.{length}
-use Rattle.image_decode.specs.Decoded.{after, decoded_candidate, decoded_candidates}
-use Rattle.image_decode.specs.Laws.Read.{after_more, after_end}
-use borrow.Author.Rules.{rules}
+use mathlib.Core.Path.{refl, ◌∙◌}
+use Rattle.image_decode.specs.Decoded.{after, decoded_candidates}
+use Rattle.image_decode.proofs.Laws.Read.{after_more, after_end}
 use Rattle.image_decode_candidates.proofs.decode_candidates.Goals as goal
 
 pub loop-k-init : goal.loop-k-init

@@ -1,6 +1,5 @@
 -- `image_decode_candidates::decode_creation` meets its contract: code, destination, function, count, captures. Assumes nothing.
-use Rattle.image_decode.specs.Laws.Candidate.{creation_is}
-use borrow.Author.Rules.{rules}
+use Rattle.image_decode.proofs.Laws.Candidate.{creation_is}
 use Rattle.image_decode_candidates.proofs.decode_creation.Goals as goal
 
 pub returns : goal.returns

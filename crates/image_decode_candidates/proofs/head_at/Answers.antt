@@ -1,8 +1,7 @@
 -- `image_decode_candidates::head_at` meets its contract: one law for each arm. Assumes nothing.
 use mathlib.Core.Path.{ap, ◌∙◌}
 use Rattle.def_kinds.specs.Kinds.{kind_at}
-use Rattle.image_decode.specs.Laws.Candidate.{head_0, head_1, head_2, head_3, head_4, head_5, head_6, head_7, head_8, head_9, head_10, head_11, head_13, head_14, head_15, head_16, head_rest}
-use borrow.Author.Rules.{rules}
+use Rattle.image_decode.proofs.Laws.Candidate.{head_0, head_1, head_2, head_3, head_4, head_5, head_6, head_7, head_8, head_9, head_10, head_11, head_13, head_14, head_15, head_16, head_rest}
 use Rattle.image_decode_candidates.proofs.head_at.Goals as goal
 
 pub returns-in-0 : goal.returns-in-0

@@ -2,9 +2,8 @@
 use mathlib.Core.Path.{ap, ◌∙◌}
 use Rattle.lent_copies.specs.Copies.{zeros}
 use Rattle.image_outcome.specs.Inferring.{pieces_of}
-use Rattle.image_outcome.specs.Laws.Pieces.{leaves_written}
-use Rattle.image_means.specs.Laws.Inferred.{inferred_is}
-use borrow.Author.Rules.{rules}
+use Rattle.image_outcome.proofs.Laws.Pieces.{leaves_written}
+use Rattle.image_means.proofs.Laws.Inferred.{inferred_is}
 use Rattle.image_infer.proofs.infer_image.Goals as goal
 
 pub returns : goal.returns

@@ -1,7 +1,6 @@
 -- `image_infer::run_image` meets its contract: one law for each of its three ways. Assumes nothing.
-use Rattle.image_outcome.specs.Laws.Inferring.{leaves_memory, leaves_refused, leaves_job}
+use Rattle.image_outcome.proofs.Laws.Inferring.{leaves_memory, leaves_refused, leaves_job}
 use mathlib.Core.Path.{sym, refl, ◌∙◌}
-use borrow.Author.Rules.{rules}
 use Rattle.image_infer.proofs.run_image.Goals as goal
 
 pub returns-then-memory_wrong : goal.returns-then-memory_wrong

@@ -1,7 +1,6 @@
 -- `image_job::job_of` meets its contract: the words of the header, read one after the other. Assumes nothing.
-use Rattle.image_job.specs.Laws.Reading.{job_is}
+use Rattle.image_job.proofs.Laws.Reading.{job_is}
 use Rattle.def_image.specs.Layout.{word}
-use borrow.Author.Rules.{rules}
 use Rattle.image_job.proofs.job_of.Goals as goal
 
 pub returns : goal.returns

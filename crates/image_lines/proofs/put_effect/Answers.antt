@@ -1,8 +1,6 @@
 use mathlib.Core.Path.{refl}
-use Prim.Native.Nat.{◌-◌}
-use Rattle.image_text.specs.Laws.Loops.{effect_is, mutate_is}
+use Rattle.image_text.proofs.Laws.Loops.{effect_is, mutate_is}
 use Rattle.lent_effects.specs.Records.{effect_with}
-use borrow.Author.Rules.{rules}
 use Rattle.image_lines.proofs.put_effect.Goals as goal
 
 pub returns-in-Freeze : goal.returns-in-Freeze

@@ -1,8 +1,7 @@
 -- `image_lines::put_effect_line` meets its contract: an effect that is listed has a line. Assumes nothing.
 use mathlib.Core.Path.{ap, ◌∙◌}
 use Rattle.lent_effects.specs.Records.{head_in}
-use Rattle.image_pieces.specs.Laws.Ways.{effect_listed, effect_past}
-use borrow.Author.Rules.{rules}
+use Rattle.image_pieces.proofs.Laws.Ways.{effect_listed, effect_past}
 use Rattle.image_lines.proofs.put_effect_line.Goals as goal
 
 pub returns-then-k-count : goal.returns-then-k-count

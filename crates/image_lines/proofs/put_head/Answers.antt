@@ -1,7 +1,6 @@
 use native.Mathlib.Omega.{arith}
-use Rattle.image_text.specs.Laws.Lines.{head_is}
-use Rattle.image_pieces.specs.Laws.Suffices.{head_suffices}
-use borrow.Author.Rules.{rules}
+use Rattle.image_text.proofs.Laws.Lines.{head_is}
+use Rattle.image_pieces.proofs.Laws.Suffices.{head_suffices}
 use Rattle.image_lines.proofs.put_head.Goals as goal
 
 pub returns : goal.returns

@@ -1,29 +1,19 @@
 use native.Mathlib.Omega.{arith}
-use mathlib.Core.Path.{◌≡◌, refl, sym, ◌∙◌}
-use Prim.Native.Nat.{◌-◌}
-use lib.ListN.{length}
-use borrow.Author.Rules.{rules}
-use Rattle.image_text.specs.Laws.Loops.{members_none, members_empty, members_start, members_step, members_end}
-use Rattle.image_text.specs.Texts.{cursor, put_all, columns}
-use Rattle.def_image.specs.Listing.{or_absent}
-use mathlib.Core.List.{map}
-use mathlib.Core.Option.{some}
-use Rattle.base_tests.specs.Laws.Bool.{not_true, not-false}
-use Rattle.lent_sets.specs.Laws.Row.{Walk, walk_start, walk_step}
-use Rattle.lent_sets.specs.Rows.{set_at, left}
-use Rattle.base_sets.specs.Members.{bits_of, values_of}
+use mathlib.Core.Path.{refl, sym, ◌∙◌}
+use Rattle.image_text.proofs.Laws.Loops.{members_none, members_empty, members_start, members_step, members_end}
+use Rattle.lent_sets.proofs.Laws.Row.{walk_start, walk_step}
 use Rattle.image_lines.proofs.put_members.Goals as goal
 
 pub returns-then-not-is_defined : goal.returns-then-not-is_defined
 returns-then-not-is_defined c =
-    members_none _ _ _ _ (sym c.is_defined.ensures ∙ not_true _ c.if-not-is_defined.true) c.put_absent.ensures
+    members_none _ _ _ _ (sym c.is_defined.ensures ∙ c.if-not-is_defined.true) c.put_absent.ensures
 
 pub returns-then-m-ge1024 : goal.returns-then-m-ge1024
 returns-then-m-ge1024 c =
-    members_empty _ _ _ _ _ (sym c.is_defined.ensures ∙ not-false _ c.if-not-is_defined.false) c.next_member-m.ensures c.if-m-ge1024.true c.put_absent-then-m-ge1024.ensures
+    members_empty _ _ _ _ _ (sym c.is_defined.ensures ∙ c.if-not-is_defined.false) c.next_member-m.ensures c.if-m-ge1024.true c.put_absent-then-m-ge1024.ensures
 
 pub loop-m-init : goal.loop-m-init
-loop-m-init c = let h = sym c.is_defined.ensures ∙ not-false _ c.if-not-is_defined.false in ((walk_start _ _ _ h c.next_member-m.ensures).0, refl, members_start _ _ _ _ h c.next_member-m.ensures c.if-m-ge1024.false)
+loop-m-init c = let h = sym c.is_defined.ensures ∙ c.if-not-is_defined.false in ((walk_start _ _ _ h c.next_member-m.ensures).0, refl, members_start _ _ _ _ h c.next_member-m.ensures c.if-m-ge1024.false)
 
 pub loop-m-smaller : goal.loop-m-smaller
 loop-m-smaller c =

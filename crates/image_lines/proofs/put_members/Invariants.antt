@@ -1,15 +1,11 @@
-use native.Mathlib.Omega.{arith}
-use mathlib.Core.Path.{◌≡◌, refl, sym, ◌∙◌}
+use mathlib.Core.Path.{◌≡◌}
 use Prim.Native.Nat.{◌-◌}
 use lib.ListN.{length}
-use borrow.Author.Rules.{rules}
-use Rattle.image_text.specs.Laws.Loops.{members_none, members_empty, members_start, members_step, members_end}
 use Rattle.image_text.specs.Texts.{cursor, put_all, columns}
 use Rattle.def_image.specs.Listing.{or_absent}
 use mathlib.Core.List.{map}
 use mathlib.Core.Option.{some}
-use Rattle.base_tests.specs.Laws.Bool.{not_true, not-false}
-use Rattle.lent_sets.specs.Laws.Row.{Walk, walk_start, walk_step}
+use Rattle.lent_sets.proofs.Laws.Row.{Walk}
 use Rattle.lent_sets.specs.Rows.{set_at, left}
 use Rattle.base_sets.specs.Members.{bits_of, values_of}
 use Rattle.image_lines.proofs.put_members.Given as goal

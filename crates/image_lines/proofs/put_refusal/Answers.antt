@@ -1,7 +1,6 @@
-use Rattle.image_pieces.specs.Laws.Suffices.{refusal_suffices}
+use Rattle.image_pieces.proofs.Laws.Suffices.{refusal_suffices}
 use native.Mathlib.Omega.{arith}
-use Rattle.image_text.specs.Laws.Lines.{refusal_is}
-use borrow.Author.Rules.{rules}
+use Rattle.image_text.proofs.Laws.Lines.{refusal_is}
 use Rattle.image_lines.proofs.put_refusal.Goals as goal
 
 pub returns : goal.returns

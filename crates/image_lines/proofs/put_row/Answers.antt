@@ -1,5 +1,4 @@
-use Rattle.image_text.specs.Laws.Lines.{row_is}
-use borrow.Author.Rules.{rules}
+use Rattle.image_text.proofs.Laws.Lines.{row_is}
 use Rattle.image_lines.proofs.put_row.Goals as goal
 
 pub returns : goal.returns

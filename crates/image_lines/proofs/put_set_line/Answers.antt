@@ -1,15 +1,12 @@
 use mathlib.Core.Path.{refl, sym, ◌∙◌}
-use Prim.Native.Nat.{◌-◌}
-use borrow.Author.Rules.{rules}
 use native.Mathlib.Omega.{arith}
-use Rattle.image_text.specs.Laws.Loops.{set_absent, set_is}
-use Rattle.image_pieces.specs.Laws.Suffices.{set_suffices}
-use Rattle.base_tests.specs.Laws.Bool.{not_true, not-false}
+use Rattle.image_text.proofs.Laws.Loops.{set_absent, set_is}
+use Rattle.image_pieces.proofs.Laws.Suffices.{set_suffices}
 use Rattle.image_lines.proofs.put_set_line.Goals as goal
 
 pub returns-then-not-is_defined : goal.returns-then-not-is_defined
-returns-then-not-is_defined c = record { bytes = set_absent _ _ _ (sym c.is_defined.ensures ∙ not_true _ c.if-not-is_defined.true); suffices = set_suffices _ _ _ (omega arith) refl }
+returns-then-not-is_defined c = record { bytes = set_absent _ _ _ (sym c.is_defined.ensures ∙ c.if-not-is_defined.true); suffices = set_suffices _ _ _ (omega arith) refl }
 
 pub returns : goal.returns
 returns c =
-    record { bytes = set_is _ _ _ _ _ _ _ (sym c.is_defined.ensures ∙ not-false _ c.if-not-is_defined.false) c.put_byte-p.ensures c.put_number-a.ensures c.put_members-b.ensures c.put_newline.ensures; suffices = set_suffices _ _ _ (omega arith) refl }
+    record { bytes = set_is _ _ _ _ _ _ _ (sym c.is_defined.ensures ∙ c.if-not-is_defined.false) c.put_byte-p.ensures c.put_number-a.ensures c.put_members-b.ensures c.put_newline.ensures; suffices = set_suffices _ _ _ (omega arith) refl }

@@ -1,7 +1,6 @@
 use native.Mathlib.Omega.{arith}
-use Rattle.image_text.specs.Laws.Lines.{undefined_is}
-use Rattle.image_pieces.specs.Laws.Suffices.{end_suffices}
-use borrow.Author.Rules.{rules}
+use Rattle.image_text.proofs.Laws.Lines.{undefined_is}
+use Rattle.image_pieces.proofs.Laws.Suffices.{end_suffices}
 use Rattle.image_lines.proofs.put_undefined.Goals as goal
 
 pub returns : goal.returns

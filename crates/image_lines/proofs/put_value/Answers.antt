@@ -1,5 +1,4 @@
-use Rattle.image_text.specs.Laws.Lines.{value_is}
-use borrow.Author.Rules.{rules}
+use Rattle.image_text.proofs.Laws.Lines.{value_is}
 use Rattle.image_lines.proofs.put_value.Goals as goal
 
 pub returns : goal.returns

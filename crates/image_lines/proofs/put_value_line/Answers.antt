@@ -1,7 +1,6 @@
 use mathlib.Core.Path.{ap, ◌∙◌}
 use Rattle.lent_values.specs.Cells.{value_at}
-use Rattle.image_text.specs.Laws.Lines.{value_absent, value_present}
-use borrow.Author.Rules.{rules}
+use Rattle.image_text.proofs.Laws.Lines.{value_absent, value_present}
 use Rattle.image_lines.proofs.put_value_line.Goals as goal
 
 pub returns-in-Absent : goal.returns-in-Absent

@@ -1,14 +1,8 @@
 -- `image_listing::put_effects` meets its contract: the loop's invariant is what is left to write. Assumes nothing.
-use mathlib.Core.Path.{◌≡◌, refl, ◌∙◌}
-use Prim.Native.Nat.{◌-◌}
+use mathlib.Core.Path.{refl, ◌∙◌}
 use native.Mathlib.Omega.{arith}
-use lib.ListN.{length}
-use borrow.Author.Rules.{rules}
-use Rattle.image_text.specs.Laws.Loops.{lines_step, lines_end}
-use Rattle.image_text.specs.Texts.{cursor, put_all}
-use Rattle.def_image.specs.Listing.{lines_from}
-use Rattle.image_pieces.specs.Pieces.{effect_line}
-use Rattle.image_pieces.specs.Laws.Suffices.{effects_suffice}
+use Rattle.image_text.proofs.Laws.Loops.{lines_step, lines_end}
+use Rattle.image_pieces.proofs.Laws.Suffices.{effects_suffice}
 use Rattle.image_listing.proofs.put_effects.Goals as goal
 
 pub loop-k-init : goal.loop-k-init

@@ -1,13 +1,9 @@
-use mathlib.Core.Path.{◌≡◌, refl, ◌∙◌}
+use mathlib.Core.Path.{◌≡◌}
 use Prim.Native.Nat.{◌-◌}
-use native.Mathlib.Omega.{arith}
 use lib.ListN.{length}
-use borrow.Author.Rules.{rules}
-use Rattle.image_text.specs.Laws.Loops.{lines_step, lines_end}
 use Rattle.image_text.specs.Texts.{cursor, put_all}
 use Rattle.def_image.specs.Listing.{lines_from}
 use Rattle.image_pieces.specs.Pieces.{effect_line}
-use Rattle.image_pieces.specs.Laws.Suffices.{effects_suffice}
 use Rattle.image_listing.proofs.put_effects.Given as goal
 
 abbrev pub invariant-loop-k : goal.invariant-loop-k

@@ -1,7 +1,6 @@
 -- `image_listing::put_listed_piece` meets its contract: one law for each of its six ways. Assumes nothing.
 use mathlib.Core.Path.{refl}
-use Rattle.image_pieces.specs.Laws.Ways.{as_text, no_text, listed_head, listed_set, listed_end, listed_past, writes_effects, writes_values}
-use borrow.Author.Rules.{rules}
+use Rattle.image_pieces.proofs.Laws.Ways.{as_text, no_text, listed_head, listed_set, listed_end, listed_past, writes_effects, writes_values}
 use Rattle.image_listing.proofs.put_listed_piece.Goals as goal
 
 pub returns-then-k-eq0 : goal.returns-then-k-eq0

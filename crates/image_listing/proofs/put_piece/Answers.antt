@@ -1,6 +1,5 @@
 -- `image_listing::put_piece` meets its contract: a buffer that is too short, a refusal, a listing. Assumes nothing.
-use Rattle.image_pieces.specs.Laws.Ways.{puts_short, puts_refused, puts_listed}
-use borrow.Author.Rules.{rules}
+use Rattle.image_pieces.proofs.Laws.Ways.{puts_short, puts_refused, puts_listed}
 use Rattle.image_listing.proofs.put_piece.Goals as goal
 
 pub returns-then-buffer-lt-PIECE_BYTES : goal.returns-then-buffer-lt-PIECE_BYTES

@@ -1,6 +1,5 @@
 -- `image_listing::put_refused_piece` meets its contract: the line of the refusal, or nothing. Assumes nothing.
-use Rattle.image_pieces.specs.Laws.Ways.{as_text, no_text, refused_line, refused_past}
-use borrow.Author.Rules.{rules}
+use Rattle.image_pieces.proofs.Laws.Ways.{as_text, no_text, refused_line, refused_past}
 use Rattle.image_listing.proofs.put_refused_piece.Goals as goal
 
 pub returns-then-k-eq0 : goal.returns-then-k-eq0

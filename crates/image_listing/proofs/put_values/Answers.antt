@@ -1,14 +1,8 @@
 -- `image_listing::put_values` meets its contract: the loop's invariant is what is left to write. Assumes nothing.
-use mathlib.Core.Path.{◌≡◌, refl, ◌∙◌}
-use Prim.Native.Nat.{◌-◌}
+use mathlib.Core.Path.{refl, ◌∙◌}
 use native.Mathlib.Omega.{arith}
-use lib.ListN.{length}
-use borrow.Author.Rules.{rules}
-use Rattle.image_text.specs.Laws.Loops.{lines_step, lines_end}
-use Rattle.image_text.specs.Texts.{cursor, put_all}
-use Rattle.def_image.specs.Listing.{lines_from, value_line}
-use Rattle.lent_values.specs.Cells.{value_at}
-use Rattle.image_pieces.specs.Laws.Suffices.{values_suffice}
+use Rattle.image_text.proofs.Laws.Loops.{lines_step, lines_end}
+use Rattle.image_pieces.proofs.Laws.Suffices.{values_suffice}
 use Rattle.image_listing.proofs.put_values.Goals as goal
 
 pub loop-v-init : goal.loop-v-init

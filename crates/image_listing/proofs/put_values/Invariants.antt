@@ -1,13 +1,9 @@
-use mathlib.Core.Path.{◌≡◌, refl, ◌∙◌}
+use mathlib.Core.Path.{◌≡◌}
 use Prim.Native.Nat.{◌-◌}
-use native.Mathlib.Omega.{arith}
 use lib.ListN.{length}
-use borrow.Author.Rules.{rules}
-use Rattle.image_text.specs.Laws.Loops.{lines_step, lines_end}
 use Rattle.image_text.specs.Texts.{cursor, put_all}
 use Rattle.def_image.specs.Listing.{lines_from, value_line}
 use Rattle.lent_values.specs.Cells.{value_at}
-use Rattle.image_pieces.specs.Laws.Suffices.{values_suffice}
 use Rattle.image_listing.proofs.put_values.Given as goal
 
 abbrev pub invariant-loop-v : goal.invariant-loop-v

@@ -1,7 +1,6 @@
 -- `image_read::fill_context` meets its contract: cleared, then written. Assumes nothing.
 use mathlib.Core.Path.{ap, ◌∙◌}
 use Rattle.image_decode.specs.Decoded.{decoded_context}
-use borrow.Author.Rules.{rules}
 use Rattle.image_read.proofs.fill_context.Goals as goal
 
 pub returns : goal.returns

@@ -1,7 +1,6 @@
 -- `image_read::fill_state` meets its contract: each table cleared, then written. Assumes nothing.
 use mathlib.Core.Path.{ap, ◌∙◌}
 use Rattle.image_decode.specs.Decoded.{decoded_values, decoded_sets}
-use borrow.Author.Rules.{rules}
 use Rattle.image_read.proofs.fill_state.Goals as goal
 
 pub returns : goal.returns

@@ -1,5 +1,5 @@
 -- `image_read::lent_wrong` meets its contract: one law for each of its five ways. Assumes nothing.
-use Rattle.image_job.specs.Laws.Reading.{wrong_words, wrong_values, wrong_sets, wrong_context_is, wrong_candidates}
+use Rattle.image_job.proofs.Laws.Reading.{wrong_words, wrong_values, wrong_sets, wrong_context_is, wrong_candidates}
 use Rattle.image_read.proofs.lent_wrong.Goals as goal
 
 pub returns-then-words-ne16384 : goal.returns-then-words-ne16384

@@ -1,9 +1,8 @@
 -- `image_read::read_image` meets its contract: one law for each of its three ways. Assumes nothing.
-use Rattle.image_job.specs.Laws.Reading.{read_lent, read_length, read_words_is, words_fit, whole_length}
+use Rattle.image_job.proofs.Laws.Reading.{read_lent, read_length, read_words_is, words_fit, whole_length}
 use mathlib.Core.Path.{sym, ap, ◌∙◌}
 use lib.Seq.{length-take-le}
 use Rattle.lent_copies.specs.Copies.{zeros}
-use borrow.Author.Rules.{rules}
 use Rattle.image_read.proofs.read_image.Goals as goal
 
 pub returns-then-lent_wrong : goal.returns-then-lent_wrong

@@ -1,6 +1,5 @@
 -- `image_read::read_words` meets its contract: a class refuses the words, or all tables are filled. Assumes nothing.
-use Rattle.image_job.specs.Laws.Reading.{words_refused, words_read}
-use borrow.Author.Rules.{rules}
+use Rattle.image_job.proofs.Laws.Reading.{words_refused, words_read}
 use Rattle.image_read.proofs.read_words.Goals as goal
 
 pub returns-then-class-ne0 : goal.returns-then-class-ne0

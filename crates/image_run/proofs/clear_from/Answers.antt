@@ -1,7 +1,6 @@
 -- `image_run::clear_from` meets its contract: what stands before is kept, the rest is cleared. Assumes nothing.
-use Rattle.image_outcome.specs.Laws.Inferring.{part_cleared}
+use Rattle.image_outcome.proofs.Laws.Inferring.{part_cleared}
 use native.Mathlib.Omega.{arith}
-use borrow.Author.Rules.{rules}
 use Rattle.image_run.proofs.clear_from.Goals as goal
 
 pub returns-then-m-xs : goal.returns-then-m-xs

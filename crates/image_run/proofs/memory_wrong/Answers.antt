@@ -1,5 +1,5 @@
 -- `image_run::memory_wrong` meets its contract: one law for each of its three ways. Assumes nothing.
-use Rattle.image_outcome.specs.Laws.Inferring.{wrong_output, wrong_64, wrong_32}
+use Rattle.image_outcome.proofs.Laws.Inferring.{wrong_output, wrong_64, wrong_32}
 use Rattle.image_run.proofs.memory_wrong.Goals as goal
 
 pub returns-then-output-ne-OUTPUT_WORDS : goal.returns-then-output-ne-OUTPUT_WORDS

@@ -1,11 +1,10 @@
 -- `image_run::run_tables` meets its contract: what does not fit is no accepted image; what fits runs. Assumes nothing.
-use Rattle.image_outcome.specs.Laws.Inferring.{runs_job}
+use Rattle.image_outcome.proofs.Laws.Inferring.{runs_job}
 use mathlib.Core.Path.{ap, sym, refl}
 use Prim.Native.Nat.{ℕ, ◌*◌}
 use lib.Seq.{length-take-le}
 use native.Mathlib.Omega.{arith}
 use Rattle.lent_layout.specs.Layout as Layout
-use borrow.Author.Rules.{rules}
 use Rattle.image_run.proofs.run_tables.Goals as goal
 
 pub returns-then-m-sets : goal.returns-then-m-sets

@@ -1,6 +1,5 @@
 -- `image_run::settle` meets its contract: nothing is cleared, or everything. Assumes nothing.
-use Rattle.image_outcome.specs.Laws.Inferring.{settled_same, settled_zero}
-use borrow.Author.Rules.{rules}
+use Rattle.image_outcome.proofs.Laws.Inferring.{settled_same, settled_zero}
 use Rattle.image_run.proofs.settle.Goals as goal
 
 pub returns-then-shown-eq0 : goal.returns-then-shown-eq0

@@ -1,6 +1,5 @@
 -- `image_run::shown_of` meets its contract: a refusal's number, or what the call answered. Assumes nothing.
-use Rattle.image_outcome.specs.Laws.Inferring.{answered_refused, answered_ran}
-use borrow.Author.Rules.{rules}
+use Rattle.image_outcome.proofs.Laws.Inferring.{answered_refused, answered_ran}
 use Rattle.image_run.proofs.shown_of.Goals as goal
 
 pub returns-then-applied-ne0 : goal.returns-then-applied-ne0

@@ -1,5 +1,4 @@
-use Rattle.image_text.specs.Laws.Lines.{reason_some}
-use borrow.Author.Rules.{rules}
+use Rattle.image_text.proofs.Laws.Lines.{reason_some}
 use Rattle.image_text.proofs.mutation_reason.Goals as goal
 
 pub returns : goal.returns

@@ -1,5 +1,4 @@
-use Rattle.image_text.specs.Laws.Text.{put_inside, put_outside}
-use borrow.Author.Rules.{rules}
+use Rattle.image_text.proofs.Laws.Text.{put_inside, put_outside}
 use Rattle.image_text.proofs.put_byte.Goals as goal
 
 pub returns-then-at-buffer : goal.returns-then-at-buffer

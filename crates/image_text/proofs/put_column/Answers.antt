@@ -1,5 +1,4 @@
-use Rattle.image_text.specs.Laws.Columns.{column_absent, column_present}
-use borrow.Author.Rules.{rules}
+use Rattle.image_text.proofs.Laws.Columns.{column_absent, column_present}
 use Rattle.image_text.proofs.put_column.Goals as goal
 
 pub returns-in-Nowhere : goal.returns-in-Nowhere

@@ -1,5 +1,4 @@
-use Rattle.image_text.specs.Laws.Columns.{number_is}
-use borrow.Author.Rules.{rules}
+use Rattle.image_text.proofs.Laws.Columns.{number_is}
 use Rattle.image_text.proofs.put_number.Goals as goal
 
 pub returns : goal.returns

@@ -1,5 +1,4 @@
-use Rattle.image_text.specs.Laws.Lines.{access_some}
-use borrow.Author.Rules.{rules}
+use Rattle.image_text.proofs.Laws.Lines.{access_some}
 use Rattle.image_text.proofs.undefined_identifier.Goals as goal
 
 pub returns : goal.returns

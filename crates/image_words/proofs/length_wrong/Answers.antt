@@ -1,5 +1,5 @@
 -- `image_words::length_wrong` meets its contract: the ways through it, a law of `WordLaws` each. Assumes nothing.
-use Rattle.image_words.specs.Laws.Word.{short, long, fourfold}
+use Rattle.image_words.proofs.Laws.Word.{short, long, fourfold}
 use Rattle.image_words.proofs.length_wrong.Goals as goal
 
 pub returns-then-bytes-lt68 : goal.returns-then-bytes-lt68

@@ -1,11 +1,7 @@
 -- `image_words::load_words` meets its contract. The loop's invariant: the words passed are the image's. The measure is the words that are left. Assumes nothing.
-use borrow.Author.Rules.{rules}
 use native.Mathlib.Omega.{arith}
-use mathlib.Core.Path.{◌≡◌, refl, ◌∙◌}
-use Prim.Native.Nat.{ℕ, ◌-◌, ◌<◌}
-use lib.ListN.{length, get_or}
-use Rattle.def_image.specs.Layout.{word, words_of}
-use Rattle.image_words.specs.Laws.Load.{load_more, load_end}
+use mathlib.Core.Path.{refl, ◌∙◌}
+use Rattle.image_words.proofs.Laws.Load.{load_more, load_end}
 use Rattle.image_words.proofs.load_words.Goals as goal
 
 pub loop-k-init : goal.loop-k-init

@@ -1,10 +1,7 @@
-use borrow.Author.Rules.{rules}
-use native.Mathlib.Omega.{arith}
-use mathlib.Core.Path.{◌≡◌, refl, ◌∙◌}
+use mathlib.Core.Path.{◌≡◌}
 use Prim.Native.Nat.{ℕ, ◌-◌, ◌<◌}
 use lib.ListN.{length, get_or}
 use Rattle.def_image.specs.Layout.{word, words_of}
-use Rattle.image_words.specs.Laws.Load.{load_more, load_end}
 use Rattle.image_words.proofs.load_words.Given as goal
 
 abbrev pub invariant-loop-k : goal.invariant-loop-k

@@ -1,6 +1,5 @@
 -- `image_words::word_at` meets its contract: past the last whole word, or its four bytes. Assumes nothing.
-use Rattle.image_words.specs.Laws.Word.{word_out, word_is}
-use borrow.Author.Rules.{rules}
+use Rattle.image_words.proofs.Laws.Word.{word_out, word_is}
 use Rattle.image_words.proofs.word_at.Goals as goal
 
 pub returns-then-k-bytes : goal.returns-then-k-bytes

@@ -1,6 +1,4 @@
-use Prim.Native.Nat.{◌-◌}
-use Rattle.lent_context.specs.Laws.Code.{access_is}
-use borrow.Author.Rules.{rules}
+use Rattle.lent_context.proofs.Laws.Code.{access_is}
 use Rattle.lent_context.proofs.access_span.Goals as goal
 
 pub returns : goal.returns

@@ -1,6 +1,4 @@
-use Prim.Native.Nat.{◌-◌}
-use Rattle.lent_context.specs.Laws.Code.{hoisted_is}
-use borrow.Author.Rules.{rules}
+use Rattle.lent_context.proofs.Laws.Code.{hoisted_is}
 use Rattle.lent_context.proofs.is_hoisted.Goals as goal
 
 pub returns : goal.returns

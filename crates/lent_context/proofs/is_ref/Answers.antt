@@ -1,6 +1,4 @@
-use Prim.Native.Nat.{◌-◌}
-use Rattle.lent_context.specs.Laws.Code.{ref_is}
-use borrow.Author.Rules.{rules}
+use Rattle.lent_context.proofs.Laws.Code.{ref_is}
 use Rattle.lent_context.proofs.is_ref.Goals as goal
 
 pub returns : goal.returns

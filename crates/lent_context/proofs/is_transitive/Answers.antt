@@ -1,6 +1,4 @@
-use Prim.Native.Nat.{◌-◌}
-use Rattle.lent_context.specs.Laws.Code.{transitive_is}
-use borrow.Author.Rules.{rules}
+use Rattle.lent_context.proofs.Laws.Code.{transitive_is}
 use Rattle.lent_context.proofs.is_transitive.Goals as goal
 
 pub returns : goal.returns

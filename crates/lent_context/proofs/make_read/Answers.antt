@@ -1,9 +1,5 @@
-use borrow.Author.Rules.{rules}
-use mathlib.Core.Path.{◌≡◌, refl, ◌∙◌}
-use Prim.Native.Nat.{◌-◌}
-use lib.ListN.{length}
-use Rattle.lent_context.specs.Lent.{read_places}
-use Rattle.lent_context.specs.Laws.Code.{reads_more, reads_none}
+use mathlib.Core.Path.{refl, ◌∙◌}
+use Rattle.lent_context.proofs.Laws.Code.{reads_more, reads_none}
 use Rattle.lent_context.proofs.make_read.Goals as goal
 
 pub loop-k-init : goal.loop-k-init

@@ -1,9 +1,7 @@
-use borrow.Author.Rules.{rules}
-use mathlib.Core.Path.{◌≡◌, refl, ◌∙◌}
+use mathlib.Core.Path.{◌≡◌}
 use Prim.Native.Nat.{◌-◌}
 use lib.ListN.{length}
 use Rattle.lent_context.specs.Lent.{read_places}
-use Rattle.lent_context.specs.Laws.Code.{reads_more, reads_none}
 use Rattle.lent_context.proofs.make_read.Given as goal
 
 abbrev pub invariant-loop-k : goal.invariant-loop-k

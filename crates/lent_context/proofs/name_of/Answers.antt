@@ -1,6 +1,4 @@
-use Prim.Native.Nat.{◌-◌}
-use Rattle.lent_context.specs.Laws.Code.{name_is}
-use borrow.Author.Rules.{rules}
+use Rattle.lent_context.proofs.Laws.Code.{name_is}
 use Rattle.lent_context.proofs.name_of.Goals as goal
 
 pub returns : goal.returns

@@ -1,7 +1,6 @@
 use mathlib.Core.Path.{ap}
-use Prim.Native.Nat.{◌-◌, ◌*◌}
-use Rattle.lent_context.specs.Laws.Code.{read_other, read_kept, read_made}
-use borrow.Author.Rules.{rules}
+use Prim.Native.Nat.{◌*◌}
+use Rattle.lent_context.proofs.Laws.Code.{read_other, read_kept, read_made}
 use Rattle.lent_context.proofs.read_place.Goals as goal
 
 pub returns-then-field-i : goal.returns-then-field-i

@@ -1,9 +1,6 @@
-use borrow.Author.Rules.{rules}
-use native.Mathlib.Omega.{arith}
-use mathlib.Core.Path.{◌≡◌, refl, ◌∙◌}
+use mathlib.Core.Path.{◌≡◌}
 use Prim.Native.Nat.{ℕ, ◌-◌, ◌<◌}
 use lib.ListN.{length, get_or}
-use Rattle.lent_copies.specs.Laws.Copy.{clear_end, clear_more}
 use Rattle.lent_copies.proofs.clear32.Given as goal
 
 abbrev pub invariant-loop-k : goal.invariant-loop-k

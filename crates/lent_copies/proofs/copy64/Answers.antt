@@ -1,9 +1,5 @@
-use borrow.Author.Rules.{rules}
-use mathlib.Core.Path.{◌≡◌, refl, ◌∙◌}
-use Prim.Native.Nat.{◌-◌, ◌+◌}
-use lib.ListN.{length}
-use Rattle.lent_copies.specs.Copies.{copied}
-use Rattle.lent_copies.specs.Laws.Copy.{copy_more, copy_end}
+use mathlib.Core.Path.{refl, ◌∙◌}
+use Rattle.lent_copies.proofs.Laws.Copy.{copy_more, copy_end}
 use Rattle.lent_copies.proofs.copy64.Goals as goal
 
 pub loop-k-init : goal.loop-k-init

@@ -1,9 +1,7 @@
-use borrow.Author.Rules.{rules}
-use mathlib.Core.Path.{◌≡◌, refl, ◌∙◌}
+use mathlib.Core.Path.{◌≡◌}
 use Prim.Native.Nat.{◌-◌, ◌+◌}
 use lib.ListN.{length}
 use Rattle.lent_copies.specs.Copies.{copied}
-use Rattle.lent_copies.specs.Laws.Copy.{copy_more, copy_end}
 use Rattle.lent_copies.proofs.copy64.Given as goal
 
 abbrev pub invariant-loop-k : goal.invariant-loop-k

@@ -1,5 +1,4 @@
-use Rattle.lent_diagnostics.specs.Laws.Diagnostic.{diagnostic_read}
-use borrow.Author.Rules.{rules}
+use Rattle.lent_diagnostics.proofs.Laws.Diagnostic.{diagnostic_read}
 use Rattle.lent_diagnostics.proofs.diagnostic_in.Goals as goal
 
 pub returns : goal.returns

@@ -1,9 +1,7 @@
-use borrow.Author.Rules.{rules}
-use mathlib.Core.Path.{◌≡◌, refl, ◌∙◌}
+use mathlib.Core.Path.{◌≡◌}
 use Prim.Native.Nat.{◌-◌}
 use Rattle.lent_context.specs.Lent.{diagnostics_in}
 use Rattle.def_transfer.specs.Pure.{find_identity as first_identity}
-use Rattle.lent_diagnostics.specs.Laws.Diagnostic.{identity_passed, identity_found, identity_nowhere}
 use Rattle.lent_diagnostics.proofs.find_identity.Given as goal
 
 abbrev pub invariant-loop-k : goal.invariant-loop-k

@@ -1,9 +1,5 @@
-use borrow.Author.Rules.{rules}
-use mathlib.Core.Path.{◌≡◌, refl, ◌∙◌}
-use Prim.Native.Nat.{◌-◌}
-use Rattle.lent_context.specs.Lent.{diagnostics_in}
-use Rattle.def_transfer.specs.Pure.{find_instance as first_instance}
-use Rattle.lent_diagnostics.specs.Laws.Diagnostic.{instance_passed, instance_found, instance_nowhere}
+use mathlib.Core.Path.{refl, ◌∙◌}
+use Rattle.lent_diagnostics.proofs.Laws.Diagnostic.{instance_passed, instance_found, instance_nowhere}
 use Rattle.lent_diagnostics.proofs.find_instance.Goals as goal
 
 pub loop-k-init : goal.loop-k-init

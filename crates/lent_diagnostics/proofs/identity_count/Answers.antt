@@ -1,9 +1,5 @@
-use borrow.Author.Rules.{rules}
-use mathlib.Core.Path.{◌≡◌, refl, ◌∙◌}
-use Prim.Native.Nat.{max, ◌-◌}
-use Rattle.lent_context.specs.Lent.{diagnostics_in}
-use Rattle.def_transfer.specs.Pure.{identities}
-use Rattle.lent_diagnostics.specs.Laws.Diagnostic.{identities_more, identities_end}
+use mathlib.Core.Path.{refl, ◌∙◌}
+use Rattle.lent_diagnostics.proofs.Laws.Diagnostic.{identities_more, identities_end}
 use Rattle.lent_diagnostics.proofs.identity_count.Goals as goal
 
 pub loop-k-init : goal.loop-k-init

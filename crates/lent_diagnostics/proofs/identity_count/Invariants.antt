@@ -1,9 +1,7 @@
-use borrow.Author.Rules.{rules}
-use mathlib.Core.Path.{◌≡◌, refl, ◌∙◌}
+use mathlib.Core.Path.{◌≡◌}
 use Prim.Native.Nat.{max, ◌-◌}
 use Rattle.lent_context.specs.Lent.{diagnostics_in}
 use Rattle.def_transfer.specs.Pure.{identities}
-use Rattle.lent_diagnostics.specs.Laws.Diagnostic.{identities_more, identities_end}
 use Rattle.lent_diagnostics.proofs.identity_count.Given as goal
 
 abbrev pub invariant-loop-k : goal.invariant-loop-k

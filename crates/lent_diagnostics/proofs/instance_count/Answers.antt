@@ -1,5 +1,4 @@
-use Rattle.lent_diagnostics.specs.Laws.Diagnostic.{instances_are}
-use borrow.Author.Rules.{rules}
+use Rattle.lent_diagnostics.proofs.Laws.Diagnostic.{instances_are}
 use Rattle.lent_diagnostics.proofs.instance_count.Goals as goal
 
 pub returns : goal.returns

@@ -1,5 +1,4 @@
-use Rattle.lent_diagnostics.specs.Laws.Diagnostic.{instance_differs, instance_labels}
-use borrow.Author.Rules.{rules}
+use Rattle.lent_diagnostics.proofs.Laws.Diagnostic.{instance_differs, instance_labels}
 use Rattle.lent_diagnostics.proofs.is_instance.Goals as goal
 
 pub returns-then-identity-x : goal.returns-then-identity-x

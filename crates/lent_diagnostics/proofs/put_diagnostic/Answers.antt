@@ -1,6 +1,4 @@
-use mathlib.Core.Path.{◌∙◌}
-use Rattle.lent_diagnostics.specs.Laws.Diagnostic.{diagnostic_written}
-use borrow.Author.Rules.{rules}
+use Rattle.lent_diagnostics.proofs.Laws.Diagnostic.{diagnostic_written}
 use Rattle.lent_diagnostics.proofs.put_diagnostic.Goals as goal
 
 pub returns : goal.returns

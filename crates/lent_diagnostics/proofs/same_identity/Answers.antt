@@ -1,4 +1,4 @@
-use Rattle.lent_diagnostics.specs.Laws.Diagnostic.{identifier_differs, case_differs, sentence_decides, name_decides}
+use Rattle.lent_diagnostics.proofs.Laws.Diagnostic.{identifier_differs, case_differs, sentence_decides, name_decides}
 use Rattle.lent_diagnostics.proofs.same_identity.Goals as goal
 
 pub returns-then-a-b : goal.returns-then-a-b

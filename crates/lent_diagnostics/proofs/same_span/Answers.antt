@@ -1,4 +1,4 @@
-use Rattle.lent_diagnostics.specs.Laws.Diagnostic.{span_differs, span_ends}
+use Rattle.lent_diagnostics.proofs.Laws.Diagnostic.{span_differs, span_ends}
 use Rattle.lent_diagnostics.proofs.same_span.Goals as goal
 
 pub returns-then-a-b : goal.returns-then-a-b

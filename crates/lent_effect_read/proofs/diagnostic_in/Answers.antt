@@ -1,5 +1,4 @@
 -- `lent_effect_read::diagnostic_in` meets its contract: two words. Assumes nothing.
-use borrow.Author.Rules.{rules}
 use Rattle.lent_effect_read.proofs.diagnostic_in.Goals as goal
 
 pub returns : goal.returns

@@ -1,8 +1,7 @@
 -- `lent_effect_read::kind_of_word` meets its contract: the kind of a number, read through a byte. Assumes nothing.
 use native.Mathlib.Omega.{arith}
 use mathlib.Core.Path.{sym}
-use Rattle.def_kinds.specs.Laws.Kinds.{kind_at_rest}
-use borrow.Author.Rules.{rules}
+use Rattle.def_kinds.proofs.Laws.Kinds.{kind_at_rest}
 use Rattle.lent_effect_read.proofs.kind_of_word.Goals as goal
 
 pub returns : goal.returns

@@ -1,6 +1,5 @@
 -- `lent_effect_write::put_create` meets its contract: four writes. Assumes nothing.
-use Rattle.lent_effects.specs.Laws.EffectWrites.{writes_create}
-use borrow.Author.Rules.{rules}
+use Rattle.lent_effects.proofs.Laws.EffectWrites.{writes_create}
 use Rattle.lent_effect_write.proofs.put_create.Goals as goal
 
 pub returns : goal.returns

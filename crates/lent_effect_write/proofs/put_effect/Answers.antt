@@ -1,6 +1,5 @@
 -- `lent_effect_write::put_effect` meets its contract: one law for each variant. Assumes nothing.
-use Rattle.lent_effects.specs.Laws.EffectWrites.{put_freeze, put_mutate, put_mutate_conditionally, put_mutate_transitive, put_mutate_transitive_conditionally, put_capture, put_alias, put_maybe_alias, put_assign, put_create, put_create_from, put_immutable_capture, put_create_function, put_mutate_frozen, put_mutate_global, put_impure, put_render}
-use borrow.Author.Rules.{rules}
+use Rattle.lent_effects.proofs.Laws.EffectWrites.{put_freeze, put_mutate, put_mutate_conditionally, put_mutate_transitive, put_mutate_transitive_conditionally, put_capture, put_alias, put_maybe_alias, put_assign, put_create, put_create_from, put_immutable_capture, put_create_function, put_mutate_frozen, put_mutate_global, put_impure, put_render}
 use Rattle.lent_effect_write.proofs.put_effect.Goals as goal
 
 pub returns-in-Freeze : goal.returns-in-Freeze

@@ -1,6 +1,5 @@
 -- `lent_effect_write::put_function` meets its contract: four writes, then the captures. Assumes nothing.
-use Rattle.lent_effects.specs.Laws.EffectWrites.{writes_function}
-use borrow.Author.Rules.{rules}
+use Rattle.lent_effects.proofs.Laws.EffectWrites.{writes_function}
 use Rattle.lent_effect_write.proofs.put_function.Goals as goal
 
 pub returns : goal.returns

@@ -1,5 +1,4 @@
 -- `lent_effect_write::put_reported` meets its contract: three writes. Assumes nothing.
-use borrow.Author.Rules.{rules}
 use Rattle.lent_effect_write.proofs.put_reported.Goals as goal
 
 pub returns : goal.returns

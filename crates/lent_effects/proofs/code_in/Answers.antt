@@ -1,7 +1,6 @@
 -- `lent_effects::code_in` meets its contract: 12 and what is past 17 read as Render. Assumes nothing.
 use native.Mathlib.Omega.{arith}
-use Rattle.lent_effects.specs.Laws.Head.{code_past, code_apply, code_known}
-use borrow.Author.Rules.{rules}
+use Rattle.lent_effects.proofs.Laws.Head.{code_past, code_apply, code_known}
 use Rattle.lent_effects.proofs.code_in.Goals as goal
 
 pub returns-then-code-gt17 : goal.returns-then-code-gt17

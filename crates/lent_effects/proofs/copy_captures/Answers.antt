@@ -1,11 +1,7 @@
 -- `lent_effects::copy_captures` meets its contract: each turn copies one of the words that are left. Assumes nothing.
-use borrow.Author.Rules.{rules}
 use native.Mathlib.Omega.{arith}
-use Prim.Native.Nat.{◌-◌, ◌≤◌}
-use mathlib.Core.Path.{◌≡◌, refl, ◌∙◌}
-use lib.ListN.{length}
-use Rattle.lent_effects.specs.Records.{copied_from, copied_captures}
-use Rattle.lent_effects.specs.Laws.Capture.{copied_more, copied_kept, copied_none}
+use mathlib.Core.Path.{refl, ◌∙◌}
+use Rattle.lent_effects.proofs.Laws.Capture.{copied_more, copied_kept, copied_none}
 use Rattle.lent_effects.proofs.copy_captures.Goals as goal
 
 pub loop-k-init : goal.loop-k-init

@@ -1,10 +1,7 @@
-use borrow.Author.Rules.{rules}
-use native.Mathlib.Omega.{arith}
 use Prim.Native.Nat.{◌-◌, ◌≤◌}
-use mathlib.Core.Path.{◌≡◌, refl, ◌∙◌}
+use mathlib.Core.Path.{◌≡◌}
 use lib.ListN.{length}
 use Rattle.lent_effects.specs.Records.{copied_from, copied_captures}
-use Rattle.lent_effects.specs.Laws.Capture.{copied_more, copied_kept, copied_none}
 use Rattle.lent_effects.proofs.copy_captures.Given as goal
 
 abbrev pub invariant-loop-k : goal.invariant-loop-k

@@ -1,14 +1,9 @@
 -- `lent_effects::put_captures` meets its contract: each turn writes one of the captures that are left. Assumes nothing.
-use borrow.Author.Rules.{rules}
 use native.Mathlib.Omega.{arith}
-use Prim.Native.Nat.{◌-◌, ◌≤◌}
-use mathlib.Core.Path.{◌≡◌, refl, ap, ◌∙◌}
+use mathlib.Core.Path.{refl, ap, ◌∙◌}
 use lib.ListN.{length}
-use Rattle.lent_tables.specs.Words.{put_places, places_in}
-use Rattle.lent_tables.specs.Laws.Word.{place_length}
-use Rattle.lent_effects.specs.Records.{captures_of}
-use Rattle.lent_effects.specs.Laws.Capture.{put_start, put_more, put_none}
-use Rattle.lent_layout.specs.Layout.{one_run}
+use Rattle.lent_tables.proofs.Laws.Word.{place_length}
+use Rattle.lent_effects.proofs.Laws.Capture.{put_start, put_more, put_none}
 use Rattle.lent_effects.proofs.put_captures.Goals as goal
 
 pub loop-k-init : goal.loop-k-init

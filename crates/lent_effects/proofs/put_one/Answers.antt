@@ -1,5 +1,4 @@
 -- `lent_effects::put_one` meets its contract: two writes. Assumes nothing.
-use borrow.Author.Rules.{rules}
 use Rattle.lent_effects.proofs.put_one.Goals as goal
 
 pub returns : goal.returns

@@ -1,6 +1,4 @@
-use Prim.Native.Nat.{◌-◌}
-use Rattle.lent_context.specs.Laws.Code.{word_is}
-use borrow.Author.Rules.{rules}
+use Rattle.lent_context.proofs.Laws.Code.{word_is}
 use Rattle.lent_functions.proofs.context_identifier.Goals as goal
 
 pub returns : goal.returns

@@ -1,6 +1,4 @@
-use Prim.Native.Nat.{◌-◌}
-use Rattle.lent_context.specs.Laws.Code.{count_is}
-use borrow.Author.Rules.{rules}
+use Rattle.lent_context.proofs.Laws.Code.{count_is}
 use Rattle.lent_functions.proofs.inside_count.Goals as goal
 
 pub returns : goal.returns

@@ -1,6 +1,5 @@
 -- `lent_key_of::key_of` meets its contract: one law for each variant. Assumes nothing.
-use Rattle.lent_keys.specs.Laws.EffectKey.{key_freeze, key_mutate, key_mutate_conditionally, key_mutate_transitive, key_mutate_transitive_conditionally, key_capture, key_alias, key_maybe_alias, key_assign, key_create, key_create_from, key_immutable_capture, key_create_function, key_mutate_frozen, key_mutate_global, key_impure, key_render}
-use borrow.Author.Rules.{rules}
+use Rattle.lent_keys.proofs.Laws.EffectKey.{key_freeze, key_mutate, key_mutate_conditionally, key_mutate_transitive, key_mutate_transitive_conditionally, key_capture, key_alias, key_maybe_alias, key_assign, key_create, key_create_from, key_immutable_capture, key_create_function, key_mutate_frozen, key_mutate_global, key_impure, key_render}
 use Rattle.lent_key_of.proofs.key_of.Goals as goal
 
 pub returns-in-Freeze : goal.returns-in-Freeze

@@ -1,5 +1,5 @@
 -- `lent_key_of::one_key` meets its contract: the key of one place. Assumes nothing.
-use Rattle.lent_keys.specs.Laws.EffectKey.{one_is}
+use Rattle.lent_keys.proofs.Laws.EffectKey.{one_is}
 use Rattle.lent_key_of.proofs.one_key.Goals as goal
 
 pub returns : goal.returns

@@ -1,5 +1,5 @@
 -- `lent_key_of::two_key` meets its contract: the key of two places. Assumes nothing.
-use Rattle.lent_keys.specs.Laws.EffectKey.{two_is}
+use Rattle.lent_keys.proofs.Laws.EffectKey.{two_is}
 use Rattle.lent_key_of.proofs.two_key.Goals as goal
 
 pub returns : goal.returns

@@ -1,5 +1,4 @@
-use Rattle.lent_key_order.specs.Laws.Heads.{heads_are}
-use borrow.Author.Rules.{rules}
+use Rattle.lent_key_order.proofs.Laws.Heads.{heads_are}
 use Rattle.lent_key_order.proofs.compare_heads.Goals as goal
 
 pub returns : goal.returns

@@ -1,6 +1,5 @@
 -- `lent_key_order::compare_options` meets its contract: one law for each way. Assumes nothing.
-use Rattle.lent_key_order.specs.Laws.Heads.{neither, second_only, first_only, both_there}
-use borrow.Author.Rules.{rules}
+use Rattle.lent_key_order.proofs.Laws.Heads.{neither, second_only, first_only, both_there}
 use Rattle.lent_key_order.proofs.compare_options.Goals as goal
 
 pub returns-in-Nowhere-b : goal.returns-in-Nowhere-b

@@ -1,10 +1,8 @@
-use borrow.Author.Rules.{rules}
-use native.Mathlib.Omega.{arith}
 use Prim.Native.Nat.{◌-◌, ◌≤◌}
-use mathlib.Core.Path.{◌≡◌, sym, ◌∙◌}
+use mathlib.Core.Path.{◌≡◌}
 use Rattle.base_search.specs.Comparings.{compare_lists}
 use Rattle.lent_keys.specs.KeyRecords.{numbers_in}
-use Rattle.lent_key_order.specs.Laws.Runs.{left, left_all, second_done, past_both, one_less, one_more_is, one_same, first_done, both_done}
+use Rattle.lent_key_order.proofs.Laws.Runs.{left}
 use Rattle.lent_key_order.proofs.compare_runs.Given as goal
 
 abbrev pub invariant-loop-k : goal.invariant-loop-k

@@ -1,4 +1,4 @@
-use Rattle.lent_key_order.specs.Laws.Runs.{not_past, are_past}
+use Rattle.lent_key_order.proofs.Laws.Runs.{not_past, are_past}
 use Rattle.lent_key_order.proofs.is_past.Goals as goal
 
 pub returns-then-s-eq0 : goal.returns-then-s-eq0

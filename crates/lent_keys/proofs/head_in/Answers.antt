@@ -1,6 +1,5 @@
 -- `lent_keys::head_in` meets its contract: seven reads. Assumes nothing.
-use Rattle.lent_keys.specs.Laws.KeyRecord.{reads_head}
-use borrow.Author.Rules.{rules}
+use Rattle.lent_keys.proofs.Laws.KeyRecord.{reads_head}
 use Rattle.lent_keys.proofs.head_in.Goals as goal
 
 pub returns : goal.returns

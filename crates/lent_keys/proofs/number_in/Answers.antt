@@ -1,7 +1,6 @@
 -- `lent_keys::number_in` meets its contract: one read, at a place that fits 64 bits. Assumes nothing.
 use native.Mathlib.Omega.{arith}
-use Rattle.lent_keys.specs.Laws.Number.{number_fits, reads_number}
-use borrow.Author.Rules.{rules}
+use Rattle.lent_keys.proofs.Laws.Number.{number_fits, reads_number}
 use Rattle.lent_keys.proofs.number_in.Goals as goal
 
 pub overflow_mul-wide32 : goal.overflow_mul-wide32

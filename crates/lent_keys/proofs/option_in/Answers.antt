@@ -1,6 +1,5 @@
 -- `lent_keys::option_in` meets its contract: a word that is not 0 stands before a number. Assumes nothing.
-use Rattle.lent_keys.specs.Laws.Option.{option_absent, option_present}
-use borrow.Author.Rules.{rules}
+use Rattle.lent_keys.proofs.Laws.Option.{option_absent, option_present}
 use Rattle.lent_keys.proofs.option_in.Goals as goal
 
 pub returns-then-field-eq0 : goal.returns-then-field-eq0

@@ -1,7 +1,5 @@
 -- `lent_keys::put_head` meets its contract: eight writes. Assumes nothing.
-use mathlib.Core.Path.{◌∙◌}
-use Rattle.lent_keys.specs.Laws.KeyRecord.{writes_head}
-use borrow.Author.Rules.{rules}
+use Rattle.lent_keys.proofs.Laws.KeyRecord.{writes_head}
 use Rattle.lent_keys.proofs.put_head.Goals as goal
 
 pub returns : goal.returns

@@ -1,13 +1,9 @@
 -- `lent_keys::put_identifiers` meets its contract: each turn writes one of the identifiers that are left. Assumes nothing.
-use borrow.Author.Rules.{rules}
 use native.Mathlib.Omega.{arith}
-use Prim.Native.Nat.{◌-◌, ◌≤◌}
-use mathlib.Core.Path.{◌≡◌, refl, ap, ◌∙◌}
+use mathlib.Core.Path.{refl, ap, ◌∙◌}
 use lib.ListN.{length}
-use Rattle.lent_tables.specs.Laws.Word.{put_length}
-use Rattle.lent_keys.specs.KeyRecords.{numbers_in, put_numbers}
-use Rattle.lent_keys.specs.Laws.KeyRecord.{write_start, write_more, write_none}
-use Rattle.lent_layout.specs.Layout.{one_run}
+use Rattle.lent_tables.proofs.Laws.Word.{put_length}
+use Rattle.lent_keys.proofs.Laws.KeyRecord.{write_start, write_more, write_none}
 use Rattle.lent_keys.proofs.put_identifiers.Goals as goal
 
 pub loop-k-init : goal.loop-k-init

@@ -1,11 +1,7 @@
-use borrow.Author.Rules.{rules}
-use native.Mathlib.Omega.{arith}
 use Prim.Native.Nat.{◌-◌, ◌≤◌}
-use mathlib.Core.Path.{◌≡◌, refl, ap, ◌∙◌}
+use mathlib.Core.Path.{◌≡◌}
 use lib.ListN.{length}
-use Rattle.lent_tables.specs.Laws.Word.{put_length}
 use Rattle.lent_keys.specs.KeyRecords.{numbers_in, put_numbers}
-use Rattle.lent_keys.specs.Laws.KeyRecord.{write_start, write_more, write_none}
 use Rattle.lent_layout.specs.Layout.{one_run}
 use Rattle.lent_keys.proofs.put_identifiers.Given as goal
 

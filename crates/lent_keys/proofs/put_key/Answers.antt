@@ -1,6 +1,5 @@
 -- `lent_keys::put_key` meets its contract: the head, the count and the identifiers. Assumes nothing.
-use Rattle.lent_keys.specs.Laws.KeyRecord.{writes_key}
-use borrow.Author.Rules.{rules}
+use Rattle.lent_keys.proofs.Laws.KeyRecord.{writes_key}
 use Rattle.lent_keys.proofs.put_key.Goals as goal
 
 pub returns : goal.returns

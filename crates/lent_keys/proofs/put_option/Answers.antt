@@ -1,6 +1,5 @@
 -- `lent_keys::put_option` meets its contract: two writes. Assumes nothing.
-use Rattle.lent_keys.specs.Laws.Option.{writes_absent, writes_present}
-use borrow.Author.Rules.{rules}
+use Rattle.lent_keys.proofs.Laws.Option.{writes_absent, writes_present}
 use Rattle.lent_keys.proofs.put_option.Goals as goal
 
 pub returns-in-Nowhere : goal.returns-in-Nowhere

@@ -1,5 +1,4 @@
-use Rattle.lent_context.specs.Laws.Search.{interned_is}
-use borrow.Author.Rules.{rules}
+use Rattle.lent_context.proofs.Laws.Search.{interned_is}
 use Rattle.lent_links.proofs.interned_count.Goals as goal
 
 pub returns : goal.returns

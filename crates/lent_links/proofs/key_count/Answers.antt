@@ -1,5 +1,4 @@
-use Rattle.lent_context.specs.Laws.Search.{keys_counted}
-use borrow.Author.Rules.{rules}
+use Rattle.lent_context.proofs.Laws.Search.{keys_counted}
 use Rattle.lent_links.proofs.key_count.Goals as goal
 
 pub returns : goal.returns

@@ -1,5 +1,4 @@
-use Rattle.lent_context.specs.Laws.Search.{more_one, more_none}
-use borrow.Author.Rules.{rules}
+use Rattle.lent_context.proofs.Laws.Search.{more_one, more_none}
 use Rattle.lent_links.proofs.one_more.Goals as goal
 
 pub returns-then-n-lt4294967295 : goal.returns-then-n-lt4294967295

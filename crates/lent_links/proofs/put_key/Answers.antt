@@ -1,5 +1,4 @@
-use Rattle.lent_context.specs.Laws.Search.{put_cached}
-use borrow.Author.Rules.{rules}
+use Rattle.lent_context.proofs.Laws.Search.{put_cached}
 use Rattle.lent_links.proofs.put_key.Goals as goal
 
 pub returns : goal.returns

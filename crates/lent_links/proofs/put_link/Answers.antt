@@ -1,6 +1,4 @@
-use Prim.Native.Nat.{◌-◌}
-use Rattle.lent_context.specs.Laws.Code.{link_put}
-use borrow.Author.Rules.{rules}
+use Rattle.lent_context.proofs.Laws.Code.{link_put}
 use Rattle.lent_links.proofs.put_link.Goals as goal
 
 pub returns : goal.returns

@@ -1,12 +1,7 @@
 -- `lent_members::count_bits` meets its contract. The loop's invariant: what is counted and the bits of the words that are left make all bits of the row.
 -- The measure is the words that are left. Assumes nothing.
-use borrow.Author.Rules.{rules}
 use native.Mathlib.Omega.{arith}
-use mathlib.Core.Path.{◌≡◌}
-use Prim.Native.Nat.{◌+◌, ◌-◌, ◌*◌}
-use lib.Count.{ones}
-use Rattle.lent_sets.specs.Rows.{number, row_number}
-use Rattle.lent_sets.specs.Laws.Code.{count_start, count_step, count_fits, count_end}
+use Rattle.lent_sets.proofs.Laws.Code.{count_start, count_step, count_fits, count_end}
 use Rattle.lent_members.proofs.count_bits.Goals as goal
 
 pub loop-w-init : goal.loop-w-init

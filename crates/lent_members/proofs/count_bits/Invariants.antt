@@ -1,10 +1,7 @@
-use borrow.Author.Rules.{rules}
-use native.Mathlib.Omega.{arith}
 use mathlib.Core.Path.{◌≡◌}
 use Prim.Native.Nat.{◌+◌, ◌-◌, ◌*◌}
 use lib.Count.{ones}
 use Rattle.lent_sets.specs.Rows.{number, row_number}
-use Rattle.lent_sets.specs.Laws.Code.{count_start, count_step, count_fits, count_end}
 use Rattle.lent_members.proofs.count_bits.Given as goal
 
 abbrev pub invariant-loop-w : goal.invariant-loop-w

@@ -1,12 +1,9 @@
 -- `lent_members::is_empty` meets its contract. The loop's invariant: each word passed is 0.
 -- The measure is the words that are left. Assumes nothing.
-use borrow.Author.Rules.{rules}
 use native.Mathlib.Omega.{arith}
-use mathlib.Core.Path.{◌≡◌, sym, ◌∙◌}
-use Prim.Native.Nat.{ℕ, ◌-◌, ◌<◌}
-use lib.ListN.{get_or}
+use mathlib.Core.Path.{sym, ◌∙◌}
 use borrow.Author.Count.{below_more, below_none}
-use Rattle.lent_sets.specs.Laws.Code.{empty_yes, empty_no}
+use Rattle.lent_sets.proofs.Laws.Code.{empty_yes, empty_no}
 use Rattle.lent_members.proofs.is_empty.Goals as goal
 
 pub loop-w-init : goal.loop-w-init

@@ -1,10 +1,6 @@
-use borrow.Author.Rules.{rules}
-use native.Mathlib.Omega.{arith}
-use mathlib.Core.Path.{◌≡◌, sym, ◌∙◌}
+use mathlib.Core.Path.{◌≡◌}
 use Prim.Native.Nat.{ℕ, ◌-◌, ◌<◌}
 use lib.ListN.{get_or}
-use borrow.Author.Count.{below_more, below_none}
-use Rattle.lent_sets.specs.Laws.Code.{empty_yes, empty_no}
 use Rattle.lent_members.proofs.is_empty.Given as goal
 
 abbrev pub invariant-loop-w : goal.invariant-loop-w

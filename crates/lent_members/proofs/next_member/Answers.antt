@@ -1,11 +1,8 @@
 -- `lent_members::next_member` meets its contract. The loop's invariant: the next member from `v` on is the one from `from` on.
 -- The measure is what is left of 1,024. Assumes nothing.
-use borrow.Author.Rules.{rules}
 use native.Mathlib.Omega.{arith}
-use mathlib.Core.Path.{◌≡◌, refl, sym, ◌∙◌}
-use Prim.Native.Nat.{◌-◌}
-use Rattle.lent_sets.specs.Rows.{next_member}
-use Rattle.lent_sets.specs.Laws.Code.{next_none, next_found, next_end}
+use mathlib.Core.Path.{refl, sym, ◌∙◌}
+use Rattle.lent_sets.proofs.Laws.Code.{next_none, next_found, next_end}
 use Rattle.lent_members.proofs.next_member.Goals as goal
 
 pub loop-v-init : goal.loop-v-init

@@ -1,9 +1,6 @@
-use borrow.Author.Rules.{rules}
-use native.Mathlib.Omega.{arith}
-use mathlib.Core.Path.{◌≡◌, refl, sym, ◌∙◌}
+use mathlib.Core.Path.{◌≡◌}
 use Prim.Native.Nat.{◌-◌}
 use Rattle.lent_sets.specs.Rows.{next_member}
-use Rattle.lent_sets.specs.Laws.Code.{next_none, next_found, next_end}
 use Rattle.lent_members.proofs.next_member.Given as goal
 
 abbrev pub invariant-loop-v : goal.invariant-loop-v

@@ -1,7 +1,6 @@
 -- `lent_members::size` meets its contract: a row that is defined has one value less than set bits. Assumes nothing.
 use mathlib.Core.Path.{sym, ◌∙◌}
-use Rattle.lent_sets.specs.Laws.Code.{size_some, size_none}
-use borrow.Author.Rules.{rules}
+use Rattle.lent_sets.proofs.Laws.Code.{size_some, size_none}
 use Rattle.lent_members.proofs.size.Goals as goal
 
 pub overflow_sub-result : goal.overflow_sub-result

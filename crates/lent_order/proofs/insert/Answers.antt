@@ -1,10 +1,6 @@
-use borrow.Author.Rules.{rules}
-use Prim.Native.Nat.{ℕ, ◌-◌}
 use native.Mathlib.Omega.{arith}
-use mathlib.Core.Path.{◌≡◌, refl, ◌∙◌}
-use lib.ListN.{length}
-use Rattle.lent_order.specs.Order.{moved_up}
-use Rattle.lent_order.specs.Laws.Insert.{put_long, moves, moved_all}
+use mathlib.Core.Path.{refl, ◌∙◌}
+use Rattle.lent_order.proofs.Laws.Insert.{put_long, moves, moved_all}
 use Rattle.lent_order.proofs.insert.Goals as goal
 
 pub loop-k-init : goal.loop-k-init

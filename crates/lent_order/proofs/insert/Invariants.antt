@@ -1,10 +1,7 @@
-use borrow.Author.Rules.{rules}
-use Prim.Native.Nat.{ℕ, ◌-◌}
-use native.Mathlib.Omega.{arith}
-use mathlib.Core.Path.{◌≡◌, refl, ◌∙◌}
+use Prim.Native.Nat.{◌-◌}
+use mathlib.Core.Path.{◌≡◌}
 use lib.ListN.{length}
 use Rattle.lent_order.specs.Order.{moved_up}
-use Rattle.lent_order.specs.Laws.Insert.{put_long, moves, moved_all}
 use Rattle.lent_order.proofs.insert.Given as goal
 
 abbrev pub invariant-loop-k : goal.invariant-loop-k

@@ -1,5 +1,4 @@
-use borrow.Author.Rules.{rules}
-use Rattle.lent_order.specs.Laws.Insert.{order_read}
+use Rattle.lent_order.proofs.Laws.Insert.{order_read}
 use Rattle.lent_order.proofs.order_at.Goals as goal
 
 pub returns : goal.returns

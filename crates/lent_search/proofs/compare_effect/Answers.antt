@@ -1,5 +1,4 @@
-use Rattle.lent_search.specs.Laws.Find.{record_less, record_more, record_same}
-use borrow.Author.Rules.{rules}
+use Rattle.lent_search.proofs.Laws.Find.{record_less, record_more, record_same}
 use Rattle.lent_search.proofs.compare_effect.Goals as goal
 
 pub returns-in-Less : goal.returns-in-Less

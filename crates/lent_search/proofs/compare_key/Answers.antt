@@ -1,5 +1,4 @@
-use Rattle.lent_search.specs.Laws.Find.{number_less, number_more, number_same}
-use borrow.Author.Rules.{rules}
+use Rattle.lent_search.proofs.Laws.Find.{number_less, number_more, number_same}
 use Rattle.lent_search.proofs.compare_key.Goals as goal
 
 pub returns-in-Less : goal.returns-in-Less

@@ -1,15 +1,12 @@
-use borrow.Author.Rules.{rules}
 use native.Mathlib.Omega.{arith}
-use Prim.Native.Nat.{◌-◌, ◌≤◌}
-use mathlib.Core.Path.{◌≡◌, refl}
-use Rattle.base_search.specs.Search.{halving}
+use mathlib.Core.Path.{refl}
 use Rattle.def_effects.specs.Places.{identifiers}
 use Rattle.lent_effects.specs.Records.{captures_of}
 use Rattle.lent_keys.specs.KeyRecords.{key_with}
-use Rattle.lent_context.specs.Lent.{key_here, key_spot}
+use Rattle.lent_context.specs.Lent.{key_here}
 use Rattle.lent_layout.specs.Layout as Layout
 use Rattle.lent_order.specs.Order.{order_at}
-use Rattle.lent_search.specs.Laws.Find.{sought, search_starts, search_down, search_up, search_at, search_over, key_search}
+use Rattle.lent_search.proofs.Laws.Find.{search_starts, search_down, search_up, search_at, search_over, key_search}
 use Rattle.lent_search.proofs.find_key.Goals as goal
 
 pub loop-lo-init : goal.loop-lo-init

@@ -1,5 +1,4 @@
-use Rattle.lent_search.specs.Laws.Find.{ends_keyless, ends_keyed}
-use borrow.Author.Rules.{rules}
+use Rattle.lent_search.proofs.Laws.Find.{ends_keyless, ends_keyed}
 use Rattle.lent_search.proofs.number_at.Goals as goal
 
 pub returns-then-field-eq0 : goal.returns-then-field-eq0

@@ -1,7 +1,6 @@
 -- `lent_set_writes::add_set` meets its contract: a row that is not defined adds no bit. Assumes nothing.
 use mathlib.Core.Path.{sym, ◌∙◌}
-use Rattle.lent_sets.specs.Laws.Code.{add_some, add_none}
-use borrow.Author.Rules.{rules}
+use Rattle.lent_sets.proofs.Laws.Code.{add_some, add_none}
 use Rattle.lent_set_writes.proofs.add_set.Goals as goal
 
 pub returns-then-is_defined : goal.returns-then-is_defined

@@ -1,12 +1,9 @@
 -- `lent_set_writes::add_words` meets its contract. The loop's invariant: the turns that are left do to what is in hand what all do to what was at the start.
 -- The measure is the words that are left. Assumes nothing.
-use borrow.Author.Rules.{rules}
-use mathlib.Core.Path.{◌≡◌, refl, sym, ◌∙◌}
-use Prim.Native.Nat.{◌-◌}
-use lib.ListN.{length}
-use Rattle.lent_sets.specs.Rows.{upto, or_word, add_set, even_row}
-use Rattle.lent_sets.specs.Laws.Loop.{upto_step, upto_end}
-use Rattle.lent_sets.specs.Laws.Code.{member_word_is}
+use mathlib.Core.Path.{refl, sym, ◌∙◌}
+use Rattle.lent_sets.specs.Rows.{or_word, add_set, even_row}
+use Rattle.lent_sets.proofs.Laws.Loop.{upto_step, upto_end}
+use Rattle.lent_sets.proofs.Laws.Code.{member_word_is}
 use Rattle.lent_set_writes.proofs.add_words.Goals as goal
 
 pub loop-w-init : goal.loop-w-init

@@ -1,10 +1,7 @@
-use borrow.Author.Rules.{rules}
-use mathlib.Core.Path.{◌≡◌, refl, sym, ◌∙◌}
+use mathlib.Core.Path.{◌≡◌}
 use Prim.Native.Nat.{◌-◌}
 use lib.ListN.{length}
 use Rattle.lent_sets.specs.Rows.{upto, or_word, add_set, even_row}
-use Rattle.lent_sets.specs.Laws.Loop.{upto_step, upto_end}
-use Rattle.lent_sets.specs.Laws.Code.{member_word_is}
 use Rattle.lent_set_writes.proofs.add_words.Given as goal
 
 abbrev pub invariant-loop-w : goal.invariant-loop-w

@@ -2,8 +2,7 @@
 use mathlib.Core.Path.{refl, sym, ◌∙◌}
 use lib.Dec.{lit≤}
 use Rattle.lent_sets.specs.Rows.{number}
-use Rattle.lent_sets.specs.Laws.Code.{append_some, append_no_place, append_no_value}
-use borrow.Author.Rules.{rules}
+use Rattle.lent_sets.proofs.Laws.Code.{append_some, append_no_place, append_no_value}
 use Rattle.lent_set_writes.proofs.append_set.Goals as goal
 
 pub returns-then-is_defined-2 : goal.returns-then-is_defined-2

@@ -2,8 +2,7 @@
 use mathlib.Core.Path.{refl, sym, ◌∙◌}
 use lib.Dec.{lit≤}
 use Rattle.lent_sets.specs.Rows.{number}
-use Rattle.lent_sets.specs.Laws.Code.{copy_some, copy_none}
-use borrow.Author.Rules.{rules}
+use Rattle.lent_sets.proofs.Laws.Code.{copy_some, copy_none}
 use Rattle.lent_set_writes.proofs.copy_set.Goals as goal
 
 pub returns-then-is_defined : goal.returns-then-is_defined

@@ -2,8 +2,7 @@
 use mathlib.Core.Path.{refl}
 use lib.Dec.{lit≤}
 use Rattle.lent_sets.specs.Rows.{number}
-use Rattle.lent_sets.specs.Laws.Code.{define_is}
-use borrow.Author.Rules.{rules}
+use Rattle.lent_sets.proofs.Laws.Code.{define_is}
 use Rattle.lent_set_writes.proofs.define.Goals as goal
 
 pub returns : goal.returns

@@ -1,12 +1,9 @@
 -- `lent_set_writes::put_set` meets its contract. The loop's invariant: the turns that are left do to the rows what all do to the rows at the start.
 -- The measure is the words that are left. Assumes nothing.
-use borrow.Author.Rules.{rules}
-use mathlib.Core.Path.{◌≡◌, refl, sym, ◌∙◌}
-use Prim.Native.Nat.{◌-◌}
-use lib.ListN.{length}
+use mathlib.Core.Path.{refl, sym, ◌∙◌}
 use lib.Bits.{bit_or}
-use Rattle.lent_sets.specs.Rows.{number, put_word, put_row, put_set, upto}
-use Rattle.lent_sets.specs.Laws.Loop.{upto_step, upto_end}
+use Rattle.lent_sets.specs.Rows.{number, put_word, put_row, put_set}
+use Rattle.lent_sets.proofs.Laws.Loop.{upto_step, upto_end}
 use Rattle.lent_set_writes.proofs.put_set.Goals as goal
 
 pub loop-w-init : goal.loop-w-init

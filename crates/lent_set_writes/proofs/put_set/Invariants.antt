@@ -1,10 +1,8 @@
-use borrow.Author.Rules.{rules}
-use mathlib.Core.Path.{◌≡◌, refl, sym, ◌∙◌}
+use mathlib.Core.Path.{◌≡◌}
 use Prim.Native.Nat.{◌-◌}
 use lib.ListN.{length}
 use lib.Bits.{bit_or}
-use Rattle.lent_sets.specs.Rows.{number, put_word, put_row, put_set, upto}
-use Rattle.lent_sets.specs.Laws.Loop.{upto_step, upto_end}
+use Rattle.lent_sets.specs.Rows.{number, put_word, put_set, upto}
 use Rattle.lent_set_writes.proofs.put_set.Given as goal
 
 abbrev pub invariant-loop-w : goal.invariant-loop-w

@@ -4,9 +4,8 @@ use native.Mathlib.Omega.{arith}
 use lib.ListN.{get_or, set}
 use lib.Bits.{bit_or}
 use Prim.Native.Nat.{ℕ, ◌%◌, ◌/◌}
-use Rattle.lent_sets.specs.Laws.Bit.{one_shl}
-use Rattle.lent_sets.specs.Laws.Code.{value_in, value_past}
-use borrow.Author.Rules.{rules}
+use Rattle.lent_sets.proofs.Laws.Bit.{one_shl}
+use Rattle.lent_sets.proofs.Laws.Code.{value_in, value_past}
 use Rattle.lent_sets.proofs.add_value.Goals as goal
 
 pub returns-then-v-lt1024 : goal.returns-then-v-lt1024

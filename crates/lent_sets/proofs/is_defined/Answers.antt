@@ -1,6 +1,5 @@
 -- `lent_sets::is_defined` meets its contract: the lowest bit of a row is that of its first word. Assumes nothing.
-use Rattle.lent_sets.specs.Laws.Code.{defined_is}
-use borrow.Author.Rules.{rules}
+use Rattle.lent_sets.proofs.Laws.Code.{defined_is}
 use Rattle.lent_sets.proofs.is_defined.Goals as goal
 
 pub returns : goal.returns

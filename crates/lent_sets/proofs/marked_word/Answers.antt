@@ -2,8 +2,7 @@
 use mathlib.Core.Path.{ap, ◌∙◌}
 use lib.ListN.{get_or}
 use Prim.Native.Nat.{ℕ}
-use Rattle.lent_sets.specs.Laws.Code.{mark_first, mark_later, mark_past}
-use borrow.Author.Rules.{rules}
+use Rattle.lent_sets.proofs.Laws.Code.{mark_first, mark_later, mark_past}
 use Rattle.lent_sets.proofs.marked_word.Goals as goal
 
 pub returns-then-w-eq0 : goal.returns-then-w-eq0

@@ -1,6 +1,5 @@
 -- `lent_sets::member_word` meets its contract, by the cases of its definition. Assumes nothing.
-use Rattle.lent_sets.specs.Laws.Code.{word_first, word_later}
-use borrow.Author.Rules.{rules}
+use Rattle.lent_sets.proofs.Laws.Code.{word_first, word_later}
 use Rattle.lent_sets.proofs.member_word.Goals as goal
 
 pub returns-then-w-eq0 : goal.returns-then-w-eq0

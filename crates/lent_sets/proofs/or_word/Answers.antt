@@ -1,5 +1,4 @@
 -- `lent_sets::or_word` meets its contract: a total read and a total write. Assumes nothing.
-use borrow.Author.Rules.{rules}
 use Rattle.lent_sets.proofs.or_word.Goals as goal
 
 pub returns : goal.returns

@@ -1,8 +1,7 @@
 -- `lent_tables::field` meets its contract: both tests, then a total read at the word's place. Assumes nothing.
 use native.Mathlib.Omega.{arith}
 use mathlib.Core.Path.{sym}
-use Rattle.lent_tables.specs.Laws.Word.{record_fits, within_no_record, within_no_word, field_out, reads_field}
-use borrow.Author.Rules.{rules}
+use Rattle.lent_tables.proofs.Laws.Word.{record_fits, within_no_record, within_no_word, field_out, reads_field}
 use Rattle.lent_tables.proofs.field.Goals as goal
 
 pub returns-then-i-wide32 : goal.returns-then-i-wide32

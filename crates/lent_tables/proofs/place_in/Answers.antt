@@ -1,6 +1,5 @@
 -- `lent_tables::place_in` meets its contract: five reads of words that follow one another. Assumes nothing.
-use Rattle.lent_tables.specs.Laws.Word.{reads_place}
-use borrow.Author.Rules.{rules}
+use Rattle.lent_tables.proofs.Laws.Word.{reads_place}
 use Rattle.lent_tables.proofs.place_in.Goals as goal
 
 pub returns : goal.returns

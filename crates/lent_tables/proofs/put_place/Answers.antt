@@ -1,6 +1,5 @@
 -- `lent_tables::put_place` meets its contract: five writes of words that follow one another. Assumes nothing.
-use Rattle.lent_tables.specs.Laws.Word.{writes_place}
-use borrow.Author.Rules.{rules}
+use Rattle.lent_tables.proofs.Laws.Word.{writes_place}
 use Rattle.lent_tables.proofs.put_place.Goals as goal
 
 pub returns : goal.returns

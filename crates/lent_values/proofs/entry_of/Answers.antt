@@ -1,6 +1,5 @@
 use mathlib.Core.Path.{sym, ◌∙◌}
-use Rattle.lent_values.specs.Laws.Cell.{cell_absent, entry_present}
-use borrow.Author.Rules.{rules}
+use Rattle.lent_values.proofs.Laws.Cell.{cell_absent, entry_present}
 use Rattle.lent_values.proofs.entry_of.Goals as goal
 
 pub returns-then-tag-eq0 : goal.returns-then-tag-eq0

@@ -1,5 +1,4 @@
 use Rattle.lent_values.specs.Cells.{put_value}
-use borrow.Author.Rules.{rules}
 use Rattle.lent_values.proofs.put_value.Goals as goal
 
 pub returns : goal.returns

@@ -1,5 +1,4 @@
 use Rattle.lent_values.specs.Cells.{value_at}
-use borrow.Author.Rules.{rules}
 use Rattle.lent_values.proofs.value_at.Goals as goal
 
 pub returns : goal.returns

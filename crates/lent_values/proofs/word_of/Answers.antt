@@ -1,9 +1,8 @@
 use native.Mathlib.Omega.{arith}
 use mathlib.Core.Path.{ap}
 use Prim.Native.Nat.{ℕ, ◌+◌, ◌*◌}
-use Rattle.def_kinds.specs.Laws.Kinds.{code_lt}
+use Rattle.def_kinds.proofs.Laws.Kinds.{code_lt}
 use Rattle.lent_values.specs.Cells.{word_of}
-use borrow.Author.Rules.{rules}
 use Rattle.lent_values.proofs.word_of.Goals as goal
 
 pub overflow_add-result : goal.overflow_add-result

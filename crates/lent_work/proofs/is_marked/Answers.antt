@@ -1,5 +1,4 @@
-use Rattle.lent_work.specs.Laws.Mark.{unmarked_past, marked_in}
-use borrow.Author.Rules.{rules}
+use Rattle.lent_work.proofs.Laws.Mark.{unmarked_past, marked_in}
 use Rattle.lent_work.proofs.is_marked.Goals as goal
 
 pub returns-then-i-ge512 : goal.returns-then-i-ge512

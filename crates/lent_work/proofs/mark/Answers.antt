@@ -1,7 +1,6 @@
-use Rattle.lent_work.specs.Laws.Mark.{marked_past, mark_in}
-use Rattle.lent_sets.specs.Laws.Bit.{one_shl}
+use Rattle.lent_work.proofs.Laws.Mark.{marked_past, mark_in}
+use Rattle.lent_sets.proofs.Laws.Bit.{one_shl}
 use native.Mathlib.Nat.{mod-lt, zero-lt-suc}
-use borrow.Author.Rules.{rules}
 use Rattle.lent_work.proofs.mark.Goals as goal
 
 pub returns-then-i-ge512 : goal.returns-then-i-ge512

@@ -1,5 +1,5 @@
 -- `refuse_class::lower` meets its contract, by its four ways. Assumes nothing.
-use Rattle.refuse_class.specs.Laws.Class.{lower_none, lower_alone, lower_second, lower_first}
+use Rattle.refuse_class.proofs.Laws.Class.{lower_none, lower_alone, lower_second, lower_first}
 use Rattle.refuse_class.proofs.lower.Goals as goal
 
 pub returns-then-a-eq0 : goal.returns-then-a-eq0

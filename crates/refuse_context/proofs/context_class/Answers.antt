@@ -1,5 +1,4 @@
-use Rattle.refuse_records.specs.Laws.Accepting.{context_counts, context_tables}
-use borrow.Author.Rules.{rules}
+use Rattle.refuse_records.proofs.Laws.Accepting.{context_counts, context_tables}
 use Rattle.refuse_context.proofs.context_class.Goals as goal
 
 pub returns-then-counts_wrong : goal.returns-then-counts_wrong

@@ -1,5 +1,4 @@
-use Rattle.refuse_records.specs.Laws.Accepting.{counts_identifiers, counts_functions, counts_many, counts_effects, counts_diagnostics, counts_keys}
-use borrow.Author.Rules.{rules}
+use Rattle.refuse_records.proofs.Laws.Accepting.{counts_identifiers, counts_functions, counts_many, counts_effects, counts_diagnostics, counts_keys}
 use Rattle.refuse_context.proofs.counts_wrong.Goals as goal
 
 pub returns-then-get32-identifiers : goal.returns-then-get32-identifiers

@@ -1,5 +1,4 @@
-use Rattle.refuse_records.specs.Laws.Accepting.{functions_are}
-use borrow.Author.Rules.{rules}
+use Rattle.refuse_records.proofs.Laws.Accepting.{functions_are}
 use Rattle.refuse_context.proofs.functions_class.Goals as goal
 
 pub returns : goal.returns

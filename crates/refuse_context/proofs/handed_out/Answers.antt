@@ -1,4 +1,4 @@
-use Rattle.refuse_records.specs.Laws.Accepting.{handed_all, handed_some}
+use Rattle.refuse_records.proofs.Laws.Accepting.{handed_all, handed_some}
 use Rattle.refuse_context.proofs.handed_out.Goals as goal
 
 pub returns-then-next-gt512 : goal.returns-then-next-gt512

@@ -1,5 +1,4 @@
-use Rattle.refuse_records.specs.Laws.Accepting.{identifiers_are}
-use borrow.Author.Rules.{rules}
+use Rattle.refuse_records.proofs.Laws.Accepting.{identifiers_are}
 use Rattle.refuse_context.proofs.identifiers_class.Goals as goal
 
 pub returns : goal.returns

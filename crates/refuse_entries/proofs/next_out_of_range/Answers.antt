@@ -1,7 +1,7 @@
 -- `refuse_entries::next_out_of_range` meets its contract: 0, or above 512. Assumes nothing.
 use mathlib.Core.Path.{sym, ◌∙◌}
-use Rattle.base_tests.specs.Laws.Order.{lt_not_le}
-use Rattle.refuse_entries.specs.Laws.Word.{next_zero, next_other}
+use Rattle.base_tests.proofs.Laws.Order.{lt_not_le}
+use Rattle.refuse_entries.proofs.Laws.Word.{next_zero, next_other}
 use Rattle.refuse_entries.proofs.next_out_of_range.Goals as goal
 
 pub returns-then-next-eq0 : goal.returns-then-next-eq0

@@ -1,7 +1,6 @@
 -- `refuse_entries::number_out_of_range` meets its contract: 0, or from 512 + n on. Assumes nothing.
 use mathlib.Core.Path.{sym}
-use Rattle.refuse_entries.specs.Laws.Word.{number_zero, number_other}
-use borrow.Author.Rules.{rules}
+use Rattle.refuse_entries.proofs.Laws.Word.{number_zero, number_other}
 use Rattle.refuse_entries.proofs.number_out_of_range.Goals as goal
 
 pub returns-then-v-eq0 : goal.returns-then-v-eq0

@@ -1,8 +1,7 @@
 -- `refuse_entries::reasons_out_of_range` meets its contract: past 32 bits there is no reason. Assumes nothing.
 use mathlib.Core.Path.{sym, ap}
 use mathlib.Core.Bool.{not}
-use Rattle.refuse_entries.specs.Laws.Word.{reasons_past}
-use borrow.Author.Rules.{rules}
+use Rattle.refuse_entries.proofs.Laws.Word.{reasons_past}
 use Rattle.refuse_entries.proofs.reasons_out_of_range.Goals as goal
 
 pub returns-then-y-ge4294967296 : goal.returns-then-y-ge4294967296

@@ -1,7 +1,6 @@
 -- `refuse_entries::value_out_of_range` meets its contract: the ways through it, a law of `WordLaws` each. Assumes nothing.
 use mathlib.Core.Path.{sym}
-use Rattle.refuse_entries.specs.Laws.Word.{word_empty, word_number, word_kind, word_reasons}
-use borrow.Author.Rules.{rules}
+use Rattle.refuse_entries.proofs.Laws.Word.{word_empty, word_number, word_kind, word_reasons}
 use Rattle.refuse_entries.proofs.value_out_of_range.Goals as goal
 
 pub returns-then-x-eq0 : goal.returns-then-x-eq0

@@ -1,7 +1,6 @@
 -- `refuse_entries::value_unfit` meets its contract: the ways through it, a law of `WordLaws` each. Assumes nothing.
 use mathlib.Core.Path.{sym, ◌∙◌}
-use Rattle.refuse_entries.specs.Laws.Word.{unfit_empty, unfit_entry}
-use borrow.Author.Rules.{rules}
+use Rattle.refuse_entries.proofs.Laws.Word.{unfit_empty, unfit_entry}
 use Rattle.refuse_entries.proofs.value_unfit.Goals as goal
 
 pub returns-then-x-eq0 : goal.returns-then-x-eq0

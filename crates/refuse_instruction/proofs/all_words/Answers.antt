@@ -1,10 +1,5 @@
-use borrow.Author.Rules.{rules}
-use mathlib.Core.Path.{◌≡◌}
-use Prim.Native.Nat.{◌-◌, ◌≤◌}
 use native.Mathlib.Omega.{arith}
-use Rattle.refuse_words.specs.Classes.{words_below}
-use Rattle.refuse_words.specs.Laws.Class.{words_none, words_more, words_end}
-use Rattle.refuse_instruction.specs.EffectClasses.{effect_limit}
+use Rattle.refuse_words.proofs.Laws.Class.{words_none, words_more, words_end}
 use Rattle.refuse_instruction.proofs.all_words.Goals as goal
 
 pub loop-w-init : goal.loop-w-init

@@ -1,11 +1,5 @@
-use borrow.Author.Rules.{rules}
-use mathlib.Core.Path.{◌≡◌}
-use Prim.Native.Nat.{◌-◌, ◌≤◌}
 use native.Mathlib.Omega.{arith}
-use Rattle.refuse_words.specs.Classes.{lowest_below}
-use Rattle.refuse_words.specs.Laws.Class.{lowest_none, lowest_more, lowest_end}
-use Rattle.refuse_instruction.specs.EffectClasses.{effect_class}
-use Rattle.lent_layout.specs.Layout.{candidate_table}
+use Rattle.refuse_words.proofs.Laws.Class.{lowest_none, lowest_more, lowest_end}
 use Rattle.refuse_instruction.proofs.candidates_class.Goals as goal
 
 pub loop-k-init : goal.loop-k-init

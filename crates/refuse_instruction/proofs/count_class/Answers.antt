@@ -1,5 +1,4 @@
-use Rattle.refuse_instruction.specs.Laws.Effect.{count_none, count_fits, count_over}
-use borrow.Author.Rules.{rules}
+use Rattle.refuse_instruction.proofs.Laws.Effect.{count_none, count_fits, count_over}
 use Rattle.refuse_instruction.proofs.count_class.Goals as goal
 
 pub returns-then-is_code-eq0 : goal.returns-then-is_code-eq0

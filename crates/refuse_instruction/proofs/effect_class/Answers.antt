@@ -1,5 +1,4 @@
-use Rattle.refuse_instruction.specs.Laws.Instruction.{effect_apply, effect_other}
-use borrow.Author.Rules.{rules}
+use Rattle.refuse_instruction.proofs.Laws.Instruction.{effect_apply, effect_other}
 use Rattle.refuse_instruction.proofs.effect_class.Goals as goal
 
 pub returns-then-code-eq12 : goal.returns-then-code-eq12

@@ -1,5 +1,4 @@
-use Rattle.refuse_instruction.specs.Laws.Effect.{limit_captures, limit_code, limit_place, limit_destination, limit_middle}
-use borrow.Author.Rules.{rules}
+use Rattle.refuse_instruction.proofs.Laws.Effect.{limit_captures, limit_code, limit_place, limit_destination, limit_middle}
 use Rattle.refuse_instruction.proofs.effect_limit.Goals as goal
 
 pub returns-then-w-ge18 : goal.returns-then-w-ge18

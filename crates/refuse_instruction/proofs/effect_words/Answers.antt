@@ -1,6 +1,5 @@
 use native.Mathlib.Omega.{arith}
-use Rattle.refuse_instruction.specs.Laws.Split.{no_captures, words_split, split_from}
-use borrow.Author.Rules.{rules}
+use Rattle.refuse_instruction.proofs.Laws.Split.{no_captures, words_split, split_from}
 use Rattle.refuse_instruction.proofs.effect_words.Goals as goal
 
 pub returns-then-is_code-ne0 : goal.returns-then-is_code-ne0

@@ -1,5 +1,4 @@
-use Rattle.refuse_instruction.specs.Laws.Parts.{head_is}
-use borrow.Author.Rules.{rules}
+use Rattle.refuse_instruction.proofs.Laws.Parts.{head_is}
 use Rattle.refuse_instruction.proofs.head_words.Goals as goal
 
 pub returns : goal.returns

@@ -1,5 +1,4 @@
-use Rattle.refuse_instruction.specs.Laws.Instruction.{instruction_many, instruction_rest}
-use borrow.Author.Rules.{rules}
+use Rattle.refuse_instruction.proofs.Laws.Instruction.{instruction_many, instruction_rest}
 use Rattle.refuse_instruction.proofs.instruction_class.Goals as goal
 
 pub returns-then-count-gt64 : goal.returns-then-count-gt64

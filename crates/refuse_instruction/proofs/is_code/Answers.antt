@@ -1,5 +1,5 @@
 use mathlib.Core.Path.{sym}
-use Rattle.base_tests.specs.Laws.Choice.{ite_eq, ite_ne}
+use Rattle.base_tests.proofs.Laws.Choice.{ite_eq, ite_ne}
 use Rattle.refuse_instruction.proofs.is_code.Goals as goal
 
 pub returns-then-code-one : goal.returns-then-code-one

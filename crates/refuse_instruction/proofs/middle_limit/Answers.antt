@@ -1,5 +1,4 @@
-use Rattle.refuse_instruction.specs.Laws.Effect.{middle_kind, middle_reason, middle_mutation, middle_function, middle_identity, middle_instance, middle_count, middle_past}
-use borrow.Author.Rules.{rules}
+use Rattle.refuse_instruction.proofs.Laws.Effect.{middle_kind, middle_reason, middle_mutation, middle_function, middle_identity, middle_instance, middle_count, middle_past}
 use Rattle.refuse_instruction.proofs.middle_limit.Goals as goal
 
 pub returns-then-w-eq0 : goal.returns-then-w-eq0

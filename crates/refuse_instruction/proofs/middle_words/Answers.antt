@@ -1,6 +1,5 @@
 use Rattle.refuse_instruction.specs.Parts.{middle_word}
-use Rattle.refuse_instruction.specs.Laws.Parts.{lowest_seven, word_of_middle}
-use borrow.Author.Rules.{rules}
+use Rattle.refuse_instruction.proofs.Laws.Parts.{lowest_seven, word_of_middle}
 use Rattle.refuse_instruction.proofs.middle_words.Goals as goal
 
 pub returns : goal.returns

@@ -1,5 +1,4 @@
-use Rattle.refuse_instruction.specs.Laws.Effect.{numbers_none, numbers_right, numbers_wrong}
-use borrow.Author.Rules.{rules}
+use Rattle.refuse_instruction.proofs.Laws.Effect.{numbers_none, numbers_right, numbers_wrong}
 use Rattle.refuse_instruction.proofs.numbers_class.Goals as goal
 
 pub returns-then-uses_diagnostic-ne1 : goal.returns-then-uses_diagnostic-ne1

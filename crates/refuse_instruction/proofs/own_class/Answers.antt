@@ -1,4 +1,4 @@
-use Rattle.refuse_instruction.specs.Laws.Instruction.{own_right, own_wrong}
+use Rattle.refuse_instruction.proofs.Laws.Instruction.{own_right, own_wrong}
 use Rattle.refuse_instruction.proofs.own_class.Goals as goal
 
 pub returns-then-own-functions : goal.returns-then-own-functions

@@ -1,4 +1,4 @@
-use Rattle.refuse_instruction.specs.Laws.Instruction.{place_identifier_is, place_effect_is, place_reactive_is, place_right}
+use Rattle.refuse_instruction.proofs.Laws.Instruction.{place_identifier_is, place_effect_is, place_reactive_is, place_right}
 use Rattle.refuse_instruction.proofs.place_class.Goals as goal
 
 pub returns-then-p-identifiers : goal.returns-then-p-identifiers

@@ -1,7 +1,6 @@
 use native.Mathlib.Omega.{arith}
 use Rattle.refuse_instruction.specs.Parts.{place_word}
-use Rattle.refuse_instruction.specs.Laws.Parts.{lowest_five, word_of_place}
-use borrow.Author.Rules.{rules}
+use Rattle.refuse_instruction.proofs.Laws.Parts.{lowest_five, word_of_place}
 use Rattle.refuse_instruction.proofs.place_words.Goals as goal
 
 pub returns : goal.returns

@@ -1,4 +1,4 @@
-use Rattle.refuse_instruction.specs.Laws.Use.{destination_before, destination_apply, destination_after, destination_other}
+use Rattle.refuse_instruction.proofs.Laws.Use.{destination_before, destination_apply, destination_after, destination_other}
 use Rattle.refuse_instruction.proofs.uses_destination.Goals as goal
 
 pub returns-then-code-lt5 : goal.returns-then-code-lt5

@@ -1,4 +1,4 @@
-use Rattle.refuse_instruction.specs.Laws.Use.{diagnostic_before, diagnostic_after, diagnostic_other}
+use Rattle.refuse_instruction.proofs.Laws.Use.{diagnostic_before, diagnostic_after, diagnostic_other}
 use Rattle.refuse_instruction.proofs.uses_diagnostic.Goals as goal
 
 pub returns-then-code-lt14 : goal.returns-then-code-lt14

@@ -1,4 +1,4 @@
-use Rattle.refuse_instruction.specs.Laws.Use.{uses_past, place_create, place_apply, place_function, place_other}
+use Rattle.refuse_instruction.proofs.Laws.Use.{uses_past, place_create, place_apply, place_function, place_other}
 use Rattle.refuse_instruction.proofs.uses_place.Goals as goal
 
 pub returns-then-code-ge18 : goal.returns-then-code-ge18

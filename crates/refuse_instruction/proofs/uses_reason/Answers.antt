@@ -1,4 +1,4 @@
-use Rattle.refuse_instruction.specs.Laws.Use.{reason_freeze, reason_create, reason_other}
+use Rattle.refuse_instruction.proofs.Laws.Use.{reason_freeze, reason_create, reason_other}
 use Rattle.refuse_instruction.proofs.uses_reason.Goals as goal
 
 pub returns-then-code-eq0 : goal.returns-then-code-eq0

@@ -1,5 +1,4 @@
-use Rattle.refuse_key_order.specs.Laws.KeyOrder.{two_less, two_more, two_same}
-use borrow.Author.Rules.{rules}
+use Rattle.refuse_key_order.proofs.Laws.KeyOrder.{two_less, two_more, two_same}
 use Rattle.refuse_key_order.proofs.compare_cached.Goals as goal
 
 pub returns-in-Less : goal.returns-in-Less

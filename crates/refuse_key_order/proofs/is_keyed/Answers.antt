@@ -1,5 +1,4 @@
-use Rattle.refuse_key_order.specs.Laws.KeyOrder.{keyed_not, keyed_yes}
-use borrow.Author.Rules.{rules}
+use Rattle.refuse_key_order.proofs.Laws.KeyOrder.{keyed_not, keyed_yes}
 use Rattle.refuse_key_order.proofs.is_keyed.Goals as goal
 
 pub returns-then-field-eq0 : goal.returns-then-field-eq0

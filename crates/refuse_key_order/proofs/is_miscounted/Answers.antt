@@ -1,6 +1,5 @@
 use mathlib.Core.Path.{refl}
-use Rattle.refuse_key_order.specs.Laws.KeyOrder.{counted_is}
-use borrow.Author.Rules.{rules}
+use Rattle.refuse_key_order.proofs.Laws.KeyOrder.{counted_is}
 use Rattle.refuse_key_order.proofs.is_miscounted.Goals as goal
 
 pub returns : goal.returns

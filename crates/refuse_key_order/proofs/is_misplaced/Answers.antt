@@ -1,5 +1,4 @@
-use Rattle.refuse_key_order.specs.Laws.KeyOrder.{place_keyless, place_keyed}
-use borrow.Author.Rules.{rules}
+use Rattle.refuse_key_order.proofs.Laws.KeyOrder.{place_keyless, place_keyed}
 use Rattle.refuse_key_order.proofs.is_misplaced.Goals as goal
 
 pub returns-then-is_keyed : goal.returns-then-is_keyed

@@ -1,5 +1,4 @@
-use Rattle.refuse_key_order.specs.Laws.KeyOrder.{order_is}
-use borrow.Author.Rules.{rules}
+use Rattle.refuse_key_order.proofs.Laws.KeyOrder.{order_is}
 use Rattle.refuse_key_order.proofs.key_order_class.Goals as goal
 
 pub returns : goal.returns

@@ -1,7 +1,6 @@
 use Prim.Native.Nat.{◌+◌}
-use Rattle.refuse_order.specs.Laws.Order.{limit_next}
-use Rattle.refuse_key_order.specs.Laws.KeyOrder.{place_is}
-use borrow.Author.Rules.{rules}
+use Rattle.refuse_order.proofs.Laws.Order.{limit_next}
+use Rattle.refuse_key_order.proofs.Laws.KeyOrder.{place_is}
 use Rattle.refuse_key_order.proofs.key_place_class.Goals as goal
 
 pub returns : goal.returns

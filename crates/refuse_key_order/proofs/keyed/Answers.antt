@@ -1,10 +1,6 @@
-use borrow.Author.Rules.{rules}
-use mathlib.Core.Path.{◌≡◌}
-use Prim.Native.Nat.{◌-◌, ◌≤◌}
 use native.Mathlib.Omega.{arith}
-use Rattle.base_search.specs.Counting.{how_many}
 use Rattle.lent_context.specs.Lent.{is_keyed}
-use Rattle.refuse_key_order.specs.Laws.KeyOrder.{one_most, none_counted, counted_next, all_keyed}
+use Rattle.refuse_key_order.proofs.Laws.KeyOrder.{one_most, none_counted, counted_next, all_keyed}
 use Rattle.refuse_key_order.proofs.keyed.Goals as goal
 
 pub loop-k-init : goal.loop-k-init

@@ -1,5 +1,4 @@
-use Rattle.refuse_tables.specs.Laws.Key.{key_is}
-use borrow.Author.Rules.{rules}
+use Rattle.refuse_tables.proofs.Laws.Key.{key_is}
 use Rattle.refuse_keys.proofs.key_class.Goals as goal
 
 pub returns : goal.returns

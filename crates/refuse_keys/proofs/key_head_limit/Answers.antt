@@ -1,5 +1,4 @@
-use Rattle.refuse_tables.specs.Laws.Key.{head_present, head_code, head_source_flag, head_source, head_destination_flag, head_destination, head_kind, head_reason, head_function_flag, head_function, head_count, head_none}
-use borrow.Author.Rules.{rules}
+use Rattle.refuse_tables.proofs.Laws.Key.{head_present, head_code, head_source_flag, head_source, head_destination_flag, head_destination, head_kind, head_reason, head_function_flag, head_function, head_count, head_none}
 use Rattle.refuse_keys.proofs.key_head_limit.Goals as goal
 
 pub returns-then-w-eq0 : goal.returns-then-w-eq0

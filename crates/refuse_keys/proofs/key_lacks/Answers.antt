@@ -1,5 +1,4 @@
-use Rattle.refuse_tables.specs.Laws.Key.{lacks_code, lacks_source, lacks_destination, lacks_function}
-use borrow.Author.Rules.{rules}
+use Rattle.refuse_tables.proofs.Laws.Key.{lacks_code, lacks_source, lacks_destination, lacks_function}
 use Rattle.refuse_keys.proofs.key_lacks.Goals as goal
 
 pub returns-then-key_uses_destination-eq0 : goal.returns-then-key_uses_destination-eq0

@@ -1,5 +1,4 @@
-use Rattle.refuse_tables.specs.Laws.Key.{limit_head, limit_capture, limit_past}
-use borrow.Author.Rules.{rules}
+use Rattle.refuse_tables.proofs.Laws.Key.{limit_head, limit_capture, limit_past}
 use Rattle.refuse_keys.proofs.key_limit.Goals as goal
 
 pub returns-then-w-lt12 : goal.returns-then-w-lt12

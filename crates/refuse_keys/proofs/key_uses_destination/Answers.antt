@@ -1,5 +1,4 @@
-use Rattle.refuse_tables.specs.Laws.KeyUse.{key_create, key_function, destination_other}
-use borrow.Author.Rules.{rules}
+use Rattle.refuse_tables.proofs.Laws.KeyUse.{key_create, key_function, destination_other}
 use Rattle.refuse_keys.proofs.key_uses_destination.Goals as goal
 
 pub returns-then-code-eq9 : goal.returns-then-code-eq9

@@ -1,4 +1,4 @@
-use Rattle.refuse_tables.specs.Laws.KeyUse.{key_from, key_assign, key_assign_primitive, source_none}
+use Rattle.refuse_tables.proofs.Laws.KeyUse.{key_from, key_assign, key_assign_primitive, source_none}
 use Rattle.refuse_keys.proofs.key_uses_source.Goals as goal
 
 pub returns-then-code-eq10 : goal.returns-then-code-eq10

@@ -1,12 +1,7 @@
-use borrow.Author.Rules.{rules}
-use mathlib.Core.Path.{◌≡◌, refl}
-use Prim.Native.Nat.{◌-◌, ◌≤◌}
+use mathlib.Core.Path.{refl}
 use native.Mathlib.Omega.{arith}
-use Rattle.lent_layout.specs.Layout as Layout
-use Rattle.refuse_words.specs.Classes.{words_below}
-use Rattle.refuse_words.specs.Laws.Class.{words_none, words_more, words_end}
-use Rattle.refuse_tables.specs.Laws.Key.{no_key_is}
-use mathlib.Core.Option.{none}
+use Rattle.refuse_words.proofs.Laws.Class.{words_none, words_more, words_end}
+use Rattle.refuse_tables.proofs.Laws.Key.{no_key_is}
 use Rattle.refuse_keys.proofs.no_key_class.Goals as goal
 
 pub loop-w-init : goal.loop-w-init

@@ -1,4 +1,4 @@
-use Rattle.refuse_tables.specs.Laws.Key.{part_used, part_unused}
+use Rattle.refuse_tables.proofs.Laws.Key.{part_used, part_unused}
 use Rattle.refuse_keys.proofs.part_lacks.Goals as goal
 
 pub returns-then-u-eq1 : goal.returns-then-u-eq1

@@ -1,5 +1,4 @@
-use Rattle.refuse_order.specs.Laws.Order.{two_less, two_more, two_same}
-use borrow.Author.Rules.{rules}
+use Rattle.refuse_order.proofs.Laws.Order.{two_less, two_more, two_same}
 use Rattle.refuse_order.proofs.compare_records.Goals as goal
 
 pub returns-in-Less : goal.returns-in-Less

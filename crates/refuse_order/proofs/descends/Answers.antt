@@ -2,8 +2,7 @@ use Rattle.lent_context.specs.Lent.{interned_key}
 use Rattle.lent_layout.specs.Layout as Layout
 use Rattle.lent_order.specs.Order.{order_at}
 use native.Mathlib.Omega.{arith}
-use Rattle.refuse_order.specs.Laws.Order.{last_place, next_place}
-use borrow.Author.Rules.{rules}
+use Rattle.refuse_order.proofs.Laws.Order.{last_place, next_place}
 use Rattle.refuse_order.proofs.descends.Goals as goal
 
 pub returns-then-n-eq0 : goal.returns-then-n-eq0

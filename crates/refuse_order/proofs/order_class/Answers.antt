@@ -1,5 +1,4 @@
-use Rattle.refuse_order.specs.Laws.Order.{order_is}
-use borrow.Author.Rules.{rules}
+use Rattle.refuse_order.proofs.Laws.Order.{order_is}
 use Rattle.refuse_order.proofs.order_class.Goals as goal
 
 pub returns : goal.returns

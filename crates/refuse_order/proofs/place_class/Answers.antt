@@ -1,6 +1,5 @@
 use Prim.Native.Nat.{◌+◌}
-use Rattle.refuse_order.specs.Laws.Order.{place_is, limit_next}
-use borrow.Author.Rules.{rules}
+use Rattle.refuse_order.proofs.Laws.Order.{place_is, limit_next}
 use Rattle.refuse_order.proofs.place_class.Goals as goal
 
 pub returns : goal.returns

@@ -1,5 +1,4 @@
-use Rattle.refuse_records.specs.Laws.Accepting.{cached_zero, cached_none, cached_many, cached_counted}
-use borrow.Author.Rules.{rules}
+use Rattle.refuse_records.proofs.Laws.Accepting.{cached_zero, cached_none, cached_many, cached_counted}
 use Rattle.refuse_records.proofs.cached_class.Goals as goal
 
 pub returns-then-v-eq0 : goal.returns-then-v-eq0

@@ -1,5 +1,4 @@
-use Rattle.refuse_records.specs.Laws.Accepting.{diagnostic_wrong, diagnostic_right}
-use borrow.Author.Rules.{rules}
+use Rattle.refuse_records.proofs.Laws.Accepting.{diagnostic_wrong, diagnostic_right}
 use Rattle.refuse_records.proofs.diagnostic_class.Goals as goal
 
 pub returns-then-class-ne0 : goal.returns-then-class-ne0

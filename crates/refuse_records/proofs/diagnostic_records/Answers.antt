@@ -1,9 +1,5 @@
-use borrow.Author.Rules.{rules}
-use mathlib.Core.Path.{◌≡◌}
-use Prim.Native.Nat.{◌-◌, ◌≤◌}
 use native.Mathlib.Omega.{arith}
-use Rattle.refuse_words.specs.Classes.{lowest_below}
-use Rattle.refuse_words.specs.Laws.Class.{lowest_none, lowest_more, lowest_end}
+use Rattle.refuse_words.proofs.Laws.Class.{lowest_none, lowest_more, lowest_end}
 use Rattle.refuse_records.specs.Accepting.{diagnostic_class}
 use Rattle.refuse_records.proofs.diagnostic_records.Goals as goal
 

@@ -1,5 +1,4 @@
-use Rattle.refuse_records.specs.Laws.Accepting.{interned_is}
-use borrow.Author.Rules.{rules}
+use Rattle.refuse_records.proofs.Laws.Accepting.{interned_is}
 use Rattle.refuse_records.proofs.interned_class.Goals as goal
 
 pub returns : goal.returns

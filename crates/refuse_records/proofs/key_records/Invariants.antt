@@ -1,9 +1,6 @@
-use borrow.Author.Rules.{rules}
 use mathlib.Core.Path.{◌≡◌}
 use Prim.Native.Nat.{◌-◌, ◌≤◌}
-use native.Mathlib.Omega.{arith}
 use Rattle.refuse_words.specs.Classes.{lowest_below}
-use Rattle.refuse_words.specs.Laws.Class.{lowest_none, lowest_more, lowest_end}
 use Rattle.refuse_records.specs.Accepting.{cached_class}
 use Rattle.refuse_records.proofs.key_records.Given as goal
 

@@ -1,6 +1,5 @@
 -- `refuse_records::too_many_captures` meets its contract: one law for each of its two ways. Assumes nothing.
-use Rattle.refuse_records.specs.Laws.Accepting.{many_other, many_counted}
-use borrow.Author.Rules.{rules}
+use Rattle.refuse_records.proofs.Laws.Accepting.{many_other, many_counted}
 use Rattle.refuse_records.proofs.too_many_captures.Goals as goal
 
 pub returns-then-field-ne13 : goal.returns-then-field-ne13

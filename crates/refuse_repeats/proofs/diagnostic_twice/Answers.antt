@@ -1,5 +1,4 @@
-use Rattle.refuse_repeats.specs.Laws.Diagnostic.{diagnostic_new, diagnostic_other, diagnostic_same}
-use borrow.Author.Rules.{rules}
+use Rattle.refuse_repeats.proofs.Laws.Diagnostic.{diagnostic_new, diagnostic_other, diagnostic_same}
 use Rattle.refuse_repeats.proofs.diagnostic_twice.Goals as goal
 
 pub returns-then-identity-m : goal.returns-then-identity-m

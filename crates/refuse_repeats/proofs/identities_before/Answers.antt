@@ -1,10 +1,6 @@
-use borrow.Author.Rules.{rules}
-use mathlib.Core.Path.{◌≡◌, refl, ◌∙◌}
-use Prim.Native.Nat.{max, ◌-◌}
-use Rattle.lent_context.specs.Lent.{diagnostics_in}
-use Rattle.def_transfer.specs.Pure.{identities}
-use Rattle.lent_diagnostics.specs.Laws.Diagnostic.{identities_more}
-use Rattle.refuse_repeats.specs.Laws.Diagnostic.{identities_end}
+use mathlib.Core.Path.{refl, ◌∙◌}
+use Rattle.lent_diagnostics.proofs.Laws.Diagnostic.{identities_more}
+use Rattle.refuse_repeats.proofs.Laws.Diagnostic.{identities_end}
 use Rattle.refuse_repeats.proofs.identities_before.Goals as goal
 
 pub loop-k-init : goal.loop-k-init

@@ -1,10 +1,7 @@
-use borrow.Author.Rules.{rules}
-use mathlib.Core.Path.{◌≡◌, refl, ◌∙◌}
+use mathlib.Core.Path.{◌≡◌}
 use Prim.Native.Nat.{max, ◌-◌}
 use Rattle.lent_context.specs.Lent.{diagnostics_in}
 use Rattle.def_transfer.specs.Pure.{identities}
-use Rattle.lent_diagnostics.specs.Laws.Diagnostic.{identities_more}
-use Rattle.refuse_repeats.specs.Laws.Diagnostic.{identities_end}
 use Rattle.refuse_repeats.proofs.identities_before.Given as goal
 
 abbrev pub invariant-loop-k : goal.invariant-loop-k

@@ -1,10 +1,7 @@
-use borrow.Author.Rules.{rules}
-use mathlib.Core.Path.{◌≡◌, refl, ◌∙◌}
+use mathlib.Core.Path.{◌≡◌}
 use Prim.Native.Nat.{◌-◌}
 use Rattle.lent_context.specs.Lent.{diagnostics_in}
 use Rattle.def_transfer.specs.Pure.{find_identity}
-use Rattle.lent_diagnostics.specs.Laws.Diagnostic.{identity_passed}
-use Rattle.refuse_repeats.specs.Laws.Diagnostic.{identity_found, identity_nowhere}
 use Rattle.refuse_repeats.proofs.identity_before.Given as goal
 
 abbrev pub invariant-loop-k : goal.invariant-loop-k

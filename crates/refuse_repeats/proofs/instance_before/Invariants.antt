@@ -1,10 +1,7 @@
-use borrow.Author.Rules.{rules}
-use mathlib.Core.Path.{◌≡◌, refl, ◌∙◌}
+use mathlib.Core.Path.{◌≡◌}
 use Prim.Native.Nat.{◌-◌}
 use Rattle.lent_context.specs.Lent.{diagnostics_in}
 use Rattle.def_transfer.specs.Pure.{find_instance}
-use Rattle.lent_diagnostics.specs.Laws.Diagnostic.{instance_passed}
-use Rattle.refuse_repeats.specs.Laws.Diagnostic.{instance_found, instance_nowhere}
 use Rattle.refuse_repeats.proofs.instance_before.Given as goal
 
 abbrev pub invariant-loop-k : goal.invariant-loop-k

@@ -1,12 +1,10 @@
 -- `refuse_rows::row_in_use` meets its contract. The loop's invariant: each word passed is 0. The measure is the words that are left. Assumes nothing.
-use mathlib.Core.Path.{◌≡◌, sym, ap, ◌∙◌}
+use mathlib.Core.Path.{sym, ap, ◌∙◌}
 use mathlib.Core.Bool.{false, not}
-use borrow.Author.Rules.{rules}
 use native.Mathlib.Omega.{arith}
-use Prim.Native.Nat.{ℕ, ◌<◌, ◌-◌}
 use borrow.Author.Count.{below_more, below_none}
 use lib.Dec.{eqb}
-use Rattle.base_tests.specs.Laws.Below.{any_yes, any_no}
+use Rattle.base_tests.proofs.Laws.Below.{any_yes, any_no}
 use borrow.Author.Tests.{ne_eqb, eq-eqb}
 use Rattle.lent_sets.specs.Rows.{row_word}
 use Rattle.refuse_entries.specs.Words.{row_in_use}

@@ -1,14 +1,8 @@
-use mathlib.Core.Path.{◌≡◌, sym, ap, ◌∙◌}
+use mathlib.Core.Path.{◌≡◌}
 use mathlib.Core.Bool.{false, not}
-use borrow.Author.Rules.{rules}
-use native.Mathlib.Omega.{arith}
 use Prim.Native.Nat.{ℕ, ◌<◌, ◌-◌}
-use borrow.Author.Count.{below_more, below_none}
 use lib.Dec.{eqb}
-use Rattle.base_tests.specs.Laws.Below.{any_yes, any_no}
-use borrow.Author.Tests.{ne_eqb, eq-eqb}
 use Rattle.lent_sets.specs.Rows.{row_word}
-use Rattle.refuse_entries.specs.Words.{row_in_use}
 use Rattle.refuse_rows.proofs.row_in_use.Given as goal
 
 abbrev pub invariant-loop-w : goal.invariant-loop-w

@@ -1,7 +1,6 @@
 -- `refuse_rows::row_unfit` meets its contract: defined or not. Assumes nothing.
 use mathlib.Core.Path.{sym, ◌∙◌}
-use Rattle.refuse_entries.specs.Laws.Row.{unfit_defined, unfit_undefined}
-use borrow.Author.Rules.{rules}
+use Rattle.refuse_entries.proofs.Laws.Row.{unfit_defined, unfit_undefined}
 use Rattle.refuse_rows.proofs.row_unfit.Goals as goal
 
 pub returns-then-is_defined : goal.returns-then-is_defined

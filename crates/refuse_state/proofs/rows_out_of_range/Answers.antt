@@ -1,11 +1,9 @@
 -- `refuse_state::rows_out_of_range` meets its contract. The loop's invariant: no row passed is out of range. The measure is the rows that are left. Assumes nothing.
-use mathlib.Core.Path.{◌≡◌, sym, ◌∙◌}
+use mathlib.Core.Path.{sym, ◌∙◌}
 use mathlib.Core.Bool.{false}
-use borrow.Author.Rules.{rules}
 use native.Mathlib.Omega.{arith}
-use Prim.Native.Nat.{ℕ, ◌<◌, ◌-◌}
 use borrow.Author.Count.{below_more, below_none}
-use Rattle.base_tests.specs.Laws.Below.{any_yes, any_no}
+use Rattle.base_tests.proofs.Laws.Below.{any_yes, any_no}
 use Rattle.refuse_entries.specs.Words.{row_out_of_range, rows_out_of_range}
 use Rattle.refuse_state.proofs.rows_out_of_range.Goals as goal
 

@@ -1,11 +1,7 @@
-use mathlib.Core.Path.{◌≡◌, sym, ◌∙◌}
+use mathlib.Core.Path.{◌≡◌}
 use mathlib.Core.Bool.{false}
-use borrow.Author.Rules.{rules}
-use native.Mathlib.Omega.{arith}
 use Prim.Native.Nat.{ℕ, ◌<◌, ◌-◌}
-use borrow.Author.Count.{below_more, below_none}
-use Rattle.base_tests.specs.Laws.Below.{any_yes, any_no}
-use Rattle.refuse_entries.specs.Words.{row_out_of_range, rows_out_of_range}
+use Rattle.refuse_entries.specs.Words.{row_out_of_range}
 use Rattle.refuse_state.proofs.rows_out_of_range.Given as goal
 
 abbrev pub invariant-loop-i : goal.invariant-loop-i

@@ -1,7 +1,6 @@
 -- `refuse_state::state_out_of_range` meets its contract: the ways through it, a law of `StateLaws` each. Assumes nothing.
 use mathlib.Core.Path.{sym, ◌∙◌}
-use Rattle.refuse_entries.specs.Laws.State.{out_next, out_access, out_values, out_rows}
-use borrow.Author.Rules.{rules}
+use Rattle.refuse_entries.proofs.Laws.State.{out_next, out_access, out_values, out_rows}
 use Rattle.refuse_state.proofs.state_out_of_range.Goals as goal
 
 pub returns-then-next_out_of_range : goal.returns-then-next_out_of_range

@@ -1,8 +1,7 @@
 -- `refuse_state::state_refusal` meets its contract: the lowest class first; a count of identifiers fits, since the lengths are right. Assumes nothing.
 use mathlib.Core.Path.{sym, ◌∙◌}
 use native.Mathlib.Omega.{arith}
-use Rattle.refuse_entries.specs.Laws.State.{lengths_fit, refused_1, refused_3, refused_4, refused_0}
-use borrow.Author.Rules.{rules}
+use Rattle.refuse_entries.proofs.Laws.State.{lengths_fit, refused_1, refused_3, refused_4, refused_0}
 use Rattle.refuse_state.proofs.state_refusal.Goals as goal
 
 pub returns-then-wrong_lengths : goal.returns-then-wrong_lengths

@@ -1,7 +1,6 @@
 -- `refuse_state::state_unfit` meets its contract: the ways through it, a law of `StateLaws` each. Assumes nothing.
 use mathlib.Core.Path.{sym, ◌∙◌}
-use Rattle.refuse_entries.specs.Laws.State.{unfit_values, unfit_rows}
-use borrow.Author.Rules.{rules}
+use Rattle.refuse_entries.proofs.Laws.State.{unfit_values, unfit_rows}
 use Rattle.refuse_state.proofs.state_unfit.Goals as goal
 
 pub returns-then-values_unfit : goal.returns-then-values_unfit

@@ -1,12 +1,11 @@
 -- `refuse_state::values_out_of_range` meets its contract. The loop's invariant: no word passed is out of range. The measure is the words that are left. Assumes nothing.
-use mathlib.Core.Path.{◌≡◌, sym, ap, ◌∙◌}
+use mathlib.Core.Path.{sym, ap, ◌∙◌}
 use mathlib.Core.Bool.{false}
-use borrow.Author.Rules.{rules}
 use native.Mathlib.Omega.{arith}
-use Prim.Native.Nat.{ℕ, ◌<◌, ◌-◌}
+use Prim.Native.Nat.{ℕ}
 use borrow.Author.Count.{below_more, below_none}
 use lib.ListN.{get_or}
-use Rattle.base_tests.specs.Laws.Below.{any_yes, any_no}
+use Rattle.base_tests.proofs.Laws.Below.{any_yes, any_no}
 use Rattle.refuse_entries.specs.Words.{word_out_of_range, values_out_of_range}
 use Rattle.refuse_state.proofs.values_out_of_range.Goals as goal
 
@@ -17,16 +16,14 @@ pub returns-then-value_out_of_range : goal.returns-then-value_out_of_range
 unfolding values_out_of_range
 returns-then-value_out_of_range c =
     let a = c.args in
-    let l = c.loop-v in
-    let e = sym (c.value_out_of_range.ensures ∙ ap (word_out_of_range a.n l.v) (c.get64.ensures ∙ ap (λ (k : ℕ). get_or a.values.now k 0) c.wide32.ensures)) in
-    sym (any_yes 1024 (λ k. word_out_of_range a.n k (get_or a.values.now k 0)) l.v (omega arith) (e ∙ c.if-value_out_of_range.true))
+    let e = sym (c.value_out_of_range.ensures ∙ ap (word_out_of_range a.n c.loop-v.v) (c.get64.ensures ∙ ap (λ (k : ℕ). get_or a.values.now k 0) c.wide32.ensures)) in
+    sym (any_yes 1024 (λ k. word_out_of_range a.n k (get_or a.values.now k 0)) c.loop-v.v (omega arith) (e ∙ c.if-value_out_of_range.true))
 
 pub loop-v-preserved : goal.loop-v-preserved
 loop-v-preserved c =
     let a = c.args in
-    let l = c.loop-v in
-    let e = sym (c.value_out_of_range.ensures ∙ ap (word_out_of_range a.n l.v) (c.get64.ensures ∙ ap (λ (k : ℕ). get_or a.values.now k 0) c.wide32.ensures)) in
-    below_more _ _ l.invariant (e ∙ c.if-value_out_of_range.false)
+    let e = sym (c.value_out_of_range.ensures ∙ ap (word_out_of_range a.n c.loop-v.v) (c.get64.ensures ∙ ap (λ (k : ℕ). get_or a.values.now k 0) c.wide32.ensures)) in
+    below_more _ _ c.loop-v.invariant (e ∙ c.if-value_out_of_range.false)
 
 pub returns : goal.returns
 unfolding values_out_of_range

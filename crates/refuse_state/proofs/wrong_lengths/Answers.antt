@@ -1,6 +1,6 @@
 -- `refuse_state::wrong_lengths` meets its contract: one length after the other. Assumes nothing.
 use mathlib.Core.Path.{sym}
-use Rattle.refuse_entries.specs.Laws.State.{length_values, length_rows, length_most}
+use Rattle.refuse_entries.proofs.Laws.State.{length_values, length_rows, length_most}
 use Rattle.refuse_state.proofs.wrong_lengths.Goals as goal
 
 pub returns-then-values-ne1024 : goal.returns-then-values-ne1024

@@ -1,10 +1,6 @@
-use borrow.Author.Rules.{rules}
-use mathlib.Core.Path.{◌≡◌}
-use Prim.Native.Nat.{◌-◌, ◌≤◌}
 use native.Mathlib.Omega.{arith}
-use Rattle.lent_layout.specs.Layout as Layout
-use Rattle.refuse_words.specs.Classes.{words_below, run_limit}
-use Rattle.refuse_words.specs.Laws.Class.{words_none, words_more, words_end}
+use Rattle.refuse_words.specs.Classes.{run_limit}
+use Rattle.refuse_words.proofs.Laws.Class.{words_none, words_more, words_end}
 use Rattle.refuse_tables.proofs.context_words.Goals as goal
 
 pub loop-w-init : goal.loop-w-init

@@ -1,5 +1,4 @@
-use Rattle.refuse_tables.specs.Laws.Table.{diagnostic_identity, diagnostic_identifier, diagnostic_case, diagnostic_sentence, diagnostic_silent, diagnostic_name, diagnostic_spans, diagnostic_past, from_five}
-use borrow.Author.Rules.{rules}
+use Rattle.refuse_tables.proofs.Laws.Table.{diagnostic_identity, diagnostic_identifier, diagnostic_case, diagnostic_sentence, diagnostic_silent, diagnostic_name, diagnostic_spans, diagnostic_past, from_five}
 use Rattle.refuse_tables.proofs.diagnostic_limit.Goals as goal
 
 pub returns-then-w-eq0 : goal.returns-then-w-eq0

@@ -1,5 +1,4 @@
-use Rattle.refuse_tables.specs.Laws.Table.{function_is}
-use borrow.Author.Rules.{rules}
+use Rattle.refuse_tables.proofs.Laws.Table.{function_is}
 use Rattle.refuse_tables.proofs.function_class.Goals as goal
 
 pub returns : goal.returns

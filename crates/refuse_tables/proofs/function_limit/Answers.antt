@@ -1,5 +1,4 @@
-use Rattle.refuse_tables.specs.Laws.Table.{function_place, function_flags_is, function_count_is}
-use borrow.Author.Rules.{rules}
+use Rattle.refuse_tables.proofs.Laws.Table.{function_place, function_flags_is, function_count_is}
 use Rattle.refuse_tables.proofs.function_limit.Goals as goal
 
 pub returns-then-w-ge3 : goal.returns-then-w-ge3

@@ -1,10 +1,7 @@
-use borrow.Author.Rules.{rules}
 use mathlib.Core.Path.{◌≡◌}
 use Prim.Native.Nat.{◌-◌, ◌≤◌}
-use native.Mathlib.Omega.{arith}
 use Rattle.lent_layout.specs.Layout as Layout
 use Rattle.refuse_words.specs.Classes.{words_below}
-use Rattle.refuse_words.specs.Laws.Class.{words_none, words_more, words_end}
 use Rattle.refuse_tables.specs.TableClasses.{function_limit}
 use Rattle.refuse_tables.proofs.function_words.Given as goal
 

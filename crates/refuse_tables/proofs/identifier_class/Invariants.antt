@@ -1,12 +1,8 @@
-use borrow.Author.Rules.{rules}
 use mathlib.Core.Path.{◌≡◌}
 use Prim.Native.Nat.{◌-◌, ◌≤◌}
-use native.Mathlib.Omega.{arith}
 use Rattle.lent_layout.specs.Layout as Layout
 use Rattle.refuse_words.specs.Classes.{words_below}
-use Rattle.refuse_words.specs.Laws.Class.{words_none, words_more, words_end}
 use Rattle.refuse_tables.specs.TableClasses.{identifier_limit}
-use Rattle.refuse_tables.specs.Laws.Table.{identifier_is}
 use Rattle.refuse_tables.proofs.identifier_class.Given as goal
 
 abbrev pub invariant-loop-w : goal.invariant-loop-w

@@ -1,5 +1,4 @@
-use Rattle.refuse_tables.specs.Laws.Table.{identifier_flags_is, identifier_name_is, identifier_access, identifier_past}
-use borrow.Author.Rules.{rules}
+use Rattle.refuse_tables.proofs.Laws.Table.{identifier_flags_is, identifier_name_is, identifier_access, identifier_past}
 use Rattle.refuse_tables.proofs.identifier_limit.Goals as goal
 
 pub returns-then-w-eq0 : goal.returns-then-w-eq0

@@ -1,4 +1,4 @@
-use Rattle.refuse_tables.specs.Laws.Table.{label_case, label_start, label_end, label_none}
+use Rattle.refuse_tables.proofs.Laws.Table.{label_case, label_start, label_end, label_none}
 use Rattle.refuse_tables.proofs.label_class.Goals as goal
 
 pub returns-then-case-ne0 : goal.returns-then-case-ne0

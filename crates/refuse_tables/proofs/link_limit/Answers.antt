@@ -1,5 +1,4 @@
-use Rattle.refuse_tables.specs.Laws.Table.{link_zero, link_flag, link_function, link_past}
-use borrow.Author.Rules.{rules}
+use Rattle.refuse_tables.proofs.Laws.Table.{link_zero, link_flag, link_function, link_past}
 use Rattle.refuse_tables.proofs.link_limit.Goals as goal
 
 pub returns-then-v-eq0 : goal.returns-then-v-eq0

@@ -1,5 +1,4 @@
-use Rattle.refuse_tables.specs.Laws.Table.{message_is}
-use borrow.Author.Rules.{rules}
+use Rattle.refuse_tables.proofs.Laws.Table.{message_is}
 use Rattle.refuse_tables.proofs.message_class.Goals as goal
 
 pub returns : goal.returns

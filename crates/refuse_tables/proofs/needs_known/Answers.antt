@@ -1,4 +1,4 @@
-use Rattle.refuse_tables.specs.Laws.Table.{known_yes, known_tracked, known_inside}
+use Rattle.refuse_tables.proofs.Laws.Table.{known_yes, known_tracked, known_inside}
 use Rattle.refuse_tables.proofs.needs_known.Goals as goal
 
 pub returns-then-flags-eq1 : goal.returns-then-flags-eq1

@@ -1,4 +1,4 @@
-use Rattle.refuse_tables.specs.Laws.Table.{places_context, places_inside, places_fit}
+use Rattle.refuse_tables.proofs.Laws.Table.{places_context, places_inside, places_fit}
 use Rattle.refuse_tables.proofs.places_class.Goals as goal
 
 pub returns-then-n-gt16 : goal.returns-then-n-gt16

@@ -1,5 +1,4 @@
-use Rattle.refuse_words.specs.Laws.Stray.{lent_none, lent_all, lent_some}
-use borrow.Author.Rules.{rules}
+use Rattle.refuse_words.proofs.Laws.Stray.{lent_none, lent_all, lent_some}
 use Rattle.refuse_words.proofs.lent_from.Goals as goal
 
 pub returns-then-xs-from : goal.returns-then-xs-from

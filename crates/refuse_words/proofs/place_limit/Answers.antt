@@ -1,5 +1,4 @@
-use Rattle.refuse_words.specs.Laws.Class.{place_identifier_is, place_effect_is, place_reactive_is, place_span, place_past}
-use borrow.Author.Rules.{rules}
+use Rattle.refuse_words.proofs.Laws.Class.{place_identifier_is, place_effect_is, place_reactive_is, place_span, place_past}
 use Rattle.refuse_words.proofs.place_limit.Goals as goal
 
 pub returns-then-w-eq0 : goal.returns-then-w-eq0

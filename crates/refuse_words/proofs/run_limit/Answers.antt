@@ -1,5 +1,4 @@
-use Rattle.refuse_words.specs.Laws.Class.{run_used, run_past}
-use borrow.Author.Rules.{rules}
+use Rattle.refuse_words.proofs.Laws.Class.{run_used, run_past}
 use Rattle.refuse_words.proofs.run_limit.Goals as goal
 
 pub returns-then-w-wide32 : goal.returns-then-w-wide32

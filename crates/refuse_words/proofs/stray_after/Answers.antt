@@ -1,7 +1,6 @@
 use native.Mathlib.Omega.{arith}
-use Rattle.lent_tables.specs.Laws.Word.{record_fits}
-use Rattle.refuse_words.specs.Laws.Stray.{after_none, after_some, left_fits}
-use borrow.Author.Rules.{rules}
+use Rattle.lent_tables.proofs.Laws.Word.{record_fits}
+use Rattle.refuse_words.proofs.Laws.Stray.{after_none, after_some, left_fits}
 use Rattle.refuse_words.proofs.stray_after.Goals as goal
 
 pub returns-then-n-wide32 : goal.returns-then-n-wide32

@@ -1,9 +1,6 @@
-use borrow.Author.Rules.{rules}
-use mathlib.Core.Path.{◌≡◌, ◌∙◌, refl}
-use Prim.Native.Nat.{◌-◌, ◌≤◌}
+use mathlib.Core.Path.{◌∙◌, refl}
 use native.Mathlib.Omega.{arith}
-use Rattle.refuse_words.specs.Classes.{stray_from}
-use Rattle.refuse_words.specs.Laws.Stray.{lent_in, bit_class, bit_none, bit_some, stray_start, stray_more, stray_end}
+use Rattle.refuse_words.proofs.Laws.Stray.{lent_in, bit_none, bit_some, stray_start, stray_more, stray_end}
 use Rattle.refuse_words.proofs.stray_from.Goals as goal
 
 pub loop-k-init : goal.loop-k-init

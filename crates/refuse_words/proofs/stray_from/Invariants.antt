@@ -1,9 +1,7 @@
-use borrow.Author.Rules.{rules}
-use mathlib.Core.Path.{◌≡◌, ◌∙◌, refl}
+use mathlib.Core.Path.{◌≡◌}
 use Prim.Native.Nat.{◌-◌, ◌≤◌}
-use native.Mathlib.Omega.{arith}
 use Rattle.refuse_words.specs.Classes.{stray_from}
-use Rattle.refuse_words.specs.Laws.Stray.{lent_in, bit_class, bit_none, bit_some, stray_start, stray_more, stray_end}
+use Rattle.refuse_words.proofs.Laws.Stray.{bit_class}
 use Rattle.refuse_words.proofs.stray_from.Given as goal
 
 abbrev pub invariant-loop-k : goal.invariant-loop-k

@@ -1,5 +1,4 @@
-use Rattle.refuse_words.specs.Laws.Class.{used_yes}
-use borrow.Author.Rules.{rules}
+use Rattle.refuse_words.proofs.Laws.Class.{used_yes}
 use Rattle.refuse_words.proofs.used_if.Goals as goal
 
 pub returns : goal.returns

@@ -1,5 +1,4 @@
-use Rattle.refuse_words.specs.Laws.Class.{word_zero, word_stray, word_below, word_past}
-use borrow.Author.Rules.{rules}
+use Rattle.refuse_words.proofs.Laws.Class.{word_zero, word_stray, word_below, word_past}
 use Rattle.refuse_words.proofs.word_class.Goals as goal
 
 pub returns-then-x-eq0 : goal.returns-then-x-eq0

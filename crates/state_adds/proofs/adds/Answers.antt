@@ -1,6 +1,5 @@
 -- `state_adds::adds` meets its contract: some value, or some set. Assumes nothing.
-use Rattle.state_adds.specs.Laws.Code.{adds_by_values, adds_by_sets}
-use borrow.Author.Rules.{rules}
+use Rattle.state_adds.proofs.Laws.Code.{adds_by_values, adds_by_sets}
 use Rattle.state_adds.proofs.adds.Goals as goal
 
 pub returns-then-adds_values : goal.returns-then-adds_values

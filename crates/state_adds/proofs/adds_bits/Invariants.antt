@@ -1,8 +1,5 @@
-use borrow.Author.Rules.{rules}
-use native.Mathlib.Omega.{arith}
 use Prim.Native.Nat.{ℕ, ◌<◌, ◌-◌}
-use borrow.Author.Count.{below_more, below_none}
-use Rattle.state_adds.specs.Laws.Code.{Covers, bits_same, bits_new, bits_none}
+use Rattle.state_adds.proofs.Laws.Code.{Covers}
 use Rattle.state_adds.proofs.adds_bits.Given as goal
 
 abbrev pub invariant-loop-w : goal.invariant-loop-w

@@ -1,6 +1,5 @@
 -- `state_adds::adds_set` meets its contract: a row that is defined adds what its bits add, one that is not adds nothing. Assumes nothing.
-use Rattle.state_adds.specs.Laws.Code.{set_some, set_none}
-use borrow.Author.Rules.{rules}
+use Rattle.state_adds.proofs.Laws.Code.{set_some, set_none}
 use Rattle.state_adds.proofs.adds_set.Goals as goal
 
 pub returns-then-is_defined : goal.returns-then-is_defined

@@ -1,8 +1,6 @@
-use borrow.Author.Rules.{rules}
 use mathlib.Core.Path.{◌≡◌}
 use Rattle.base_tests.specs.Tests.{any_below}
 use Rattle.state_adds.specs.Lists.{set_adds}
-use Rattle.state_adds.specs.Laws.Code.{any_found, any_next, any_end, rows_cut}
 use Rattle.state_adds.proofs.adds_sets.Given as goal
 
 abbrev pub invariant-loop-i : goal.invariant-loop-i

@@ -1,6 +1,5 @@
 -- `state_adds::adds_value` meets its contract, by the entries that it reads: what is absent adds nothing, and two values are compared. Assumes nothing.
-use Rattle.state_adds.specs.Laws.Code.{adds_absent, adds_new, adds_both}
-use borrow.Author.Rules.{rules}
+use Rattle.state_adds.proofs.Laws.Code.{adds_absent, adds_new, adds_both}
 use Rattle.state_adds.proofs.adds_value.Goals as goal
 
 pub returns-in-Absent : goal.returns-in-Absent
@@ -8,17 +7,8 @@ returns-in-Absent c = adds_absent _ _ _ c.in-Absent.is c.value_at.ensures
 
 pub returns-in-Absent-value_at : goal.returns-in-Absent-value_at
 returns-in-Absent-value_at c =
-    let enum-told2 = c.enum_told-in-Absent-value_at-1 in
-    let value-at2 = c.value_at-in-Present in
-    let b = c.b-1 in
-    let value-at = c.value_at in
-    adds_new _ _ _ _ _ b.given.1 value-at.ensures enum-told2.given.1 value-at2.ensures
+    adds_new _ _ _ _ _ c.in-Present.is c.value_at.ensures c.in-Absent-value_at.is c.value_at-in-Present.ensures
 
 pub returns-in-Present-value_at : goal.returns-in-Present-value_at
 returns-in-Present-value_at c =
-    let above = c.above in
-    let a = c.a-1 in
-    let value-at2 = c.value_at-in-Present in
-    let b = c.b-1 in
-    let value-at = c.value_at in
-    adds_both _ _ _ _ _ _ _ b.given.1 value-at.ensures a.given.1 value-at2.ensures above.ensures
+    adds_both _ _ _ _ _ _ _ c.in-Present.is c.value_at.ensures c.in-Present-value_at.is c.value_at-in-Present.ensures c.above.ensures

@@ -1,10 +1,7 @@
 -- `state_adds::adds_values` meets its contract. The loop's invariant: some value is added to exactly if one below `v` is.
 -- The measure is `v`. Assumes nothing.
-use borrow.Author.Rules.{rules}
-use mathlib.Core.Path.{◌≡◌, refl}
-use Rattle.base_tests.specs.Tests.{any_below}
-use Rattle.state_adds.specs.Lists.{value_adds}
-use Rattle.state_adds.specs.Laws.Code.{any_found, any_next, any_end}
+use mathlib.Core.Path.{refl}
+use Rattle.state_adds.proofs.Laws.Code.{any_found, any_next, any_end}
 use Rattle.state_adds.proofs.adds_values.Goals as goal
 
 pub loop-v-init : goal.loop-v-init
@@ -12,19 +9,11 @@ loop-v-init c = refl
 
 pub returns-then-adds_value : goal.returns-then-adds_value
 returns-then-adds_value c =
-    let if1 = c.if-adds_value in
-    let adds_value_is = c.adds_value in
-    let test = c.loop-v-test in
-    let l = c.loop-v in
-    any_found _ _ _ _ l.invariant test.true adds_value_is.ensures if1.true
+    any_found _ _ _ _ c.loop-v.invariant c.loop-v-test.true c.adds_value.ensures c.if-adds_value.true
 
 pub loop-v-preserved : goal.loop-v-preserved
 loop-v-preserved c =
-    let if1 = c.if-adds_value in
-    let adds_value_is = c.adds_value in
-    let test = c.loop-v-test in
-    let l = c.loop-v in
-    any_next _ _ _ _ l.invariant test.true adds_value_is.ensures if1.false
+    any_next _ _ _ _ c.loop-v.invariant c.loop-v-test.true c.adds_value.ensures c.if-adds_value.false
 
 pub returns : goal.returns
 returns c = any_end _ _ _ c.loop-v.invariant c.loop-v-test.false

@@ -1,8 +1,6 @@
-use borrow.Author.Rules.{rules}
-use mathlib.Core.Path.{◌≡◌, refl}
+use mathlib.Core.Path.{◌≡◌}
 use Rattle.base_tests.specs.Tests.{any_below}
 use Rattle.state_adds.specs.Lists.{value_adds}
-use Rattle.state_adds.specs.Laws.Code.{any_found, any_next, any_end}
 use Rattle.state_adds.proofs.adds_values.Given as goal
 
 abbrev pub invariant-loop-v : goal.invariant-loop-v

@@ -1,6 +1,5 @@
 -- `state_adds::is_above` meets its contract: above or equal is that the other adds nothing. Assumes nothing.
-use Rattle.state_adds.specs.Laws.Code.{above_is}
-use borrow.Author.Rules.{rules}
+use Rattle.state_adds.proofs.Laws.Code.{above_is}
 use Rattle.state_adds.proofs.is_above.Goals as goal
 
 pub returns : goal.returns

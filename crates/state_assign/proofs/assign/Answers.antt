@@ -1,7 +1,4 @@
-use Prim.Native.Nat.{◌-◌}
-use Rattle.lent_sets.specs.Rows.{left}
-use Rattle.state_ops.specs.Laws.List.{assign_defined, assign_undefined}
-use borrow.Author.Rules.{rules}
+use Rattle.state_ops.proofs.Laws.List.{assign_defined, assign_undefined}
 use Rattle.state_assign.proofs.assign.Goals as goal
 
 pub returns-then-is_defined : goal.returns-then-is_defined

@@ -1,5 +1,4 @@
-use Prim.Native.Nat.{◌-◌}
-use Rattle.state_ops.specs.Laws.List.{own_past}
+use Rattle.state_ops.proofs.Laws.List.{own_past}
 use Rattle.state_ops.specs.Lists.{own_sets}
 use borrow.Author.Rules.{rules}
 use Rattle.state_assign.proofs.define_own.Goals as goal

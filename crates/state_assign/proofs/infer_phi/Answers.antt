@@ -1,10 +1,7 @@
 use borrow.Author.Rules.{rules}
-use mathlib.Core.Path.{◌≡◌, refl, ◌∙◌}
-use Prim.Native.Nat.{◌≤◌, ◌-◌}
-use lib.ListN.{length, drop}
-use Rattle.lent_sets.specs.Rows.{left, number}
-use Rattle.state_ops.specs.Laws.List.{phi_step, phi_end, phi_empty, phi_puts}
-use Rattle.state_ops.specs.Lists.{unions}
+use mathlib.Core.Path.{refl, ◌∙◌}
+use Rattle.lent_sets.specs.Rows.{number}
+use Rattle.state_ops.proofs.Laws.List.{phi_step, phi_end, phi_empty, phi_puts}
 use Rattle.state_assign.proofs.infer_phi.Goals as goal
 
 pub loop-k-init : goal.loop-k-init

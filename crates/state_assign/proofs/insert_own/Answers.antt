@@ -1,6 +1,4 @@
-use Prim.Native.Nat.{◌-◌}
-use Rattle.state_ops.specs.Laws.List.{insert_absent, insert_present}
-use borrow.Author.Rules.{rules}
+use Rattle.state_ops.proofs.Laws.List.{insert_absent, insert_present}
 use Rattle.state_assign.proofs.insert_own.Goals as goal
 
 pub returns-in-Absent : goal.returns-in-Absent

@@ -1,7 +1,6 @@
 use mathlib.Core.Path.{refl, sym}
-use Rattle.refuse_entries.specs.Laws.Word.{number_zero, number_other}
+use Rattle.refuse_entries.proofs.Laws.Word.{number_zero, number_other}
 use Rattle.refuse_entries.specs.Words.{identifiers}
-use borrow.Author.Rules.{rules}
 use Rattle.state_calls.proofs.no_number.Goals as goal
 
 pub returns-then-v-eq0 : goal.returns-then-v-eq0

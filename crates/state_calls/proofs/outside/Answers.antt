@@ -1,11 +1,10 @@
 use mathlib.Core.Path.{ap, ◌∙◌}
-use Rattle.base_tests.specs.Laws.Order.{le_not_lt}
+use Rattle.base_tests.proofs.Laws.Order.{le_not_lt}
 use Rattle.state_calls.specs.Calls.{outside}
 use Rattle.refuse_entries.specs.Words.{identifiers}
 use lib.Dec.{leb}
 use lib.ListN.{length}
 use Prim.Native.Nat.{◌/◌}
-use borrow.Author.Rules.{rules}
 use Rattle.state_calls.proofs.outside.Goals as goal
 
 pub returns : goal.returns

@@ -1,5 +1,5 @@
 use mathlib.Core.Bool.{true, false}
-use Rattle.state_calls.specs.Laws.Call.{worst_1, worst_3, worst_out, worst_4, worst_unfit}
+use Rattle.state_calls.proofs.Laws.Call.{worst_1, worst_3, worst_out, worst_4, worst_unfit}
 use Rattle.state_calls.proofs.worst.Goals as goal
 
 pub returns-then-r-eq1 : goal.returns-then-r-eq1

@@ -1,22 +1,16 @@
-use borrow.Author.Rules.{rules}
 use native.Mathlib.Omega.{arith}
-use mathlib.Core.Path.{◌≡◌, refl, sym, ap, ◌∙◌}
-use Prim.Native.Nat.{◌-◌}
+use mathlib.Core.Path.{refl, sym, ap, ◌∙◌}
 use lib.ListN.{length}
-use Rattle.base_tests.specs.Laws.Bool.{not_true, not-false}
-use Rattle.lent_sets.specs.Laws.Row.{walk_start, walk_step}
-use Rattle.lent_sets.specs.Rows.{set_at, left}
-use Rattle.base_sets.specs.Members.{bits_of, values_of}
-use Rattle.state_ops.specs.Laws.List.{At, freeze_none, freeze_start, freeze_next, freeze_end}
-use Rattle.state_ops.specs.Lists.{freeze_all}
-use Rattle.lent_values.specs.Laws.Cell.{put_length}
+use Rattle.lent_sets.proofs.Laws.Row.{walk_start, walk_step}
+use Rattle.state_ops.proofs.Laws.List.{freeze_none, freeze_start, freeze_next, freeze_end}
+use Rattle.lent_values.proofs.Laws.Cell.{put_length}
 use Rattle.state_freeze.proofs.freeze_values.Goals as goal
 
 pub returns-then-not-is_defined : goal.returns-then-not-is_defined
-returns-then-not-is_defined c = freeze_none _ _ _ _ (sym c.is_defined.ensures ∙ not_true _ c.if-not-is_defined.true)
+returns-then-not-is_defined c = freeze_none _ _ _ _ (sym c.is_defined.ensures ∙ c.if-not-is_defined.true)
 
 pub loop-m-init : goal.loop-m-init
-loop-m-init c = let h = sym c.is_defined.ensures ∙ not-false _ c.if-not-is_defined.false in ((walk_start _ _ _ h c.next_member-m.ensures).0, freeze_start _ _ _ _ _ h c.next_member-m.ensures, refl)
+loop-m-init c = let h = sym c.is_defined.ensures ∙ c.if-not-is_defined.false in ((walk_start _ _ _ h c.next_member-m.ensures).0, freeze_start _ _ _ _ _ h c.next_member-m.ensures, refl)
 
 pub overflow_add-m : goal.overflow_add-m
 overflow_add-m c = omega arith

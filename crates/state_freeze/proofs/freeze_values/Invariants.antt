@@ -1,15 +1,10 @@
-use borrow.Author.Rules.{rules}
-use native.Mathlib.Omega.{arith}
-use mathlib.Core.Path.{◌≡◌, refl, sym, ap, ◌∙◌}
+use mathlib.Core.Path.{◌≡◌}
 use Prim.Native.Nat.{◌-◌}
 use lib.ListN.{length}
-use Rattle.base_tests.specs.Laws.Bool.{not_true, not-false}
-use Rattle.lent_sets.specs.Laws.Row.{walk_start, walk_step}
 use Rattle.lent_sets.specs.Rows.{set_at, left}
 use Rattle.base_sets.specs.Members.{bits_of, values_of}
-use Rattle.state_ops.specs.Laws.List.{At, freeze_none, freeze_start, freeze_next, freeze_end}
+use Rattle.state_ops.proofs.Laws.List.{At}
 use Rattle.state_ops.specs.Lists.{freeze_all}
-use Rattle.lent_values.specs.Laws.Cell.{put_length}
 use Rattle.state_freeze.proofs.freeze_values.Given as goal
 
 abbrev pub invariant-loop-m : goal.invariant-loop-m

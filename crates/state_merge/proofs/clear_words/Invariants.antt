@@ -1,11 +1,8 @@
-use borrow.Author.Rules.{rules}
-use native.Mathlib.Omega.{arith}
-use mathlib.Core.Path.{◌≡◌, refl, ◌∙◌}
+use mathlib.Core.Path.{◌≡◌}
 use Prim.Native.Nat.{◌-◌}
 use lib.ListN.{length}
 use Rattle.lent_sets.specs.Rows.{upto}
 use Rattle.state_adds.specs.Lists.{clear_word}
-use Rattle.state_adds.specs.Laws.Code.{loop_start, loop_turn, loop_end, cleared}
 use Rattle.state_merge.proofs.clear_words.Given as goal
 
 abbrev pub invariant-loop-k : goal.invariant-loop-k

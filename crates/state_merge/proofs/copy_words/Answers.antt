@@ -1,12 +1,9 @@
 -- `state_merge::copy_words` meets its contract. The loop's invariant: the turns that are left do to the list what all do to the list at the start.
 -- The measure is the words that are left. Assumes nothing.
-use borrow.Author.Rules.{rules}
-use mathlib.Core.Path.{◌≡◌, refl, ◌∙◌}
-use Prim.Native.Nat.{◌-◌}
+use mathlib.Core.Path.{refl, ◌∙◌}
 use lib.ListN.{length}
-use Rattle.lent_sets.specs.Rows.{upto}
 use Rattle.state_adds.specs.Lists.{copy_word, copy_words}
-use Rattle.state_adds.specs.Laws.Code.{loop_start, loop_turn, loop_end, copied}
+use Rattle.state_adds.proofs.Laws.Code.{loop_start, loop_turn, loop_end, copied}
 use Rattle.state_merge.proofs.copy_words.Goals as goal
 
 pub loop-k-init : goal.loop-k-init
@@ -15,16 +12,10 @@ loop-k-init c = (refl, loop_start _ _ _)
 
 pub loop-k-preserved : goal.loop-k-preserved
 loop-k-preserved c =
-    let set64 = c.set64 in
-    let get64 = c.get64-x in
-    let test = c.loop-k-test in
-    let l = c.loop-k in
     let a = c.args in
-    (set64.auto.0 ∙ l.invariant.0, loop_turn (copy_word a.from.now) (length a.from.now) _ _ _ _ l.invariant.1 test.true (copied _ _ _ _ _ get64.ensures set64.ensures))
+    (c.set64.auto.xs ∙ c.loop-k.invariant.0, loop_turn (copy_word a.from.now) (length a.from.now) _ _ _ _ c.loop-k.invariant.1 c.loop-k-test.true (copied _ _ _ _ _ c.get64-x.ensures c.set64.ensures))
 
 pub returns : goal.returns
 returns c =
-    let test = c.loop-k-test in
-    let l = c.loop-k in
     let a = c.args in
-    loop_end (copy_word a.from.now) (length a.from.now) _ _ _ l.invariant.1 test.false
+    loop_end (copy_word a.from.now) (length a.from.now) _ _ _ c.loop-k.invariant.1 c.loop-k-test.false

@@ -1,10 +1,8 @@
-use borrow.Author.Rules.{rules}
-use mathlib.Core.Path.{◌≡◌, refl, ◌∙◌}
+use mathlib.Core.Path.{◌≡◌}
 use Prim.Native.Nat.{◌-◌}
 use lib.ListN.{length}
 use Rattle.lent_sets.specs.Rows.{upto}
 use Rattle.state_adds.specs.Lists.{copy_word, copy_words}
-use Rattle.state_adds.specs.Laws.Code.{loop_start, loop_turn, loop_end, copied}
 use Rattle.state_merge.proofs.copy_words.Given as goal
 
 abbrev pub invariant-loop-k : goal.invariant-loop-k

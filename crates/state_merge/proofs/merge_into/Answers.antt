@@ -1,6 +1,5 @@
 -- `state_merge::merge_into` meets its contract, by the two ways through it. Assumes nothing.
-use Rattle.state_adds.specs.Laws.Code.{into_some, into_none}
-use borrow.Author.Rules.{rules}
+use Rattle.state_adds.proofs.Laws.Code.{into_some, into_none}
 use Rattle.state_merge.proofs.merge_into.Goals as goal
 
 pub returns-then-adds : goal.returns-then-adds

@@ -1,7 +1,6 @@
 -- `state_merge_calls::is_above` meets its contract, refused or not. Assumes nothing.
-use Rattle.state_pairs.specs.Laws.Promises.{above_promise}
-use Rattle.state_pairs.specs.Laws.MergeCall.{above_refused, above_ends}
-use borrow.Author.Rules.{rules}
+use Rattle.state_pairs.proofs.Laws.Promises.{above_promise}
+use Rattle.state_pairs.proofs.Laws.MergeCall.{above_refused, above_ends}
 use Rattle.state_merge_calls.proofs.is_above.Goals as goal
 
 pub returns-then-refusal-ne0 : goal.returns-then-refusal-ne0

@@ -1,7 +1,6 @@
 -- `state_merge_calls::merge` meets its contract, refused or not. Assumes nothing.
-use Rattle.state_pairs.specs.Laws.Promises.{merge_promise}
-use Rattle.state_pairs.specs.Laws.MergeCall.{merge_refused, merge_ends}
-use borrow.Author.Rules.{rules}
+use Rattle.state_pairs.proofs.Laws.Promises.{merge_promise}
+use Rattle.state_pairs.proofs.Laws.MergeCall.{merge_refused, merge_ends}
 use Rattle.state_merge_calls.proofs.merge.Goals as goal
 
 pub returns-then-refusal-ne0 : goal.returns-then-refusal-ne0

@@ -1,7 +1,6 @@
 -- `state_merge_calls::merge_from` meets its contract, refused or not. Assumes nothing.
-use Rattle.state_pairs.specs.Laws.Promises.{from_promise}
-use Rattle.state_pairs.specs.Laws.MergeCall.{from_refused, from_ends}
-use borrow.Author.Rules.{rules}
+use Rattle.state_pairs.proofs.Laws.Promises.{from_promise}
+use Rattle.state_pairs.proofs.Laws.MergeCall.{from_refused, from_ends}
 use Rattle.state_merge_calls.proofs.merge_from.Goals as goal
 
 pub returns-then-refusal-ne0 : goal.returns-then-refusal-ne0

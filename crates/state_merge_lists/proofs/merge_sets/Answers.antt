@@ -1,12 +1,9 @@
 -- `state_merge_lists::merge_sets` meets its contract. The loop's invariant: the turns that are left do to the sets what all do to the sets at the start.
 -- The measure is the rows that are left. Assumes nothing.
-use borrow.Author.Rules.{rules}
-use mathlib.Core.Path.{◌≡◌, refl, ap, ◌∙◌}
-use Prim.Native.Nat.{ℕ, ◌-◌}
-use lib.ListN.{length}
-use Rattle.lent_sets.specs.Rows.{upto}
+use mathlib.Core.Path.{refl, ap, ◌∙◌}
+use Prim.Native.Nat.{ℕ}
 use Rattle.state_adds.specs.Lists.{merge_set, merge_sets}
-use Rattle.state_adds.specs.Laws.Code.{loop_start, loop_turn, loop_end}
+use Rattle.state_adds.proofs.Laws.Code.{loop_start, loop_turn, loop_end}
 use Rattle.state_merge_lists.proofs.merge_sets.Goals as goal
 
 pub loop-i-init : goal.loop-i-init
@@ -15,16 +12,10 @@ loop-i-init c = (refl, loop_start _ _ _)
 
 pub loop-i-preserved : goal.loop-i-preserved
 loop-i-preserved c =
-    let merge-set = c.merge_set in
-    let test = c.loop-i-test in
-    let l = c.loop-i in
     let a = c.args in
-    (merge-set.auto.0 ∙ l.invariant.0, loop_turn (merge_set a.other.now) _ _ _ _ _ l.invariant.1 test.true merge-set.ensures)
+    (c.merge_set.auto.sets ∙ c.loop-i.invariant.0, loop_turn (merge_set a.other.now) _ _ _ _ _ c.loop-i.invariant.1 c.loop-i-test.true c.merge_set.ensures)
 
 pub returns : goal.returns
 returns c =
-    let test = c.loop-i-test in
-    let l = c.loop-i in
-    let row_count = c.row_count-n in
     let a = c.args in
-    loop_end (merge_set a.other.now) _ _ _ _ l.invariant.1 test.false ∙ ap (λ (k : ℕ). merge_sets k a.sets.now a.other.now) row_count.ensures
+    loop_end (merge_set a.other.now) _ _ _ _ c.loop-i.invariant.1 c.loop-i-test.false ∙ ap (λ (k : ℕ). merge_sets k a.sets.now a.other.now) c.row_count-n.ensures

@@ -1,10 +1,8 @@
-use borrow.Author.Rules.{rules}
-use mathlib.Core.Path.{◌≡◌, refl, ap, ◌∙◌}
-use Prim.Native.Nat.{ℕ, ◌-◌}
+use mathlib.Core.Path.{◌≡◌}
+use Prim.Native.Nat.{◌-◌}
 use lib.ListN.{length}
 use Rattle.lent_sets.specs.Rows.{upto}
 use Rattle.state_adds.specs.Lists.{merge_set, merge_sets}
-use Rattle.state_adds.specs.Laws.Code.{loop_start, loop_turn, loop_end}
 use Rattle.state_merge_lists.proofs.merge_sets.Given as goal
 
 abbrev pub invariant-loop-i : goal.invariant-loop-i

@@ -1,12 +1,8 @@
 -- `state_merge_lists::merge_values` meets its contract. The loop's invariant: the turns that are left do to the values what all do to the values at the start.
 -- The measure is the values that are left. Assumes nothing.
-use borrow.Author.Rules.{rules}
-use mathlib.Core.Path.{◌≡◌, refl, ◌∙◌}
-use Prim.Native.Nat.{◌-◌}
-use lib.ListN.{length}
-use Rattle.lent_sets.specs.Rows.{upto}
+use mathlib.Core.Path.{refl, ◌∙◌}
 use Rattle.state_adds.specs.Lists.{merge_value, merge_values}
-use Rattle.state_adds.specs.Laws.Code.{loop_turn, loop_end}
+use Rattle.state_adds.proofs.Laws.Code.{loop_turn, loop_end}
 use Rattle.state_merge_lists.proofs.merge_values.Goals as goal
 
 pub loop-v-init : goal.loop-v-init
@@ -15,11 +11,8 @@ loop-v-init c = (refl, refl)
 
 pub loop-v-preserved : goal.loop-v-preserved
 loop-v-preserved c =
-    let merge-value = c.merge_value in
-    let test = c.loop-v-test in
-    let l = c.loop-v in
     let a = c.args in
-    (merge-value.auto.0 ∙ l.invariant.0, loop_turn (merge_value a.other.now) 1024 _ _ _ _ l.invariant.1 test.true merge-value.ensures)
+    (c.merge_value.auto.values ∙ c.loop-v.invariant.0, loop_turn (merge_value a.other.now) 1024 _ _ _ _ c.loop-v.invariant.1 c.loop-v-test.true c.merge_value.ensures)
 
 pub returns : goal.returns
 returns c = loop_end (merge_value c.args.other.now) 1024 _ _ _ c.loop-v.invariant.1 c.loop-v-test.false

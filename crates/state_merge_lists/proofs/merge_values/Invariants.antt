@@ -1,10 +1,8 @@
-use borrow.Author.Rules.{rules}
-use mathlib.Core.Path.{◌≡◌, refl, ◌∙◌}
+use mathlib.Core.Path.{◌≡◌}
 use Prim.Native.Nat.{◌-◌}
 use lib.ListN.{length}
 use Rattle.lent_sets.specs.Rows.{upto}
 use Rattle.state_adds.specs.Lists.{merge_value, merge_values}
-use Rattle.state_adds.specs.Laws.Code.{loop_turn, loop_end}
 use Rattle.state_merge_lists.proofs.merge_values.Given as goal
 
 abbrev pub invariant-loop-v : goal.invariant-loop-v

@@ -1,6 +1,5 @@
 -- `state_merge_lists::put_entry` meets its contract, by the entry that it is given. Assumes nothing.
-use Rattle.state_adds.specs.Laws.Code.{put_present}
-use borrow.Author.Rules.{rules}
+use Rattle.state_adds.proofs.Laws.Code.{put_present}
 use Rattle.state_merge_lists.proofs.put_entry.Goals as goal
 
 pub returns-in-Present : goal.returns-in-Present

@@ -1,5 +1,4 @@
-use Rattle.lent_work.specs.Laws.Access.{access_in, access_past}
-use borrow.Author.Rules.{rules}
+use Rattle.lent_work.proofs.Laws.Access.{access_in, access_past}
 use Rattle.state_ops.proofs.access_of.Goals as goal
 
 pub returns-then-i-lt512 : goal.returns-then-i-lt512

@@ -1,5 +1,4 @@
-use Rattle.state_ops.specs.Laws.Use.{use_defined, use_again, use_first}
-use borrow.Author.Rules.{rules}
+use Rattle.state_ops.proofs.Laws.Use.{use_defined, use_again, use_first}
 use Rattle.state_ops.proofs.after_use.Goals as goal
 
 pub returns-then-is_defined : goal.returns-then-is_defined

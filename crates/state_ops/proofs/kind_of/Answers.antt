@@ -1,22 +1,15 @@
-use borrow.Author.Rules.{rules}
 use native.Mathlib.Omega.{arith}
-use mathlib.Core.Path.{◌≡◌, sym, ap, ◌∙◌}
-use mathlib.Core.Option.{none}
-use Prim.Native.Nat.{◌-◌}
-use Rattle.base_tests.specs.Laws.Bool.{not_true, not-false}
-use Rattle.lent_sets.specs.Laws.Row.{walk_start, walk_step}
-use Rattle.lent_sets.specs.Rows.{set_at, left}
-use Rattle.base_sets.specs.Members.{bits_of, values_of}
-use Rattle.lent_values.specs.Cells.{value_at, option_of}
-use Rattle.def_transfer.specs.State.{join_values}
-use Rattle.state_ops.specs.Laws.List.{At, kind_none, kind_start, kind_next, kind_end}
+use mathlib.Core.Path.{sym, ap, ◌∙◌}
+use Rattle.lent_sets.proofs.Laws.Row.{walk_start, walk_step}
+use Rattle.lent_values.specs.Cells.{value_at}
+use Rattle.state_ops.proofs.Laws.List.{kind_none, kind_start, kind_next, kind_end}
 use Rattle.state_ops.proofs.kind_of.Goals as goal
 
 pub returns-then-not-is_defined : goal.returns-then-not-is_defined
-returns-then-not-is_defined c = c.or_default.ensures ∙ sym (kind_none _ _ (sym c.is_defined.ensures ∙ not_true _ c.if-not-is_defined.true))
+returns-then-not-is_defined c = c.or_default.ensures ∙ sym (kind_none _ _ (sym c.is_defined.ensures ∙ c.if-not-is_defined.true))
 
 pub loop-m-init : goal.loop-m-init
-loop-m-init c = let h = sym c.is_defined.ensures ∙ not-false _ c.if-not-is_defined.false in ((walk_start _ _ _ h c.next_member-m.ensures).0, kind_start _ _ _ _ h c.next_member-m.ensures)
+loop-m-init c = let h = sym c.is_defined.ensures ∙ c.if-not-is_defined.false in ((walk_start _ _ _ h c.next_member-m.ensures).0, kind_start _ _ _ _ h c.next_member-m.ensures)
 
 pub overflow_add-m : goal.overflow_add-m
 overflow_add-m c = omega arith

@@ -1,15 +1,11 @@
-use borrow.Author.Rules.{rules}
-use native.Mathlib.Omega.{arith}
-use mathlib.Core.Path.{◌≡◌, sym, ap, ◌∙◌}
+use mathlib.Core.Path.{◌≡◌}
 use mathlib.Core.Option.{none}
 use Prim.Native.Nat.{◌-◌}
-use Rattle.base_tests.specs.Laws.Bool.{not_true, not-false}
-use Rattle.lent_sets.specs.Laws.Row.{walk_start, walk_step}
 use Rattle.lent_sets.specs.Rows.{set_at, left}
 use Rattle.base_sets.specs.Members.{bits_of, values_of}
 use Rattle.lent_values.specs.Cells.{value_at, option_of}
 use Rattle.def_transfer.specs.State.{join_values}
-use Rattle.state_ops.specs.Laws.List.{At, kind_none, kind_start, kind_next, kind_end}
+use Rattle.state_ops.proofs.Laws.List.{At}
 use Rattle.state_ops.proofs.kind_of.Given as goal
 
 abbrev pub invariant-loop-m : goal.invariant-loop-m

@@ -1,6 +1,5 @@
 -- `state_pairs::pair_refusal` meets its contract, the parts being those of the definition. Assumes nothing.
-use Rattle.state_pairs.specs.Laws.MergeCall.{pair_is}
-use borrow.Author.Rules.{rules}
+use Rattle.state_pairs.proofs.Laws.MergeCall.{pair_is}
 use Rattle.state_pairs.proofs.pair_refusal.Goals as goal
 
 pub returns : goal.returns

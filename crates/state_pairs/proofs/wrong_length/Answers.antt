@@ -1,5 +1,5 @@
 -- `state_pairs::wrong_length` meets its contract, by its two ways. Assumes nothing.
-use Rattle.state_pairs.specs.Laws.MergeCall.{length_fits, length_wrong}
+use Rattle.state_pairs.proofs.Laws.MergeCall.{length_fits, length_wrong}
 use Rattle.state_pairs.proofs.wrong_length.Goals as goal
 
 pub returns-then-m-n : goal.returns-then-m-n

@@ -1,8 +1,6 @@
-use borrow.Author.Rules.{rules}
-use mathlib.Core.Path.{◌≡◌, refl}
+use mathlib.Core.Path.{◌≡◌}
 use Prim.Native.Nat.{◌≤◌, ◌-◌}
 use lib.ListN.{length, drop}
-use Rattle.state_calls.specs.Laws.More.{any_hit, any_step, any_end}
 use Rattle.base_tests.specs.Tests.{any_of}
 use Rattle.state_calls.specs.Calls.{outside}
 use Rattle.state_phi.proofs.any_outside.Given as goal

@@ -1,6 +1,5 @@
-use Rattle.state_calls.specs.Laws.More.{phi_refused, phi_ends}
-use Rattle.state_means.specs.Laws.Promises.{infer_phi_promise}
-use borrow.Author.Rules.{rules}
+use Rattle.state_calls.proofs.Laws.More.{phi_refused, phi_ends}
+use Rattle.state_means.proofs.Laws.Promises.{infer_phi_promise}
 use Rattle.state_phi.proofs.infer_phi.Goals as goal
 
 pub returns-then-refusal-ne0 : goal.returns-then-refusal-ne0

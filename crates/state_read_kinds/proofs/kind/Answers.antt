@@ -1,6 +1,5 @@
-use Rattle.state_calls.specs.Laws.Call.{kind_plain}
-use Rattle.state_means.specs.Laws.Promises.{kind_promise}
-use borrow.Author.Rules.{rules}
+use Rattle.state_calls.proofs.Laws.Call.{kind_plain}
+use Rattle.state_means.proofs.Laws.Promises.{kind_promise}
 use Rattle.state_read_kinds.proofs.kind.Goals as goal
 
 pub returns : goal.returns

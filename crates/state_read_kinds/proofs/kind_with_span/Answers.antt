@@ -1,6 +1,5 @@
-use Rattle.state_calls.specs.Laws.Call.{kind_ends, kind_refused}
-use Rattle.state_means.specs.Laws.Promises.{kind_with_span_promise}
-use borrow.Author.Rules.{rules}
+use Rattle.state_calls.proofs.Laws.Call.{kind_ends, kind_refused}
+use Rattle.state_means.proofs.Laws.Promises.{kind_with_span_promise}
 use Rattle.state_read_kinds.proofs.kind_with_span.Goals as goal
 
 pub returns-then-refusal-ne0 : goal.returns-then-refusal-ne0

@@ -1,6 +1,5 @@
-use Rattle.state_calls.specs.Laws.Call.{write_ends, write_refused}
-use Rattle.state_means.specs.Laws.Promises.{may_write_promise}
-use borrow.Author.Rules.{rules}
+use Rattle.state_calls.proofs.Laws.Call.{write_ends, write_refused}
+use Rattle.state_means.proofs.Laws.Promises.{may_write_promise}
 use Rattle.state_read_kinds.proofs.may_write.Goals as goal
 
 pub returns-then-refusal-ne0 : goal.returns-then-refusal-ne0

@@ -1,6 +1,5 @@
-use Rattle.state_calls.specs.Laws.More.{mutate_refused, mutate_of_ref, mutate_ends}
-use Rattle.state_means.specs.Laws.Promises.{mutate_promise}
-use borrow.Author.Rules.{rules}
+use Rattle.state_calls.proofs.Laws.More.{mutate_refused, mutate_of_ref, mutate_ends}
+use Rattle.state_means.proofs.Laws.Promises.{mutate_promise}
 use Rattle.state_read_kinds.proofs.mutate.Goals as goal
 
 pub returns-then-refusal-ne0 : goal.returns-then-refusal-ne0

@@ -1,11 +1,8 @@
-use borrow.Author.Rules.{rules}
 use native.Mathlib.Omega.{arith}
-use mathlib.Core.Path.{◌≡◌, refl, ◌∙◌}
-use Prim.Native.Nat.{◌-◌}
+use mathlib.Core.Path.{refl, ◌∙◌}
 use lib.ListN.{length}
-use Rattle.lent_sets.specs.Rows.{upto}
 use Rattle.state_adds.specs.Lists.{clear_word}
-use Rattle.state_adds.specs.Laws.Code.{loop_start, loop_turn, loop_end, cleared}
+use Rattle.state_adds.proofs.Laws.Code.{loop_start, loop_turn, loop_end, cleared}
 use Rattle.state_read_sets.proofs.clear.Goals as goal
 
 pub loop-k-init : goal.loop-k-init

@@ -1,6 +1,5 @@
-use Rattle.state_calls.specs.Laws.Call.{defined_ends, defined_refused}
-use Rattle.state_means.specs.Laws.Promises.{is_defined_promise}
-use borrow.Author.Rules.{rules}
+use Rattle.state_calls.proofs.Laws.Call.{defined_ends, defined_refused}
+use Rattle.state_means.proofs.Laws.Promises.{is_defined_promise}
 use Rattle.state_read_sets.proofs.is_defined.Goals as goal
 
 pub returns-then-refusal-ne0 : goal.returns-then-refusal-ne0

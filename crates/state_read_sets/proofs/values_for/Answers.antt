@@ -1,7 +1,5 @@
-use Prim.Native.Nat.{◌-◌}
-use Rattle.state_calls.specs.Laws.More.{list_refused, list_ends}
-use Rattle.state_means.specs.Laws.Promises.{values_for_promise}
-use borrow.Author.Rules.{rules}
+use Rattle.state_calls.proofs.Laws.More.{list_refused, list_ends}
+use Rattle.state_means.proofs.Laws.Promises.{values_for_promise}
 use Rattle.state_read_sets.proofs.values_for.Goals as goal
 
 pub returns-then-refusal-ne0 : goal.returns-then-refusal-ne0

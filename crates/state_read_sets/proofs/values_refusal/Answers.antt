@@ -1,5 +1,4 @@
-use Rattle.state_calls.specs.Laws.More.{room_wrong, room_right}
-use borrow.Author.Rules.{rules}
+use Rattle.state_calls.proofs.Laws.More.{room_wrong, room_right}
 use Rattle.state_read_sets.proofs.values_refusal.Goals as goal
 
 pub returns-then-room-ne1024 : goal.returns-then-room-ne1024

@@ -1,22 +1,14 @@
-use borrow.Author.Rules.{rules}
 use native.Mathlib.Omega.{arith}
-use mathlib.Core.Path.{◌≡◌, refl, sym, ◌∙◌}
-use Rattle.base_tests.specs.Laws.Bool.{not_true, not-false}
-use Prim.Native.Nat.{◌<◌, ◌-◌}
-use lib.ListN.{length}
-use Rattle.state_calls.specs.Laws.More.{write_none, write_start, write_next, write_end}
-use Rattle.state_ops.specs.Laws.List.{At}
-use Rattle.lent_sets.specs.Laws.Row.{walk_start, walk_step}
-use Rattle.lent_sets.specs.Rows.{set_at, left}
-use Rattle.base_sets.specs.Members.{bits_of, values_of}
-use Rattle.state_calls.specs.Calls.{written}
+use mathlib.Core.Path.{refl, sym, ◌∙◌}
+use Rattle.state_calls.proofs.Laws.More.{write_none, write_start, write_next, write_end}
+use Rattle.lent_sets.proofs.Laws.Row.{walk_start, walk_step}
 use Rattle.state_read_sets.proofs.write_values.Goals as goal
 
 pub returns-then-not-is_defined : goal.returns-then-not-is_defined
-returns-then-not-is_defined c = write_none _ _ _ (sym c.is_defined.ensures ∙ not_true _ c.if-not-is_defined.true)
+returns-then-not-is_defined c = write_none _ _ _ (sym c.is_defined.ensures ∙ c.if-not-is_defined.true)
 
 pub loop-m-init : goal.loop-m-init
-loop-m-init c = let h = sym c.is_defined.ensures ∙ not-false _ c.if-not-is_defined.false in ((walk_start _ _ _ h c.next_member-m.ensures).0, (walk_start _ _ _ h c.next_member-m.ensures).0.above, refl, write_start _ _ _ _ h c.next_member-m.ensures)
+loop-m-init c = let h = sym c.is_defined.ensures ∙ c.if-not-is_defined.false in ((walk_start _ _ _ h c.next_member-m.ensures).0, (walk_start _ _ _ h c.next_member-m.ensures).0.above, refl, write_start _ _ _ _ h c.next_member-m.ensures)
 
 pub overflow_add-k : goal.overflow_add-k
 overflow_add-k c = omega arith

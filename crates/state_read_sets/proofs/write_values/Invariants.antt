@@ -1,12 +1,7 @@
-use borrow.Author.Rules.{rules}
-use native.Mathlib.Omega.{arith}
-use mathlib.Core.Path.{◌≡◌, refl, sym, ◌∙◌}
-use Rattle.base_tests.specs.Laws.Bool.{not_true, not-false}
+use mathlib.Core.Path.{◌≡◌}
 use Prim.Native.Nat.{◌<◌, ◌-◌}
 use lib.ListN.{length}
-use Rattle.state_calls.specs.Laws.More.{write_none, write_start, write_next, write_end}
-use Rattle.state_ops.specs.Laws.List.{At}
-use Rattle.lent_sets.specs.Laws.Row.{walk_start, walk_step}
+use Rattle.state_ops.proofs.Laws.List.{At}
 use Rattle.lent_sets.specs.Rows.{set_at, left}
 use Rattle.base_sets.specs.Members.{bits_of, values_of}
 use Rattle.state_calls.specs.Calls.{written}

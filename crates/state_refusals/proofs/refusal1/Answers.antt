@@ -1,5 +1,4 @@
 use Rattle.state_calls.specs.Calls.{refusal1}
-use borrow.Author.Rules.{rules}
 use Rattle.state_refusals.proofs.refusal1.Goals as goal
 
 pub returns : goal.returns

@@ -1,5 +1,4 @@
 use Rattle.state_calls.specs.Calls.{refusal2}
-use borrow.Author.Rules.{rules}
 use Rattle.state_refusals.proofs.refusal2.Goals as goal
 
 pub returns : goal.returns

@@ -1,5 +1,4 @@
 use Rattle.state_calls.specs.Calls.{refusal_of}
-use borrow.Author.Rules.{rules}
 use Rattle.state_refusals.proofs.refusal_of.Goals as goal
 
 pub returns : goal.returns

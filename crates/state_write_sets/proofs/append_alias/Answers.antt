@@ -1,6 +1,5 @@
-use Rattle.state_calls.specs.Laws.Call.{append_refused, append_ends}
-use Rattle.state_means.specs.Laws.Promises.{append_alias_promise}
-use borrow.Author.Rules.{rules}
+use Rattle.state_calls.proofs.Laws.Call.{append_refused, append_ends}
+use Rattle.state_means.proofs.Laws.Promises.{append_alias_promise}
 use Rattle.state_write_sets.proofs.append_alias.Goals as goal
 
 pub returns-then-refusal-ne0 : goal.returns-then-refusal-ne0

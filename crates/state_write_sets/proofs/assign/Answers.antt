@@ -1,6 +1,5 @@
-use Rattle.state_calls.specs.Laws.Call.{assign_refused, assign_ends}
-use Rattle.state_means.specs.Laws.Promises.{assign_promise}
-use borrow.Author.Rules.{rules}
+use Rattle.state_calls.proofs.Laws.Call.{assign_refused, assign_ends}
+use Rattle.state_means.proofs.Laws.Promises.{assign_promise}
 use Rattle.state_write_sets.proofs.assign.Goals as goal
 
 pub returns-then-refusal-ne0 : goal.returns-then-refusal-ne0

@@ -1,6 +1,5 @@
-use Rattle.state_calls.specs.Laws.Call.{freeze_refused, freeze_ends}
-use Rattle.state_means.specs.Laws.Promises.{freeze_promise}
-use borrow.Author.Rules.{rules}
+use Rattle.state_calls.proofs.Laws.Call.{freeze_refused, freeze_ends}
+use Rattle.state_means.proofs.Laws.Promises.{freeze_promise}
 use Rattle.state_write_values.proofs.freeze.Goals as goal
 
 pub returns-then-refusal-ne0 : goal.returns-then-refusal-ne0

@@ -1,6 +1,5 @@
-use Rattle.state_calls.specs.Laws.Call.{initialize_refused, initialize_ends}
-use Rattle.state_means.specs.Laws.Promises.{initialize_promise}
-use borrow.Author.Rules.{rules}
+use Rattle.state_calls.proofs.Laws.Call.{initialize_refused, initialize_ends}
+use Rattle.state_means.proofs.Laws.Promises.{initialize_promise}
 use Rattle.state_write_values.proofs.initialize.Goals as goal
 
 pub returns-then-refusal-ne0 : goal.returns-then-refusal-ne0

@@ -1,6 +1,5 @@
 use mathlib.Core.Path.{sym, ◌∙◌}
-use Rattle.def_kinds.specs.Laws.Kinds.{above_same, above_other}
-use borrow.Author.Rules.{rules}
+use Rattle.def_kinds.proofs.Laws.Kinds.{above_same, above_other}
 use Rattle.def_kinds.proofs.AbstractValue.above.Goals as goal
 
 pub returns-then-code : goal.returns-then-code

@@ -1,9 +1,7 @@
-use native.Mathlib.Omega.{arith}
 use mathlib.Core.Path.{◌∙◌}
 use Rattle.def_kinds.specs.declared.ValueKind.TheVariants.{Mutable, Frozen, Primitive, MaybeFrozen, Global, Context}
 use Rattle.def_kinds.specs.Kinds.{join_table}
-use Rattle.def_kinds.specs.Laws.Kinds.{code_lt, join_row}
-use borrow.Author.Rules.{rules}
+use Rattle.def_kinds.proofs.Laws.Kinds.{join_row}
 use Rattle.def_kinds.proofs.ValueKind.join.Goals as goal
 
 pub returns-in-Mutable : goal.returns-in-Mutable

@@ -1,6 +1,6 @@
 use mathlib.Core.Path.{sym, ap}
 use Rattle.def_kinds.specs.Kinds.{kind_at}
-use Rattle.def_kinds.specs.Laws.Kinds.{kind_at_rest}
+use Rattle.def_kinds.proofs.Laws.Kinds.{kind_at_rest}
 use Rattle.def_kinds.proofs.ValueKind.of_code.Goals as goal
 
 pub returns-in-0 : goal.returns-in-0

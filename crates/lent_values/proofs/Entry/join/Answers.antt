@@ -1,5 +1,4 @@
 use Rattle.base_orders.specs.Options.{join_option}
-use borrow.Author.Rules.{rules}
 use Rattle.lent_values.proofs.Entry.join.Goals as goal
 
 pub returns-in-Absent : goal.returns-in-Absent

@@ -2,7 +2,6 @@ use mathlib.Core.Path.{sym, ap}
 use Rattle.def_kinds.specs.Values.{or_default}
 use Rattle.lent_values.specs.declared.Entry.{Entry}
 use Rattle.lent_values.specs.Cells.{option_of}
-use borrow.Author.Rules.{rules}
 use Rattle.lent_values.proofs.Entry.or_default.Goals as goal
 
 pub returns-in-Absent : goal.returns-in-Absent

@@ -1,0 +1,161 @@
+-- Laws by which the code of new functions meets the definition. Assumes nothing.
+use Rattle.std.specs.Prelude.{ℕ, ◌+◌, ◌*◌, ◌≤◌, ◌<◌, ◌≡◌, Bool, true, false, ◌⊎◌, ltb, length, get_or, set}
+use Rattle.std.proofs.Common.{arith, ◌∙◌, inl, inr, ⊎_elim, length-set, get_or-set_same, get_or-set_other, ltb-true, ltb-false}
+use Rattle.std.proofs.Math.Path.{refl, sym, ap}
+use mathlib.Core.List.{List}
+use Rattle.def_kinds.specs.declared.ValueKind.{ValueKind}
+use Rattle.def_kinds.specs.Values.{mk}
+use Rattle.def_effects.specs.declared.Place.{Place}
+use Rattle.def_effects.specs.Places.{identifiers}
+use Rattle.def_effects.specs.Effects.{AliasingEffect, Capture, CreateFunction}
+use Rattle.def_effects.specs.Keys.{EffectKey, effect_key}
+use Rattle.def_transfer.specs.Monad.{Res, ok, refused, M, Done, and_then, ◌>>=◌, ◌>>◌, each}
+use Rattle.def_transfer.specs.Tables.{World}
+use Rattle.def_transfer.specs.State as State
+use Rattle.def_transfer.specs.State.{ask, change}
+use Rattle.def_transfer.specs.Context.{get_or_create_value_id, link_to, emit, begin, function_context}
+use Rattle.def_transfer.specs.Step as Step
+use Rattle.def_transfer.specs.Step.{create, any_written, any_ref, update_context}
+use Rattle.lent_tables.specs.Words.{index, field, places_in}
+use Rattle.lent_tables.proofs.Laws.Word.{within_yes, within_no_word, field_in, field_out, places_cong}
+use Rattle.lent_effects.specs.declared.AliasingEffect.TheVariants as Head
+use Rattle.lent_effects.specs.Records.{effect_with, captures_of, counted_places, copied_captures}
+use Rattle.lent_effects.proofs.Laws.Capture.{captures_copied}
+use Rattle.lent_keys.specs.declared.Key.{Key}
+use Rattle.lent_keys.specs.declared.Found.{Found}
+use Rattle.lent_keys.specs.declared.Found.TheVariants.{Nowhere, At}
+use Rattle.lent_keys.specs.KeyRecords.{key_with}
+use Rattle.lent_layout.specs.Layout as Layout
+use Rattle.lent_context.specs.Lent as Lent
+use Rattle.lent_work.specs.declared.Run.{Run}
+use Rattle.laws_monad.specs.Answers.{answer}
+use Rattle.laws_monad.proofs.Laws.Answers.{bind_ok, bind_goes, bind_refused, then_ok, then_goes, then_refused}
+use Rattle.lent_world.specs.World.{lent, world}
+use Rattle.effect_intern.specs.Interning.{chosen}
+use Rattle.effect_acts.specs.Acts.{sequel}
+use Rattle.effect_acts.proofs.Laws.Sequel.{sequel_refused}
+use Rattle.effect_captures.specs.NewFunctions.{function_kind, linked}
+use Rattle.lent_layout.specs.Layout.{one_run}
+
+-- ---- a new function
+
+-- its number, its link and its place
+module _ (vs ss cs os : List ℕ) (r : Run) (f : ℕ) (into : Place) (k : ValueKind) (key : Key) (ws : List ℕ) (y v : ℕ) (ds : List ℕ) (t : Run)
+    (z : (ps : List Place) → key_with key (identifiers ps) ≡ effect_key (effect_with (Head.CreateFunction f into) ps))
+    (n : get_or_create_value_id (key_with key (identifiers (captures_of ws))) (world vs ss cs os r) ≡ answer y v (world vs ss ds os t)) where
+  -- its number is that under the effect's key
+  function_number : get_or_create_value_id (effect_key (CreateFunction (captures_of ws) f into)) (world vs ss cs os r) ≡ answer y v (world vs ss ds os t)
+  unfolding effect_with
+  function_number = ap (λ (i : EffectKey). get_or_create_value_id i (world vs ss cs os r)) (sym (z (captures_of ws))) ∙ n
+
+  -- no number is left
+  -- "9 a fresh number is needed at next 512"
+  pub linked_full : ¬ (y ≡ 0) → linked (captures_of ws) f into k (world vs ss cs os r) ≡ answer y tt (world vs ss ds os t)
+  unfolding linked
+  linked_full g = bind_refused _ _ _ _ _ _ _ function_number g
+
+  -- the number is linked to the function
+  pub linked_done : (es us ts : List ℕ) → y ≡ 0 → es ≡ Lent.put_link ds v f → create into v (mk k 0) (world vs ss es os t) ≡ ok tt (world us ts es os t)
+      → linked (captures_of ws) f into k (world vs ss cs os r) ≡ answer 0 tt (world us ts es os t)
+  unfolding linked link_to change answer
+  linked_done es us ts g l c =
+      bind_goes _ _ _ _ _ _ _ function_number g (then_ok _ _ _ _ _ _ (ap (λ (i : List ℕ). ok tt (world vs ss i os t)) (sym l)) c)
+
+-- what comes after a link comes after the whole half
+links_then : (ps : List Place) (f : ℕ) (into : Place) (k : ValueKind) (m : M (World lent) Done) (w : World lent)
+    → (get_or_create_value_id (effect_key (CreateFunction ps f into)) >>= (λ v. link_to v f >> (create into v (mk k 0) >> m))) w ≡ and_then {A = Done} {B = Done} (linked ps f into k w) (λ _. m)
+unfolding linked link_to change create State.initialize State.define State.point ◌>>◌ ◌>>=◌ and_then
+links_then ps f into k m w = by (get_or_create_value_id (effect_key (CreateFunction ps f into)) w)
+  where
+    -- the number, or its refusal
+    by : (i : Res (World lent) ℕ) → and_then {A = ℕ} {B = Done} i (λ v. link_to v f >> (create into v (mk k 0) >> m)) ≡ and_then {A = Done} {B = Done} (and_then {A = ℕ} {B = Done} i (λ v. link_to v f >> create into v (mk k 0))) (λ _. m)
+    by (ok v u) = refl
+    by (refused i u) = refl
+
+-- a CreateFunction, before its captures are derived
+module _ (vs ss cs os : List ℕ) (r u : Run) (ps : List Place) (f : ℕ) (into : Place) (x : ℕ) (again : AliasingEffect → M (World lent) Done)
+    (e : begin into.identifier (world vs ss cs os r) ≡ answer x tt (world vs ss cs os u)) where
+  -- the place already began
+  pub function_refused : ¬ (x ≡ 0) → Step.creating_function again ps f into (world vs ss cs os r) ≡ sequel x (world vs ss cs os u) (each ps (λ c. again (Capture c into)))
+  unfolding Step.creating_function
+  function_refused h = then_refused _ _ _ _ _ _ _ e h ∙ sym (sequel_refused x _ _ h)
+
+  -- listed, its captures and context asked, its context places updated, its number linked
+  -- what the kind goes by is asked before the context places change
+  pub function_made : (is ds : List ℕ) (l : Run) (b t q : Bool) (k : ValueKind) (y : ℕ) (w : World lent) → x ≡ 0
+      → emit (effect_with (Head.CreateFunction f into) ps) (world vs ss cs os u) ≡ ok tt (world vs ss cs is l)
+      → any_written ps (world vs ss cs is l) ≡ ok b (world vs ss cs is l)
+      → t ≡ Lent.has_tracked_side_effect cs f
+      → ((us ts ws : List ℕ) (d : Run) → any_ref (Lent.context_of cs f) (world us ts cs ws d).rest ≡ q)
+      → k ≡ function_kind b t q
+      → each (Lent.context_of cs f) (update_context f) (world vs ss cs is l) ≡ ok tt (world vs ss ds is l)
+      → linked ps f into k (world vs ss ds is l) ≡ answer y tt w
+      → Step.creating_function again ps f into (world vs ss cs os r) ≡ sequel y w (each ps (λ c. again (Capture c into)))
+  unfolding Step.creating_function effect_with ask function_context
+  function_made is ds l b t q k y w h g n i j o p m =
+      then_goes _ _ _ _ _ _ _ e h (then_ok _ _ _ _ _ _ g (bind_ok _ _ _ _ _ _ n (bind_ok _ _ _ _ _ _ refl
+      (bind_ok _ _ _ _ _ _ (ap (λ (z : Bool). ok z (world vs ss cs is l)) (sym i)) (bind_ok _ _ _ _ _ _ (ap (λ (z : Bool). ok z (world vs ss cs is l)) (j vs ss is l))
+      (then_ok _ _ _ _ _ _ p
+      (links_then ps f into (function_kind b t q) (each ps (λ c. again (Capture c into))) (world vs ss ds is l)
+      ∙ ap (λ (z : Res (World lent) Done). and_then {A = Done} {B = Done} z (λ _. each ps (λ c. again (Capture c into)))) (ap (λ (z : ValueKind). linked ps f into z (world vs ss ds is l)) (sym o) ∙ m))))))))
+
+-- ---- the captures of the effect that stands for another
+
+-- a number is below another, or it is not
+-- a law of a word goes by whether the record has it
+lower_or_not : (a b : ℕ) → (a < b) ⊎ (b ≤ a)
+lower_or_not a b = told (ltb a b) (λ e. ltb-true a b e) (λ e. ltb-false a b e)
+  where
+    -- what the test says, either way
+    told : (d : Bool) → (d ≡ true → a < b) → (d ≡ false → b ≤ a) → (a < b) ⊎ (b ≤ a)
+    told true p q = inl (p refl)
+    told false p q = inr (q refl)
+
+-- the words before word k are those of another slice
+pub record Copied (ws us : List ℕ) (k : ℕ) : Type 0 where
+  pub word : (v : ℕ) → v < k → v < length us → get_or us v 0 ≡ field one_run ws 0 v
+
+-- nothing is copied yet
+pub copied_start : (ws us : List ℕ) → Copied ws us 0
+copied_start ws us = record { word = λ v l m. absurd (omega arith) }
+
+-- one more word is copied
+pub copied_turn : (ws us ts : List ℕ) (k x : ℕ) → Copied ws us k → x ≡ field one_run ws 0 k → ts ≡ set us k x → Copied ws ts (k + 1)
+copied_turn ws us ts k x a e g = record { word = λ v l m. ap (λ (d : List ℕ). get_or d v 0) g ∙ at v l (let z : length ts ≡ length us = ap length g ∙ length-set us k x in omega arith) }
+  where
+    -- the word that is written, or one before it
+    at : (v : ℕ) → v < k + 1 → v < length us → get_or (set us k x) v 0 ≡ field one_run ws 0 v
+    at v l m =
+        ⊎_elim
+        (λ b. get_or-set_other us k v x 0 (λ q. omega arith) ∙ a.word v b m)
+        (λ b. let q : v ≡ k = omega arith in
+        ap (λ (i : ℕ). get_or (set us k x) i 0) q ∙ get_or-set_same us k x 0 (omega arith) ∙ e ∙ ap (field one_run ws 0) (sym q))
+        (lower_or_not v k)
+
+-- a write keeps the slice's length
+pub copied_kept : (us ts : List ℕ) (k x : ℕ) → ts ≡ set us k x → length ts ≡ length us
+copied_kept us ts k x e = ap length e ∙ length-set us k x
+
+-- all 81 words are copied
+pub copied_run : (ws us : List ℕ) (k : ℕ) → Copied ws us k → 81 ≤ k → length us ≡ 81 → captures_of us ≡ captures_of ws
+unfolding counted_places index
+copied_run ws us k a l b = ap (places_in one_run us 0 1 0) (at 0) ∙ places_cong one_run ws us 0 1 0 (field one_run ws 0 0) at
+  where
+    -- each word of the one is that of the other
+    -- past the end both are 0
+    at : (v : ℕ) → field one_run us 0 v ≡ field one_run ws 0 v
+    at v =
+        ⊎_elim
+        (λ m. field_in one_run us 0 v (within_yes one_run 0 v (omega arith) m) ∙ ap (λ (i : ℕ). get_or us i 0) (let z : 0 + 0 * 81 + v ≡ v = omega arith in z) ∙ a.word v (omega arith) (omega arith))
+        (λ m. field_out one_run us 0 v (within_no_word one_run 0 v m) ∙ sym (field_out one_run ws 0 v (within_no_word one_run 0 v m)))
+        (lower_or_not v 81)
+
+-- the effect was interned before
+-- its captures are the record's
+pub chosen_found : (c ws us : List ℕ) (ps : List Place) (f : Found) (j i : ℕ) → f ≡ At j → i ≡ j → us ≡ copied_captures Layout.interned c i ws → length ws ≡ 81 → captures_of us ≡ chosen c f ps
+chosen_found c ws us ps f j i h e g b =
+    ap captures_of g ∙ captures_copied Layout.interned c i ws refl b ∙ ap (λ (n : ℕ). counted_places Layout.interned c n 17) e ∙ sym (ap (λ (o : Found). chosen c o ps) h)
+
+-- a new key
+pub chosen_given : (c us : List ℕ) (ps : List Place) (f : Found) → f ≡ Nowhere → captures_of us ≡ ps → captures_of us ≡ chosen c f ps
+chosen_given c us ps f h e = e ∙ sym (ap (λ (o : Found). chosen c o ps) h)

@@ -1,0 +1,141 @@
+-- Laws by which the code of the parts meets the definition. Assumes nothing.
+use Rattle.std.specs.Prelude.{ℕ, suc, ◌+◌, ◌-◌, ◌*◌, ◌^◌, ◌≤◌, ◌<◌, ◌≡◌, Bool, true, false, ◌&&◌, eqb, ltb}
+use native.Mathlib.Omega.{arith}
+use Rattle.std.proofs.Common.{add-one, ◌∙◌}
+use Rattle.std.proofs.Math.Path.{refl, sym, ap, ap₂}
+use mathlib.Core.List.{List, ◌∷◌}
+use Rattle.base_tests.specs.Tests.{ite, is_some}
+use Rattle.base_tests.proofs.Laws.Choice.{ite_lt, ite_ge}
+use Rattle.def_kinds.specs.declared.AbstractValue.{AbstractValue}
+use Rattle.def_kinds.specs.Kinds.{writable}
+use Rattle.def_effects.specs.declared.Span.{Span}
+use Rattle.def_effects.specs.declared.Place.{Place}
+use Rattle.def_effects.specs.declared.Session.{Session}
+use Rattle.def_effects.specs.Places.{no_span}
+use Rattle.def_effects.specs.Effects.{AliasingEffect}
+use Rattle.def_transfer.specs.Monad.{Res, ok, Done, and_then, ◌>>=◌, ◌>>◌, return, refuse, done, if◌then◌else◌}
+use Rattle.def_transfer.specs.Tables.{World}
+use Rattle.def_transfer.specs.State as State
+use Rattle.def_transfer.specs.State.{kind_of, ask, change}
+use Rattle.def_transfer.specs.Context as Context
+use Rattle.def_transfer.specs.Step as Step
+use Rattle.lent_values.specs.Cells.{value_at, put_value}
+use Rattle.lent_sets.specs.Rows.{set_at, put_set}
+use Rattle.lent_tables.specs.Words.{field, place_in, places_in}
+use Rattle.lent_tables.proofs.Laws.Word.{places_more, places_none}
+use Rattle.lent_effects.specs.Records.{put_effect, captures_of, counted_places}
+use Rattle.lent_work.specs.declared.Run.{Run}
+use Rattle.lent_work.specs.declared.Marks.{Marks}
+use Rattle.lent_work.specs.Marks.{is_marked, marked}
+use Rattle.laws_monad.specs.Answers.{answer}
+use Rattle.laws_monad.proofs.Laws.Answers.{bind_ok, if_true, if_false}
+use Rattle.lent_world.specs.World.{lent, world, put_listed}
+use Rattle.lent_work.specs.Access.{access_of}
+use Rattle.effect_parts.specs.Parts.{with_session, writes}
+use Rattle.state_ops.specs.Use.{after_use}
+use Rattle.lent_layout.specs.Layout.{one_run, output}
+
+-- ---- an effect is listed
+
+module _ (vs ss cs os : List ℕ) (e : AliasingEffect) where
+  -- a count that fills its word stays
+  pub emit_full : (r : Run) → 4294967295 ≤ r.listed → Context.emit e (world vs ss cs os r) ≡ ok tt (world vs ss cs os r)
+  unfolding Context.emit change put_listed
+  emit_full r h = ap (λ (l : _). ok tt (record { state = (world vs ss cs os r).state; rest = record { session = r.session; context = cs; work = record { initialized = r.marks; listed = l; freeze_entries = r.freeze; entries = r.entries } } })) (ite_ge r.listed 4294967295 _ _ h)
+
+  -- the record after the last
+  pub emit_one : (r : Run) (n : ℕ) (us : List ℕ) → r.listed < 4294967295 → n ≡ r.listed → us ≡ put_effect output os n e
+      → Context.emit e (world vs ss cs os r) ≡ ok tt (world vs ss cs us (record { session = r.session; flag = r.flag; marks = r.marks; listed = r.listed + 1; freeze = r.freeze; entries = r.entries }))
+  unfolding Context.emit change put_listed
+  emit_one r n us h m g =
+      ap (λ (l : _). ok tt (record { state = (world vs ss cs os r).state; rest = record { session = r.session; context = cs; work = record { initialized = r.marks; listed = l; freeze_entries = r.freeze; entries = r.entries } } })) (ite_lt r.listed 4294967295 _ _ h)
+      ∙ ap₂ (λ (l : List ℕ) (k : ℕ). ok tt (world vs ss cs l (record { session = r.session; flag = r.flag; marks = r.marks; listed = k; freeze = r.freeze; entries = r.entries }))) (ap (λ (k : ℕ). put_effect output os k e) (sym m) ∙ sym g) (sym (add-one r.listed))
+
+-- ---- a place begins
+
+module _ (vs ss cs os : List ℕ) (r : Run) (i : ℕ) (b : Bool) (e : b ≡ is_marked r.marks i) where
+  pub begin_again : b ≡ true → Context.begin i (world vs ss cs os r) ≡ answer 6 tt (world vs ss cs os r)
+  unfolding Context.begin Context.is_initialized ask refuse answer
+  begin_again h = bind_ok _ _ _ _ _ _ refl (if_true _ _ _ _ _ (sym e ∙ h) refl)
+
+  pub begin_first : (m : Marks) → b ≡ false → m ≡ marked r.marks i
+      → Context.begin i (world vs ss cs os r) ≡ answer 0 tt (world vs ss cs os (record { session = r.session; flag = r.flag; marks = m; listed = r.listed; freeze = r.freeze; entries = r.entries }))
+  unfolding Context.begin Context.is_initialized Context.put_initialized ask change answer
+  begin_first m h g =
+      bind_ok _ _ _ _ _ _ refl (if_false _ _ _ _ _ (sym e ∙ h)
+      (ap (λ (k : Marks). ok tt (world vs ss cs os (record { session = r.session; flag = r.flag; marks = k; listed = r.listed; freeze = r.freeze; entries = r.entries }))) (sym g)))
+
+-- ---- the kind of a place, and its first undefined access
+
+pub kind_is : (vs ss : List ℕ) (r : Run) (i : ℕ) (span : Span) (a : AbstractValue) (s : Session) (u : Run) → a ≡ kind_of (value_at vs) (set_at ss i) → s ≡ after_use ss r.session i span → u ≡ with_session s r
+    → (cs os : List ℕ) → State.kind_with_span i span (world vs ss cs os r) ≡ ok a (world vs ss cs os u)
+unfolding State.kind_with_span State.set_of State.peek State.record_access State.change after_use access_of done if◌then◌else◌ return ◌>>◌ ◌>>=◌ and_then
+kind_is vs ss r i span a s u e g h cs os =
+    go (is_some (set_at ss i)) (eqb r.session.access 0)
+    ∙ ap₂ (λ (x : AbstractValue) (y : Run). ok x (world vs ss cs os y)) (sym e) (sym (h ∙ ap (λ (t : Session). with_session t r) g))
+  where
+    first : Session
+    first = record { next = r.session.next; access = ite (ltb i 512) (suc i) 0; span = span; entries = r.session.entries }
+
+    go : (x y : Bool)
+        → and_then {A = Done} (elim x as (λ z. Res (World lent) Done) [ true ↦ ok tt (world vs ss cs os r) | false ↦ ok tt (world vs ss cs os (with_session (elim y as (λ z. Session) [ true ↦ first | false ↦ r.session ]) r)) ]) (λ _ w. ok (kind_of (value_at w.state.values) (set_at w.state.sets i)) w)
+        ≡ ok (kind_of (value_at vs) (set_at ss i)) (world vs ss cs os (with_session (ite x r.session (ite y first r.session)) r))
+    go true y = refl
+    go false true = refl
+    go false false = refl
+
+pub kind_plain : (vs ss : List ℕ) (r : Run) (i : ℕ) (a : AbstractValue) (u : Run) → ((cs os : List ℕ) → State.kind_with_span i no_span (world vs ss cs os r) ≡ ok a (world vs ss cs os u)) → (cs os : List ℕ) → State.kind i (world vs ss cs os r) ≡ ok a (world vs ss cs os u)
+unfolding State.kind
+kind_plain vs ss r i a u h = h
+
+-- ---- a place gets a value
+
+pub create_is : (vs us ss ts : List ℕ) (p : Place) (v n : ℕ) (a : AbstractValue) → n ≡ v → us ≡ put_value vs n a → ts ≡ put_set ss p.identifier (2 ^ v)
+    → (cs os : List ℕ) (r : Run) → Step.create p v a (world vs ss cs os r) ≡ ok tt (world us ts cs os r)
+unfolding Step.create State.initialize State.define State.point ◌>>◌ ◌>>=◌ and_then
+create_is vs us ss ts p v n a m g h cs os r =
+    ap₂ (λ (x y : List ℕ). ok tt (world x y cs os r)) (ap (λ (k : ℕ). put_value vs k a) (sym m) ∙ sym g) (sym h)
+
+-- ---- captured places that can be written
+
+pub written_not : (vs ss : List ℕ) (i : ℕ) (b : Bool) → b ≡ is_some (set_at ss i) → b ≡ false → false ≡ writes vs ss i
+unfolding writes
+written_not vs ss i b e h = sym (ap (λ (x : Bool). x && writable (kind_of (value_at vs) (set_at ss i)).kind) (sym e ∙ h))
+
+pub written_is : (vs ss : List ℕ) (i : ℕ) (b r : Bool) (a : AbstractValue) → b ≡ is_some (set_at ss i) → b ≡ true → a ≡ kind_of (value_at vs) (set_at ss i) → r ≡ writable a.kind → r ≡ writes vs ss i
+unfolding writes
+written_is vs ss i b r a e h g f = f ∙ ap (λ (x : AbstractValue). writable x.kind) g ∙ sym (ap (λ (x : Bool). x && writable (kind_of (value_at vs) (set_at ss i)).kind) (sym e ∙ h))
+
+-- what a loop over the captures has still to ask
+pub record Asks (vs ss ws : List ℕ) (n k : ℕ) : Type 0 where
+  pub equal : (cs os : List ℕ) (r : Run) → Step.any_written (places_in one_run ws 0 1 0 (n - 0)) (world vs ss cs os r) ≡ Step.any_written (places_in one_run ws 0 1 k (n - k)) (world vs ss cs os r)
+
+module _ (vs ss ws : List ℕ) (n k : ℕ) where
+  whole : n ≡ field one_run ws 0 0 → places_in one_run ws 0 1 0 (n - 0) ≡ captures_of ws
+  unfolding counted_places
+  whole e = let z : n - 0 ≡ n = omega arith in ap (places_in one_run ws 0 1 0) (z ∙ e)
+
+  asked : (cs os : List ℕ) (r : Run) (p : Place) (ps : List Place) → Step.any_written (p ∷ ps) (world vs ss cs os r) ≡ (if writes vs ss p.identifier then return true else Step.any_written ps) (world vs ss cs os r)
+  unfolding Step.any_written Step.is_written State.set_of State.peek writes return ◌>>=◌ and_then
+  asked cs os r p ps = refl
+
+  pub asks_start : Asks vs ss ws n 0
+  asks_start = record { equal = λ cs os r. refl }
+
+  module _ (a : Asks vs ss ws n k) where
+    pub asks_yes : (p : Place) (b : Bool) → n ≡ field one_run ws 0 0 → k < n → p ≡ place_in one_run ws 0 (1 + k * 5) → b ≡ writes vs ss p.identifier → b ≡ true → (cs os : List ℕ) (r : Run) → Step.any_written (captures_of ws) (world vs ss cs os r) ≡ ok true (world vs ss cs os r)
+    unfolding return
+    asks_yes p b e h g w t cs os r =
+        ap (λ (l : List Place). Step.any_written l (world vs ss cs os r)) (sym (whole e)) ∙ a.equal cs os r ∙ ap (λ (l : List Place). Step.any_written l (world vs ss cs os r)) (places_more one_run ws 0 1 k n h)
+        ∙ asked cs os r _ _ ∙ if_true _ _ _ _ _ (ap (λ (q : Place). writes vs ss q.identifier) (sym g) ∙ sym w ∙ t) refl
+
+    pub asks_more : (p : Place) (b : Bool) → k < n → p ≡ place_in one_run ws 0 (1 + k * 5) → b ≡ writes vs ss p.identifier → b ≡ false → Asks vs ss ws n (k + 1)
+    asks_more p b h g w t = record {
+      equal = λ cs os r. a.equal cs os r ∙ ap (λ (l : List Place). Step.any_written l (world vs ss cs os r)) (places_more one_run ws 0 1 k n h)
+          ∙ asked cs os r _ _ ∙ if_false _ _ _ _ _ (ap (λ (q : Place). writes vs ss q.identifier) (sym g) ∙ sym w ∙ t) refl;
+    }
+
+    pub asks_no : n ≡ field one_run ws 0 0 → n ≤ k → (cs os : List ℕ) (r : Run) → Step.any_written (captures_of ws) (world vs ss cs os r) ≡ ok false (world vs ss cs os r)
+    unfolding Step.any_written return
+    asks_no e h cs os r =
+        ap (λ (l : List Place). Step.any_written l (world vs ss cs os r)) (sym (whole e)) ∙ a.equal cs os r ∙ ap (λ (l : List Place). Step.any_written l (world vs ss cs os r)) (places_none one_run ws 0 1 k n h)

@@ -1,0 +1,230 @@
+-- Laws by which the code of mutations meets the definition. Assumes nothing.
+use Prim.Native.Nat.{ℕ, suc, ◌+◌}
+use native.Mathlib.Omega.{arith}
+use Rattle.std.specs.Prelude.{◌≡◌, Bool}
+use Rattle.std.proofs.Math.Path.{refl, sym, ap}
+use Rattle.std.proofs.Common.{◌∙◌, eq-eqb, ne_eqb}
+use Rattle.std.proofs.Math.Bool.{true, false}
+use mathlib.Core.List.{List, [], ◌∷◌}
+use Rattle.def_kinds.specs.declared.AbstractValue.{AbstractValue}
+use Rattle.def_kinds.specs.Kinds.{is_frozen}
+use Rattle.def_kinds.specs.Reasons.{has_reason, first_in, in_sentence_order, get_write_error_reason}
+use Rattle.def_effects.specs.declared.Span.{Span}
+use Rattle.def_effects.specs.declared.Place.{Place}
+use Rattle.def_effects.specs.declared.Diagnostic.{Diagnostic}
+use Rattle.def_effects.specs.declared.AliasingDiagnostic.{AliasingDiagnostic}
+use Rattle.def_effects.specs.declared.MutateVariant.{MutateVariant}
+use Rattle.def_effects.specs.declared.MutationResult.{MutationResult}
+use Rattle.def_effects.specs.declared.MutationResult.TheVariants as Result
+use Rattle.def_effects.specs.Places.{no_span}
+use Rattle.def_effects.specs.Mutation.{is_strict, result_of}
+use Rattle.def_effects.specs.Effects.{AliasingEffect, MutateFrozen, MutateGlobal}
+use Rattle.def_transfer.specs.Monad.{Res, ok, M, Done, return}
+use Rattle.def_transfer.specs.Tables.{World}
+use Rattle.def_transfer.specs.State.{ask, kind, kind_with_span}
+use Rattle.def_transfer.specs.Context.{intern_diagnostic}
+use Rattle.def_transfer.specs.Step.{modified, hoisted_access, mutate, report_modified, report_hoisted, report, mutating}
+use Rattle.lent_context.specs.Lent as Lent
+use Rattle.lent_diagnostics.proofs.Laws.Diagnostic.{span_differs, span_ends}
+use Rattle.lent_work.specs.declared.Run.{Run}
+use Rattle.lent_effects.specs.declared.AliasingEffect.TheVariants as Head
+use Rattle.lent_effects.specs.Records.{effect_with}
+use Rattle.laws_monad.specs.Answers.{answer}
+use Rattle.laws_monad.proofs.Laws.Answers.{bind_ok, bind_goes, bind_refused, if_true, if_false}
+use Rattle.lent_world.specs.World.{lent, world}
+use Rattle.effect_acts.specs.declared.Next.TheVariants.{Nothing, Itself, Derived}
+use Rattle.effect_acts.specs.Acts.{follow, sequel}
+use Rattle.effect_acts.proofs.Laws.Sequel.{sequel_refused, sequel_goes}
+use Rattle.effect_reports.specs.Mutations.{access_label}
+
+-- ---- the sentence of a set of reasons
+
+-- what is still to be asked once k reasons of the list were asked for
+-- the sentence is k more than the place in the rest
+pub record Left (s k : ℕ) (rs : List ℕ) : Type 0 where
+  pub equal : get_write_error_reason s ≡ k + first_in rs s
+
+module _ (s : ℕ) where
+  -- no reason was asked for yet
+  pub left_all : Left s 0 in_sentence_order
+  unfolding get_write_error_reason
+  left_all = let g : get_write_error_reason s ≡ first_in in_sentence_order s = refl in record { equal = omega arith }
+
+  module _ (k r : ℕ) (rs : List ℕ) (l : Left s k (r ∷ rs)) (b : Bool) (e : b ≡ has_reason s r) where
+    -- the set has the reason that is asked for
+    pub left_here : b ≡ true → k ≡ get_write_error_reason s
+    unfolding first_in
+    left_here h =
+        let z : first_in (r ∷ rs) s ≡ 0 = ap (λ (x : Bool). elim x as (λ y. ℕ) [ true ↦ 0 | false ↦ suc (first_in rs s) ]) (sym e ∙ h) in
+        let g : get_write_error_reason s ≡ k + first_in (r ∷ rs) s = l.equal in
+        omega arith
+
+    -- it has not
+    pub left_next : b ≡ false → Left s (suc k) rs
+    unfolding first_in
+    left_next h =
+        let z : first_in (r ∷ rs) s ≡ suc (first_in rs s) = ap (λ (x : Bool). elim x as (λ y. ℕ) [ true ↦ 0 | false ↦ suc (first_in rs s) ]) (sym e ∙ h) in
+        let g : get_write_error_reason s ≡ k + first_in (r ∷ rs) s = l.equal in
+        record { equal = omega arith }
+
+  -- the set has none of them
+  -- the sentence is the list's length
+  pub left_none : (k : ℕ) → Left s k [] → k ≡ get_write_error_reason s
+  unfolding first_in
+  left_none k l =
+      let z : first_in [] s ≡ 0 = refl in
+      let g : get_write_error_reason s ≡ k + first_in [] s = l.equal in
+      omega arith
+
+-- ---- the diagnostics
+
+-- a value that cannot be modified
+pub modified_is : (p : Place) (name k : ℕ) (a : AbstractValue) → k ≡ get_write_error_reason a.reason
+    → record { identifier = p.identifier; case = 0; sentence = k; name = name; access = record { start = 4294967295; end = 4294967295 }; own = p.span } ≡ modified p name a
+modified_is p name k a h = ap (λ (n : ℕ). record { identifier = p.identifier; case = 0; sentence = n; name = name; access = no_span; own = p.span }) h
+
+module _ (access own : Span) where
+  -- the label by whether the spans are equal
+  -- the definition's own choice
+  abbrev label_if : Bool → Span
+  label_if true = no_span
+  label_if false = access
+
+  -- spans of different starts
+  pub label_starts : (access.start ≡ own.start → ⊥) → access ≡ access_label access own
+  label_starts n = ap label_if (span_differs access own n)
+
+  -- spans of different ends
+  pub label_ends : access.start ≡ own.start → (access.end ≡ own.end → ⊥) → access ≡ access_label access own
+  label_ends e n = ap label_if (sym (ne_eqb access.end own.end n) ∙ span_ends access own e)
+
+  -- equal spans
+  -- the place's own is the one label
+  pub label_none : access.start ≡ own.start → access.end ≡ own.end → record { start = 4294967295; end = 4294967295 } ≡ access_label access own
+  label_none e h = ap label_if (sym (eq-eqb access.end own.end h) ∙ span_ends access own e)
+
+-- an access before the declaration
+-- its labels are the access span, unless it equals the place's, then the place's
+pub hoisted_is : (p : Place) (name : ℕ) (access label : Span) → label ≡ access_label access p.span
+    → record { identifier = p.identifier; case = 1; sentence = 0; name = name; access = label; own = p.span } ≡ hoisted_access p name access
+hoisted_is p name access label h = ap (λ (x : Span). record { identifier = p.identifier; case = 1; sentence = 0; name = name; access = x; own = p.span }) h
+
+-- ---- a mutation that is an error is reported
+
+-- what the code has of a report: the diagnostic's numbers, or a refusal, and the context after
+abbrev pub Numbered : List ℕ → List ℕ → Diagnostic → ℕ → AliasingDiagnostic → Type 0
+Numbered cs us d n x = (vs ss os : List ℕ) (r : Run) → intern_diagnostic d (world vs ss cs os r) ≡ answer n x (world vs ss us os r)
+
+module _ (cs us : List ℕ) (r : Run) (p : Place) (name : ℕ) (d : Diagnostic) (n : ℕ) (x : AliasingDiagnostic) (w : name ≡ Lent.name_of cs p.identifier) where
+  module _ (a : AbstractValue) (q : d ≡ modified p name a) (g : Numbered cs us d n x) where
+    -- the diagnostic of the definition is the code's
+    same_modified : (vs ss os : List ℕ) → intern_diagnostic (modified p name a) (world vs ss cs os r) ≡ answer n x (world vs ss us os r)
+    same_modified vs ss os = ap (λ (y : Diagnostic). intern_diagnostic y (world vs ss cs os r)) (sym q) ∙ g vs ss os r
+
+    -- a 257th diagnostic or instance
+    pub modified_refused : ¬ (n ≡ 0) → (again : AliasingEffect → M (World lent) Done) (e : AliasingEffect) (ps : List Place) (vs ss os : List ℕ)
+        → report_modified again p a (world vs ss cs os r) ≡ sequel n (world vs ss us os r) (follow again e ps Nothing)
+    unfolding report_modified ask
+    modified_refused z again e ps vs ss os =
+        bind_ok _ _ _ _ _ _ (ap (λ (k : ℕ). ok k (world vs ss cs os r)) (sym w)) (bind_refused _ _ n _ _ x tt (same_modified vs ss os) z)
+        ∙ sym (sequel_refused n _ _ z)
+
+    module _ (b : Bool) (f : b ≡ is_frozen a.kind) where
+      -- a value that is surely Frozen
+      pub modified_frozen : n ≡ 0 → b ≡ true → (again : AliasingEffect → M (World lent) Done) (e : AliasingEffect) (ps : List Place) (vs ss os : List ℕ)
+          → report_modified again p a (world vs ss cs os r) ≡ sequel 0 (world vs ss us os r) (follow again e ps (Derived (Head.MutateFrozen p x)))
+      unfolding report_modified ask follow effect_with
+      modified_frozen z h again e ps vs ss os =
+          bind_ok _ _ _ _ _ _ (ap (λ (k : ℕ). ok k (world vs ss cs os r)) (sym w)) (bind_goes _ _ n _ _ x _ (same_modified vs ss os) z (if_true _ _ _ _ _ (sym f ∙ h) refl))
+          ∙ sym (sequel_goes 0 _ _ refl)
+
+      -- any other
+      pub modified_global : n ≡ 0 → b ≡ false → (again : AliasingEffect → M (World lent) Done) (e : AliasingEffect) (ps : List Place) (vs ss os : List ℕ)
+          → report_modified again p a (world vs ss cs os r) ≡ sequel 0 (world vs ss us os r) (follow again e ps (Derived (Head.MutateGlobal p x)))
+      unfolding report_modified ask follow effect_with
+      modified_global z h again e ps vs ss os =
+          bind_ok _ _ _ _ _ _ (ap (λ (k : ℕ). ok k (world vs ss cs os r)) (sym w)) (bind_goes _ _ n _ _ x _ (same_modified vs ss os) z (if_false _ _ _ _ _ (sym f ∙ h) refl))
+          ∙ sym (sequel_goes 0 _ _ refl)
+
+  module _ (access : Span) (v : access ≡ Lent.access_span cs p.identifier) (q : d ≡ hoisted_access p name access) (g : Numbered cs us d n x) where
+    -- the diagnostic of the definition is the code's
+    same_hoisted : (vs ss os : List ℕ) → intern_diagnostic (hoisted_access p name access) (world vs ss cs os r) ≡ answer n x (world vs ss us os r)
+    same_hoisted vs ss os = ap (λ (y : Diagnostic). intern_diagnostic y (world vs ss cs os r)) (sym q) ∙ g vs ss os r
+
+    -- a 257th diagnostic or instance
+    pub hoisted_refused : ¬ (n ≡ 0) → (again : AliasingEffect → M (World lent) Done) (e : AliasingEffect) (ps : List Place) (vs ss os : List ℕ)
+        → report_hoisted again p (world vs ss cs os r) ≡ sequel n (world vs ss us os r) (follow again e ps Nothing)
+    unfolding report_hoisted ask
+    hoisted_refused z again e ps vs ss os =
+        bind_ok _ _ _ _ _ _ (ap (λ (k : ℕ). ok k (world vs ss cs os r)) (sym w))
+        (bind_ok _ _ _ _ _ _ (ap (λ (k : Span). ok k (world vs ss cs os r)) (sym v)) (bind_refused _ _ n _ _ x tt (same_hoisted vs ss os) z))
+        ∙ sym (sequel_refused n _ _ z)
+
+    -- an access before the declaration
+    pub hoisted_goes : n ≡ 0 → (again : AliasingEffect → M (World lent) Done) (e : AliasingEffect) (ps : List Place) (vs ss os : List ℕ)
+        → report_hoisted again p (world vs ss cs os r) ≡ sequel 0 (world vs ss us os r) (follow again e ps (Derived (Head.MutateFrozen p x)))
+    unfolding report_hoisted ask follow effect_with
+    hoisted_goes z again e ps vs ss os =
+        bind_ok _ _ _ _ _ _ (ap (λ (k : ℕ). ok k (world vs ss cs os r)) (sym w))
+        (bind_ok _ _ _ _ _ _ (ap (λ (k : Span). ok k (world vs ss cs os r)) (sym v)) (bind_goes _ _ n _ _ x _ (same_hoisted vs ss os) z refl))
+        ∙ sym (sequel_goes 0 _ _ refl)
+
+-- ---- what a mutation lists, by its result
+
+module _ (vs ss cs : List ℕ) (r : Run) (p : Place) (y : MutationResult) (again : AliasingEffect → M (World lent) Done) (e : AliasingEffect) (ps : List Place) (os : List ℕ) where
+  -- no mutation
+  pub result_none : y ≡ Result.None → report again e p y (world vs ss cs os r) ≡ sequel 0 (world vs ss cs os r) (follow again e ps Nothing)
+  unfolding report follow
+  result_none h = ap (λ (k : MutationResult). report again e p k (world vs ss cs os r)) h ∙ sym (sequel_goes 0 _ _ refl)
+
+  -- a mutation of a ref
+  pub result_ref : y ≡ Result.MutateRef → report again e p y (world vs ss cs os r) ≡ sequel 0 (world vs ss cs os r) (follow again e ps Nothing)
+  unfolding report follow
+  result_ref h = ap (λ (k : MutationResult). report again e p k (world vs ss cs os r)) h ∙ sym (sequel_goes 0 _ _ refl)
+
+  -- a mutation that may be
+  pub result_mutate : y ≡ Result.Mutate → report again e p y (world vs ss cs os r) ≡ sequel 0 (world vs ss cs os r) (follow again e ps Itself)
+  unfolding report follow
+  result_mutate h = ap (λ (k : MutationResult). report again e p k (world vs ss cs os r)) h ∙ sym (sequel_goes 0 _ _ refl)
+
+  module _ (a : AbstractValue) (u : Run) (k : (cs os : List ℕ) → kind p.identifier (world vs ss cs os r) ≡ ok a (world vs ss cs os u)) (m : Res (World lent) Done) where
+    -- a mutation of a Global
+    pub result_global : y ≡ Result.MutateGlobal → report_modified again p a (world vs ss cs os u) ≡ m → report again e p y (world vs ss cs os r) ≡ m
+    unfolding report
+    result_global h g = ap (λ (x : MutationResult). report again e p x (world vs ss cs os r)) h ∙ bind_ok _ _ _ _ _ _ (k cs os) g
+
+    module _ (b : Bool) (q : b ≡ Lent.is_hoisted cs p.identifier) (h : y ≡ Result.MutateFrozen) where
+      -- a mutation of a frozen place that is hoisted
+      pub result_hoisted : b ≡ true → report_hoisted again p (world vs ss cs os u) ≡ m → report again e p y (world vs ss cs os r) ≡ m
+      unfolding report ask
+      result_hoisted t g =
+          ap (λ (x : MutationResult). report again e p x (world vs ss cs os r)) h
+          ∙ bind_ok _ _ _ _ _ _ (k cs os) (bind_ok _ _ _ _ _ _ refl (if_true _ _ _ _ _ (sym q ∙ t) g))
+
+      -- of one that is not
+      pub result_frozen : b ≡ false → report_modified again p a (world vs ss cs os u) ≡ m → report again e p y (world vs ss cs os r) ≡ m
+      unfolding report ask
+      result_frozen t g =
+          ap (λ (x : MutationResult). report again e p x (world vs ss cs os r)) h
+          ∙ bind_ok _ _ _ _ _ _ (k cs os) (bind_ok _ _ _ _ _ _ refl (if_false _ _ _ _ _ (sym q ∙ t) g))
+
+-- ---- a mutation of a place
+
+module _ (vs ss cs : List ℕ) (r : Run) (variant : MutateVariant) (p : Place) (b : Bool) (q : b ≡ Lent.is_ref cs p.identifier) (again : AliasingEffect → M (World lent) Done) (e : AliasingEffect) (ps : List Place) (os : List ℕ) where
+  -- a ref
+  pub mutation_ref : b ≡ true → mutating again variant e p (world vs ss cs os r) ≡ sequel 0 (world vs ss cs os r) (follow again e ps Nothing)
+  unfolding mutating mutate ask return report follow
+  mutation_ref h =
+      bind_ok _ _ _ _ _ _ (bind_ok _ _ _ _ _ _ refl (if_true _ _ _ _ _ (sym q ∙ h) refl)) refl
+      ∙ sym (sequel_goes 0 _ _ refl)
+
+  -- any other place
+  pub mutation_goes : (a : AbstractValue) (u : Run) (s : Bool) (y : MutationResult) (m : Res (World lent) Done) → b ≡ false
+      → ((cs os : List ℕ) → kind_with_span p.identifier p.span (world vs ss cs os r) ≡ ok a (world vs ss cs os u))
+      → s ≡ is_strict variant → y ≡ result_of s a.kind → report again e p y (world vs ss cs os u) ≡ m
+      → mutating again variant e p (world vs ss cs os r) ≡ m
+  unfolding mutating mutate ask return
+  mutation_goes a u s y m h k f z g =
+      bind_ok _ _ _ _ _ _
+      (bind_ok _ _ _ _ _ _ refl (if_false _ _ _ _ _ (sym q ∙ h) (bind_ok _ _ _ _ _ _ (k cs os) refl)))
+      (ap (λ (x : MutationResult). report again e p x (world vs ss cs os u)) (ap (λ (t : Bool). result_of t a.kind) (sym f) ∙ sym z) ∙ g)

@@ -1,0 +1,141 @@
+-- The call that an accepted image makes is lent lists of the right lengths: no refusal 1 but that of the state. Assumes nothing.
+use Prim.Native.Nat.{ℕ, zero, suc, ◌+◌, ◌*◌, ◌/◌, ◌%◌}
+use native.Mathlib.Omega.{arith}
+use Rattle.std.specs.Prelude.{◌≡◌, Bool, ◌||◌, List, eqb, take}
+use Rattle.std.proofs.Common.{sym, ◌∙◌, eq-eqb}
+use Rattle.std.proofs.Math.Path.{ap}
+use Rattle.std.proofs.Math.Bool.{false, not}
+use Rattle.std.proofs.Math.ListN.{length}
+use Rattle.std.proofs.Math.Seq.{length-take-le}
+use Rattle.lent_copies.specs.Copies.{zeros}
+use Rattle.lent_copies.proofs.Laws.Copy.{zeros_length}
+use Rattle.lent_sets.proofs.Laws.Row.{fit_set}
+use Rattle.lent_effects.proofs.Laws.EffectFrames.{effect_length}
+use Rattle.base_tests.proofs.Laws.Bool.{or_neither}
+use Rattle.refuse_entries.specs.Words as Words
+use Rattle.def_image.specs.Layout.{Image, identifiers, values, pairs, functions, candidates, count_of, lvalue, own}
+use Rattle.def_image.specs.Decode.{place_at}
+use Rattle.def_image.specs.Refusals.{refusal_of_words}
+use Rattle.image_decode.specs.Decoded.{after, decoded_value, decoded_values, decoded_pair, decoded_sets, decoded_identifier, decoded_identifiers, decoded_function, decoded_functions, decoded_context, decoded_candidate, decoded_candidates}
+use Rattle.image_decode.proofs.Laws.StateBack.{after_length, value_length}
+use Rattle.image_decode.proofs.Laws.ContextBack.{function_length, identifier_length, header_length}
+use Rattle.image_job.specs.Reading.{session_of, job_of, filled}
+use Rattle.call_outcome.specs.Calls.{Call, call, wrong_context, lengths_wrong, candidate_count}
+use Rattle.call_outcome.proofs.Laws.Class.{full_right}
+use Rattle.image_outcome.specs.Inferring.{job_call, image_call}
+use Rattle.laws_image_accepted.proofs.Laws.Facts.{few_identifiers, few_candidates}
+
+-- ---- the tables of an image, each with its length
+
+module _ (im : Image) where
+  -- the 1,024 values
+  pub values_length : length (decoded_values im (count_of im values) (zeros 1024)) ≡ 1024
+  unfolding decoded_values
+  values_length = after_length (decoded_value im) (value_length im) (count_of im values) (zeros 1024) ∙ zeros_length 1024
+
+  -- the rows of 512 identifiers
+  -- before those past the image's own are cut off
+  pub rows_length : (n : ℕ) → length (after (decoded_pair im) n (zeros 8192)) ≡ 8192
+  unfolding after decoded_pair
+  rows_length zero = zeros_length 8192
+  rows_length (suc n) = fit_set 512 (after (decoded_pair im) n (zeros 8192)) _ _ (rows_length n)
+
+  -- the context
+  pub context_length : length (decoded_context im (zeros 238534)) ≡ 238534
+  unfolding decoded_context decoded_functions decoded_identifiers
+  context_length =
+      after_length (decoded_function im) (function_length im) (count_of im functions) _
+      ∙ after_length (decoded_identifier im) (identifier_length im) (count_of im identifiers) _
+      ∙ header_length im (zeros 238534)
+      ∙ zeros_length 238534
+
+  -- the records of 64 candidates
+  -- before those past the image's own are cut off
+  pub records_length : length (decoded_candidates im (count_of im candidates) (zeros 6272)) ≡ 6272
+  unfolding decoded_candidates decoded_candidate
+  records_length = after_length (decoded_candidate im) (λ k c. effect_length _ c k _) (count_of im candidates) (zeros 6272) ∙ zeros_length 6272
+
+  -- ---- the call
+
+  -- the values that the call is lent
+  -- "values: number, kind, reasons"
+  abbrev pub lent_values : List ℕ
+  lent_values = decoded_values im (count_of im values) (zeros 1024)
+
+  -- the sets, of the image's own identifiers
+  -- "pairs: identifier, value"
+  abbrev pub lent_sets : List ℕ
+  lent_sets = take (16 * count_of im identifiers) (decoded_sets im (count_of im pairs) (zeros 8192))
+
+  -- the context
+  -- "The context is all but state and session"
+  abbrev pub lent_context : List ℕ
+  lent_context = decoded_context im (zeros 238534)
+
+  -- the records of the image's own candidates
+  -- 98 words each
+  abbrev pub lent_candidates : List ℕ
+  lent_candidates = take (98 * count_of im candidates) (decoded_candidates im (count_of im candidates) (zeros 6272))
+
+  -- the call with them
+  -- "the function-expression flag as no", an output list and scratch that are zero
+  abbrev pub lent_call : Call
+  lent_call =
+      call lent_values lent_sets false lent_context (session_of im) lent_candidates (place_at im (lvalue im)) (own im) (zeros 109760) (zeros (1024 + 16 * count_of im identifiers)) (zeros 25347)
+
+  -- it is the call that the image makes
+  pub call_is : image_call im ≡ lent_call
+  unfolding job_call job_of filled
+  call_is = λ i.
+      call (decoded_values im (count_of im values) (zeros (zeros_length 1024 i)))
+      (take (16 * count_of im identifiers) (decoded_sets im (count_of im pairs) (zeros (zeros_length 8192 i))))
+      false
+      (decoded_context im (zeros (zeros_length 238534 i)))
+      (session_of im)
+      (take (98 * count_of im candidates) (decoded_candidates im (count_of im candidates) (zeros (zeros_length 6272 i))))
+      (place_at im (lvalue im))
+      (own im)
+      (zeros 109760)
+      (zeros (1024 + 16 * count_of im identifiers))
+      (zeros 25347)
+
+  -- ---- of an accepted image
+
+  module _ (ok : refusal_of_words im ≡ 0) where
+    -- 16 words for each identifier
+    -- "identifiers (at most 512)"
+    pub sets_length : length lent_sets ≡ 16 * count_of im identifiers
+    unfolding decoded_sets
+    sets_length =
+        length-take-le (16 * count_of im identifiers) (decoded_sets im (count_of im pairs) (zeros 8192))
+        (let l = rows_length (count_of im pairs) in let m = few_identifiers im ok in omega arith)
+
+    -- so the sets say how many identifiers there are
+    pub sets_identifiers : Words.identifiers lent_sets ≡ count_of im identifiers
+    unfolding Words.identifiers
+    sets_identifiers = ap (λ (x : ℕ). x / 16) sets_length ∙ (let z : 16 * count_of im identifiers / 16 ≡ count_of im identifiers = omega arith in z)
+
+    -- 98 words for each candidate
+    -- "candidates (64)"
+    pub candidates_length : length lent_candidates ≡ 98 * count_of im candidates
+    candidates_length =
+        length-take-le (98 * count_of im candidates) (decoded_candidates im (count_of im candidates) (zeros 6272))
+        (let l = records_length in let m = few_candidates im ok in omega arith)
+
+    -- so their words say how many candidates there are
+    pub candidates_count : candidate_count lent_candidates ≡ count_of im candidates
+    candidates_count = ap (λ (x : ℕ). x / 98) candidates_length ∙ (let z : 98 * count_of im candidates / 98 ≡ count_of im candidates = omega arith in z)
+
+    -- no list has the wrong length
+    -- "1 a lent slice or image has the wrong length"
+    pub lengths_right : lengths_wrong (length lent_sets) (wrong_context lent_context lent_candidates) (length lent_candidates) (length (zeros 109760)) (length (zeros (1024 + 16 * count_of im identifiers))) (length (zeros 25347)) ≡ false
+    unfolding lengths_wrong
+    lengths_right =
+        or_neither (wrong_context lent_context lent_candidates) _ (full_right lent_context lent_candidates context_length)
+        (right (length lent_candidates % 98) 0 _ (ap (λ (x : ℕ). x % 98) candidates_length ∙ (let z : 98 * count_of im candidates % 98 ≡ 0 = omega arith in z))
+        (right (length (zeros 109760)) 109760 _ (zeros_length 109760)
+        (right (length (zeros 25347)) 25347 _ (zeros_length 25347)
+        (ap not (eq-eqb (length (zeros (1024 + 16 * count_of im identifiers))) (1024 + length lent_sets) (zeros_length (1024 + 16 * count_of im identifiers) ∙ ap (λ (x : ℕ). 1024 + x) (sym sets_length)))))))
+      where
+        right : (a b : ℕ) (x : Bool) → a ≡ b → x ≡ false → (not (eqb a b) || x) ≡ false
+        right a b x e h = or_neither (not (eqb a b)) x (ap not (eq-eqb a b e)) h

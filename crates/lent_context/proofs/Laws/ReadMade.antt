@@ -1,0 +1,129 @@
+-- Context places made Read: in the words as in the list. Assumes nothing.
+use Prim.Native.Nat.{ℕ, zero, suc, ◌+◌, ◌*◌, ◌≤◌, ◌<◌}
+use Rattle.std.specs.Prelude.{◌≡◌, Bool, ◌&&◌}
+use Rattle.std.proofs.Math.Path.{refl, ap, ap₂}
+use Rattle.std.proofs.Common.{sym, ◌∙◌, subst}
+use Rattle.std.proofs.Math.Bool.{true, false}
+use Rattle.std.proofs.lemmas.Bool.{false≢true}
+use mathlib.Core.List.{List, ◌∷◌}
+use native.Mathlib.Omega.{arith}
+use lib.Dec.{eqb, eqb→eq}
+use Rattle.std.proofs.Math.ListN.{length}
+use Rattle.base_tests.specs.Tests.{ite}
+use Rattle.def_effects.specs.declared.Place.{Place}
+use Rattle.def_effects.specs.Places.{Capture, Read}
+use Rattle.def_transfer.specs.Pure.{read_only}
+use Rattle.lent_tables.specs.Words.{within, field, put_field, place_in, places_in, end}
+use Rattle.lent_tables.proofs.Laws.Word.{within_record, within_word, field_out, put_length, put_record}
+use Rattle.lent_layout.specs.Layout as Layout
+use Rattle.lent_context.specs.Lent.{read_place, read_places, make_read}
+use Rattle.lent_tables.proofs.Laws.Back.{word_back, word_beside, place_same}
+
+-- what each write of a place's effect keeps, making places Read keeps
+module _ (f i : ℕ) (P : List ℕ → Type 0) (s : (d : List ℕ) (k x : ℕ) → P d → P (put_field Layout.contexts d f (k * 5 + 1) x)) where
+  read_place_is : (k : ℕ) (c : List ℕ) → P c → P (read_place f i k c)
+  unfolding read_place
+  read_place_is k c h = go (eqb (field Layout.contexts c f (k * 5)) i && eqb (field Layout.contexts c f (k * 5 + 1)) Capture)
+    where
+      go : (b : Bool) → P (ite b (put_field Layout.contexts c f (k * 5 + 1) Read) c)
+      go true = s c k Read h
+      go false = h
+
+  read_places_is : (k n : ℕ) (c : List ℕ) → P c → P (read_places f i k n c)
+  unfolding read_places
+  read_places_is k zero c h = h
+  read_places_is k (suc n) c h = read_places_is (suc k) n (read_place f i k c) (read_place_is k c h)
+
+  -- all the places of a function
+  pub read_keeps : (c : List ℕ) → P c → P (make_read c f i)
+  unfolding make_read
+  read_keeps c h = read_places_is 0 (field Layout.functions c f 1) c h
+
+and_second : (a b : Bool) → (a && b) ≡ true → b ≡ true
+and_second true b e = e
+and_second false b e = absurd (false≢true e)
+
+-- a word that reads as 3 stands in the table
+capture_within : (c : List ℕ) (f w : ℕ) → eqb (field Layout.contexts c f w) Capture ≡ true → within Layout.contexts f w ≡ true
+capture_within c f w e = go (within Layout.contexts f w) refl
+  where
+    go : (b : Bool) → within Layout.contexts f w ≡ b → b ≡ true
+    go true p = refl
+    go false p =
+        let z : field Layout.contexts c f w ≡ 0 = field_out Layout.contexts c f w p in
+        let y : field Layout.contexts c f w ≡ 3 = eqb→eq (field Layout.contexts c f w) 3 (subst (λ (b : Bool). lib.Dec.T b) (sym e) tt) in
+        absurd (omega arith)
+
+module _ (f i : ℕ) where
+  abbrev test : List ℕ → ℕ → Bool
+  test c k = eqb (field Layout.contexts c f (k * 5)) i && eqb (field Layout.contexts c f (k * 5 + 1)) Capture
+
+  -- one place: any word but its second stays
+  read_beside : (k : ℕ) (c : List ℕ) (v : ℕ) → (k * 5 + 1 ≡ v → ⊥) → field Layout.contexts (read_place f i k c) f v ≡ field Layout.contexts c f v
+  unfolding read_place
+  read_beside k c v n = go (test c k)
+    where
+      go : (b : Bool) → field Layout.contexts (ite b (put_field Layout.contexts c f (k * 5 + 1) Read) c) f v ≡ field Layout.contexts c f v
+      go true = word_beside Layout.contexts f c (k * 5 + 1) Read v n
+      go false = refl
+
+  -- several: the words before them stay
+  reads_beside : (k n : ℕ) (c : List ℕ) (v : ℕ) → v < k * 5 → field Layout.contexts (read_places f i k n c) f v ≡ field Layout.contexts c f v
+  unfolding read_places
+  reads_beside k zero c v l = refl
+  reads_beside k (suc n) c v l = reads_beside (suc k) n (read_place f i k c) v (omega arith) ∙ read_beside k c v (λ e. omega arith)
+
+  read_length : (k : ℕ) (c : List ℕ) → length (read_place f i k c) ≡ length c
+  unfolding read_place
+  read_length k c = go (test c k)
+    where
+      go : (b : Bool) → length (ite b (put_field Layout.contexts c f (k * 5 + 1) Read) c) ≡ length c
+      go true = put_length Layout.contexts c f (k * 5 + 1) Read
+      go false = refl
+
+  abbrev made : Place → Place
+  made p = record { identifier = p.identifier; effect = elim (eqb p.identifier i && eqb p.effect Capture) [ true ↦ Read | false ↦ p.effect ]; reactive = p.reactive; span = p.span }
+
+  -- the place itself
+  read_at : (k : ℕ) (c : List ℕ) → length c ≡ 238534 → place_in Layout.contexts (read_place f i k c) f (k * 5) ≡ made (place_in Layout.contexts c f (k * 5))
+  unfolding read_place place_in
+  read_at k c long = go (test c k) (λ e. capture_within c f (k * 5 + 1) (and_second (eqb (field Layout.contexts c f (k * 5)) i) _ e))
+    where
+      go : (b : Bool) → (b ≡ true → within Layout.contexts f (k * 5 + 1) ≡ true) → place_in Layout.contexts (ite b (put_field Layout.contexts c f (k * 5 + 1) Read) c) f (k * 5)
+          ≡ (record { identifier = field Layout.contexts c f (k * 5); effect = elim b as (λ _. ℕ) [ true ↦ Read | false ↦ field Layout.contexts c f (k * 5 + 1) ]; reactive = field Layout.contexts c f (k * 5 + 2); span = record { start = field Layout.contexts c f (k * 5 + 3); end = field Layout.contexts c f (k * 5 + 4) } })
+      go true h =
+          let row : f < 64 = within_record Layout.contexts f (k * 5 + 1) (h refl) in
+          let word : k * 5 + 1 < 80 = within_word Layout.contexts f (k * 5 + 1) (h refl) in
+          λ j. record {
+            identifier = word_beside Layout.contexts f c (k * 5 + 1) Read (k * 5) (λ e. omega arith) j;
+            effect = word_back Layout.contexts f c (k * 5 + 1) Read row word (let z : 12485 + f * 80 + 80 ≤ length c = omega arith in z) j;
+            reactive = word_beside Layout.contexts f c (k * 5 + 1) Read (k * 5 + 2) (λ e. omega arith) j;
+            span = record { start = word_beside Layout.contexts f c (k * 5 + 1) Read (k * 5 + 3) (λ e. omega arith) j; end = word_beside Layout.contexts f c (k * 5 + 1) Read (k * 5 + 4) (λ e. omega arith) j };
+          }
+      go false h = refl
+
+  -- places whose words stay
+  places_from_is : (c d : List ℕ) (a k n : ℕ) → a ≤ k * 5 → ((v : ℕ) → a ≤ v → field Layout.contexts d f v ≡ field Layout.contexts c f v) → places_in Layout.contexts d f 0 k n ≡ places_in Layout.contexts c f 0 k n
+  unfolding places_in
+  places_from_is c d a k zero l h = refl
+  places_from_is c d a k (suc n) l h =
+      ap₂ (λ (p : Place) (ps : List Place). p ∷ ps) (place_same Layout.contexts f c d (0 + k * 5) (λ v x y. h v (omega arith))) (places_from_is c d a (suc k) n (omega arith) h)
+
+  reads_at : (k n : ℕ) (c : List ℕ) → length c ≡ 238534 → places_in Layout.contexts (read_places f i k n c) f 0 k n ≡ read_only i (places_in Layout.contexts c f 0 k n)
+  unfolding places_in read_places read_only
+  reads_at k zero c long = refl
+  reads_at k (suc n) c long =
+      let e : 0 + k * 5 ≡ k * 5 = omega arith in
+      ap₂ (λ (p : Place) (ps : List Place). p ∷ ps)
+      (place_same Layout.contexts f (read_place f i k c) (read_places f i (suc k) n (read_place f i k c)) (0 + k * 5) (λ v x y. reads_beside (suc k) n (read_place f i k c) v (omega arith))
+      ∙ ap (place_in Layout.contexts (read_place f i k c) f) e ∙ read_at k c long ∙ ap (λ (w : ℕ). made (place_in Layout.contexts c f w)) (sym e))
+      (reads_at (suc k) n (read_place f i k c) (read_length k c ∙ long)
+      ∙ ap (read_only i) (places_from_is c (read_place f i k c) (suc k * 5) (suc k) n (omega arith) (λ v l. read_beside k c v (λ q. omega arith))))
+
+  -- those of another function
+  pub read_other : (c : List ℕ) (g : ℕ) → ¬ (f ≡ g) → (v : ℕ) → field Layout.contexts (make_read c f i) g v ≡ field Layout.contexts c g v
+  read_other c g n v = read_keeps f i (λ (d : List ℕ). field Layout.contexts d g v ≡ field Layout.contexts c g v) (λ d k x h. put_record Layout.contexts d f (k * 5 + 1) x g v n ∙ h) c refl
+
+  pub read_made : (c : List ℕ) → length c ≡ 238534 → places_in Layout.contexts (make_read c f i) f 0 0 (field Layout.functions c f 1) ≡ read_only i (places_in Layout.contexts c f 0 0 (field Layout.functions c f 1))
+  unfolding make_read
+  read_made c long = reads_at 0 (field Layout.functions c f 1) c long

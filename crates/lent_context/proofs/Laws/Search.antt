@@ -1,0 +1,90 @@
+-- Laws by which the searches of a context's tables meet the definitions. Assumes nothing.
+use Rattle.std.specs.Prelude.{ℕ, suc, ◌+◌, ◌-◌, ◌≤◌, ◌<◌, ◌≡◌, refl, Bool, true, false, not, List, [], ◌∷◌, eqb, get_or, set}
+use Rattle.std.proofs.Common.{arith, add-one, sym, ap, ap₂, ◌∙◌, eq-eqb, ne_eqb}
+use Rattle.std.proofs.Math.Option.{Option, none, some}
+use Rattle.def_effects.specs.Effects.{AliasingEffect}
+use Rattle.def_effects.specs.Keys.{EffectKey, effect_key, eq_key}
+use Rattle.def_transfer.specs.Pure.{find_effect as first_under}
+use Rattle.lent_tables.specs.declared.Table.{Table}
+use Rattle.lent_effects.specs.Records.{effect_in}
+use Rattle.lent_keys.specs.KeyRecords as Keys
+use Rattle.lent_layout.specs.Layout as Layout
+use Rattle.lent_context.specs.Lent.{effects_in, interned_count, is_keyed, key_count, number_at, one_more, cached_at}
+use Rattle.lent_order.specs.Order.{order_at, inserted}
+use Rattle.base_tests.proofs.Laws.Choice.{ite_lt, ite_ge}
+use Rattle.lent_tables.specs.Words.{field}
+use Rattle.base_tests.specs.Tests.{ite}
+use Rattle.base_search.specs.declared.Spot.TheVariants.{At}
+
+-- ---- interned effects
+
+-- the count of interned effects is a word
+pub interned_is : (c : List ℕ) (x : ℕ) → x ≡ get_or c 12483 0 → x ≡ interned_count c
+unfolding interned_count
+interned_is c x e = e
+
+-- ---- the interned effects, one after the other
+
+-- the effects that are left, with one to look at
+pub effects_more : (t : Table) (c : List ℕ) (k n : ℕ) → k < n → effects_in t c k (n - k) ≡ effect_in t c k ∷ effects_in t c (k + 1) (n - (k + 1))
+unfolding effects_in
+effects_more t c k n h =
+    let m : n - k ≡ suc (n - (k + 1)) = omega arith in
+    ap (effects_in t c k) m ∙ ap (λ (z : ℕ). effect_in t c k ∷ effects_in t c z (n - (k + 1))) (sym (add-one k))
+
+-- the effects that are left when none is
+-- the loop's end
+pub effects_none : (t : Table) (c : List ℕ) (k n : ℕ) → n ≤ k → effects_in t c k (n - k) ≡ []
+unfolding effects_in
+effects_none t c k n h =
+    let m : n - k ≡ 0 = omega arith in
+    ap (effects_in t c k) m
+
+-- a search ends at an effect under the key
+pub search_ends : (e : AliasingEffect) (es : List AliasingEffect) (k : EffectKey) → eq_key k (effect_key e) ≡ true → first_under (e ∷ es) k ≡ some e
+unfolding first_under
+search_ends e es k h = ap (λ (b : Bool). elim b as (λ x. Option AliasingEffect) [ true ↦ some e | false ↦ first_under es k ]) h
+
+-- a search passes over an effect under another key
+pub search_goes : (e : AliasingEffect) (es : List AliasingEffect) (k : EffectKey) → eq_key k (effect_key e) ≡ false → first_under (e ∷ es) k ≡ first_under es k
+unfolding first_under
+search_goes e es k h = ap (λ (b : Bool). elim b as (λ x. Option AliasingEffect) [ true ↦ some e | false ↦ first_under es k ]) h
+
+-- a search of nothing finds nothing
+pub search_none : (k : EffectKey) → first_under [] k ≡ none
+unfolding first_under
+search_none k = refl
+
+-- ---- cached numbers
+
+-- the count of numbers with a key is a word
+pub keys_counted : (c : List ℕ) (x : ℕ) → x ≡ get_or c 37317 0 → x ≡ key_count c
+unfolding key_count
+keys_counted c x e = e
+
+-- the number at a place of the order: one with a key, or none
+pub number_there : (c : List ℕ) (j r w : ℕ) → r ≡ order_at Layout.key_order c j → w ≡ field Layout.cached c r 0 → (w ≡ 0 → ⊥) → some r ≡ number_at c (At j)
+unfolding is_keyed
+number_there c j r w e h n =
+    sym (ap (λ (x : ℕ). ite (not (eqb (field Layout.cached c x 0) 0)) (some x) none) (sym e) ∙ ap (λ (b : Bool). ite (not b) (some r) none) (ne_eqb (field Layout.cached c r 0) 0 (λ z. n (h ∙ z))))
+
+pub number_nowhere : (c : List ℕ) (j r w : ℕ) → r ≡ order_at Layout.key_order c j → w ≡ field Layout.cached c r 0 → w ≡ 0 → none ≡ number_at c (At j)
+unfolding is_keyed
+number_nowhere c j r w e h z =
+    sym (ap (λ (x : ℕ). ite (not (eqb (field Layout.cached c x 0) 0)) (some x) none) (sym e) ∙ ap (λ (b : Bool). ite (not b) (some r) none) (eq-eqb (field Layout.cached c r 0) 0 (sym h ∙ z)))
+
+-- one more, as far as a word can count
+pub more_one : (n : ℕ) → n < 4294967295 → n + 1 ≡ one_more n
+unfolding one_more
+more_one n h = add-one n ∙ sym (ite_lt n 4294967295 (suc n) n h)
+
+pub more_none : (n : ℕ) → 4294967295 ≤ n → n ≡ one_more n
+unfolding one_more
+more_none n h = sym (ite_ge n 4294967295 (suc n) n h)
+
+-- a number cached at a place of the order
+pub put_cached : (c d e f : List ℕ) (p n i k m : ℕ) (key : EffectKey) → i ≡ n → k ≡ key_count c → d ≡ Keys.put_key Layout.cached c i key → e ≡ inserted Layout.key_order p n k d → m ≡ one_more k → f ≡ set e 37317 m → f ≡ cached_at c p n key
+unfolding cached_at
+put_cached c d e f p n i k m key hi hk hd he hm hf =
+    hf ∙ ap₂ (λ (l : List ℕ) (x : ℕ). set l 37317 x)
+    (he ∙ ap₂ (λ (x : ℕ) (l : List ℕ). inserted Layout.key_order p n x l) hk (hd ∙ ap (λ (j : ℕ). Keys.put_key Layout.cached c j key) hi)) (hm ∙ ap one_more hk)

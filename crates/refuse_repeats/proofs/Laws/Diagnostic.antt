@@ -1,0 +1,156 @@
+-- Laws by which the searches of diagnostics before one meet the definitions. Assumes nothing.
+use Rattle.std.specs.Prelude.{ℕ, suc, max, ◌+◌, ◌-◌, ◌≤◌, ◌<◌, ◌≡◌, refl, Bool, ◌&&◌, eqb}
+use Rattle.std.proofs.Common.{arith, add-one, ◌∙◌, ⊎_elim}
+use Rattle.std.proofs.Math.Path.{sym, ap, ap₂}
+use Rattle.std.proofs.Math.Bool.{true, false, not}
+use mathlib.Core.List.{List, [], ◌∷◌}
+use Rattle.std.proofs.Math.Option.{Option, none, some}
+use borrow.Author.Tests.{eq-eqb, ne_eqb}
+use Rattle.def_effects.specs.declared.Diagnostic.{Diagnostic}
+use Rattle.def_transfer.specs.Diagnostics.{same_identity, same_labels}
+use Rattle.base_tests.specs.Tests.{is_some}
+use Rattle.def_transfer.specs.Pure.{Interned, identities, find_identity, find_instance}
+use Rattle.lent_tables.specs.Words.{field}
+use Rattle.lent_keys.specs.declared.Found.{Found}
+use Rattle.lent_keys.specs.declared.Found.TheVariants.{Nowhere, At}
+use Rattle.lent_keys.specs.KeyRecords.{option_of}
+use Rattle.lent_layout.specs.Layout as Layout
+use Rattle.lent_context.specs.Lent.{diagnostic_in, diagnostics_in}
+use Rattle.lent_diagnostics.specs.declared.Numbered.{Numbered}
+use Rattle.lent_diagnostics.specs.Numbered.{interned_of}
+use Rattle.base_tests.proofs.Laws.Bool.{or_first, or_second}
+use Rattle.base_tests.proofs.Laws.Order.{same_or_not}
+use Rattle.refuse_repeats.specs.Repeats.{number_or, right_identity, diagnostic_twice}
+
+-- the diagnostics that are left, with one to look at
+diagnostics_more : (c : List ℕ) (k n : ℕ) → k < n → diagnostics_in c k (n - k) ≡ diagnostic_in c k ∷ diagnostics_in c (k + 1) (n - (k + 1))
+unfolding diagnostics_in
+diagnostics_more c k n h =
+    let m : n - k ≡ suc (n - (k + 1)) = omega arith in
+    ap (diagnostics_in c k) m ∙ ap (λ (z : ℕ). diagnostic_in c k ∷ diagnostics_in c z (n - (k + 1))) (sym (add-one k))
+
+-- the diagnostics that are left when none is
+-- the loop's end
+diagnostics_none : (c : List ℕ) (k n : ℕ) → n ≤ k → diagnostics_in c k (n - k) ≡ []
+unfolding diagnostics_in
+diagnostics_none c k n h =
+    let m : n - k ≡ 0 = omega arith in
+    ap (diagnostics_in c k) m
+
+-- a loop begins with all n
+diagnostics_all : (c : List ℕ) (n : ℕ) → diagnostics_in c 0 n ≡ diagnostics_in c 0 (n - 0)
+diagnostics_all c n =
+    let a : n ≡ n - 0 = omega arith in
+    ap (diagnostics_in c 0) a
+
+-- the last of n diagnostics is counted
+-- the loop's end is the whole
+pub identities_end : (c : List ℕ) (k n most : ℕ) → n ≤ k → max 0 (identities (diagnostics_in c 0 (n - 0))) ≡ max most (identities (diagnostics_in c k (n - k))) → most ≡ identities (diagnostics_in c 0 n)
+unfolding identities
+identities_end c k n most l inv =
+    let z : identities (diagnostics_in c k (n - k)) ≡ 0 = ap identities (diagnostics_none c k n l) in
+    let y : identities (diagnostics_in c 0 n) ≡ identities (diagnostics_in c 0 (n - 0)) = ap identities (diagnostics_all c n) in
+    omega arith
+
+module _ (c : List ℕ) (d : Diagnostic) (k n : ℕ) (inv : find_identity (diagnostics_in c 0 (n - 0)) d ≡ find_identity (diagnostics_in c k (n - k)) d) where
+  -- the search ends at record k
+  pub identity_found : (x : Numbered) (b : Bool) → k < n → interned_of x ≡ diagnostic_in c k → b ≡ same_identity d x.diagnostic → b ≡ true → some x.identity ≡ find_identity (diagnostics_in c 0 n) d
+  unfolding find_identity
+  identity_found x b l g h z =
+      ap (λ (y : Interned). some y.identity) g
+      ∙ sym (ap (λ (ds : List Interned). find_identity ds d) (diagnostics_all c n) ∙ inv ∙ ap (λ (ds : List Interned). find_identity ds d) (diagnostics_more c k n l)
+      ∙ ap (λ (t : Bool). elim t as (λ x. Option ℕ) [ true ↦ some (diagnostic_in c k).identity | false ↦ find_identity (diagnostics_in c (k + 1) (n - (k + 1))) d ])
+      (ap (λ (y : Interned). same_identity d y.diagnostic) (sym g) ∙ sym h ∙ z))
+
+  -- the search ends without a record
+  pub identity_nowhere : n ≤ k → none ≡ find_identity (diagnostics_in c 0 n) d
+  unfolding find_identity
+  identity_nowhere l = sym (ap (λ (ds : List Interned). find_identity ds d) (diagnostics_all c n) ∙ inv ∙ ap (λ (ds : List Interned). find_identity ds d) (diagnostics_none c k n l))
+
+module _ (c : List ℕ) (n : ℕ) (d : Diagnostic) (o : Found) (h : option_of o ≡ find_identity (diagnostics_in c 0 n) d) where
+  -- no message is equal
+  right_next : (r : ℕ) → o ≡ Nowhere → r ≡ identities (diagnostics_in c 0 n) → r ≡ right_identity c n d
+  unfolding right_identity
+  right_next r e g = g ∙ ap (number_or (identities (diagnostics_in c 0 n))) (sym (ap option_of e) ∙ h)
+
+  -- a message is equal
+  right_found : (x : ℕ) → o ≡ At x → x ≡ right_identity c n d
+  unfolding right_identity
+  right_found x e = ap (number_or (identities (diagnostics_in c 0 n))) (sym (ap option_of e) ∙ h)
+
+module _ (c : List ℕ) (m : ℕ) (d : Diagnostic) (k n : ℕ) (inv : find_instance 0 (diagnostics_in c 0 (n - 0)) m d ≡ find_instance k (diagnostics_in c k (n - k)) m d) where
+  -- whether a record is the instance
+  -- the definition's test
+  abbrev is_instance : Interned → Bool
+  is_instance x = eqb m x.identity && same_labels d x.diagnostic
+
+  -- the search ends at record k
+  pub instance_found : (x : Numbered) (b : Bool) → k < n → interned_of x ≡ diagnostic_in c k → b ≡ (eqb m x.identity && same_labels d x.diagnostic) → b ≡ true → true ≡ is_some (find_instance 0 (diagnostics_in c 0 n) m d)
+  unfolding find_instance
+  instance_found x b l g h z =
+      sym (ap is_some (ap (λ (ds : List Interned). find_instance 0 ds m d) (diagnostics_all c n) ∙ inv ∙ ap (λ (ds : List Interned). find_instance k ds m d) (diagnostics_more c k n l)
+      ∙ ap (λ (t : Bool). elim t as (λ x. Option ℕ) [ true ↦ some k | false ↦ find_instance (suc k) (diagnostics_in c (k + 1) (n - (k + 1))) m d ]) (ap is_instance (sym g) ∙ sym h ∙ z)))
+
+  -- the search ends without a record
+  pub instance_nowhere : n ≤ k → false ≡ is_some (find_instance 0 (diagnostics_in c 0 n) m d)
+  unfolding find_instance
+  instance_nowhere l =
+      sym (ap is_some (ap (λ (ds : List Interned). find_instance 0 ds m d) (diagnostics_all c n) ∙ inv ∙ ap (λ (ds : List Interned). find_instance k ds m d) (diagnostics_none c k n l)))
+
+-- an identity that is not below those of some records is none of theirs
+none_yet : (i : ℕ) (ds : List Interned) (n : ℕ) (d : Diagnostic) → identities ds ≤ n → find_instance i ds n d ≡ none
+unfolding find_instance identities
+none_yet i [] n d l = refl
+none_yet i (x ∷ xs) n d l =
+    ap (λ (b : Bool). elim (b && same_labels d x.diagnostic) as (λ _. Option ℕ) [ true ↦ some i | false ↦ find_instance (suc i) xs n d ]) (ne_eqb n x.identity (λ e. omega arith))
+    ∙ none_yet (suc i) xs n d (omega arith)
+
+module _ (c : List ℕ) (k : ℕ) (x : Numbered) (g : interned_of x ≡ diagnostic_in c k) where
+  -- the identity of a record that was read
+  identity_is : x.identity ≡ field Layout.diagnostics c k 0
+  unfolding diagnostic_in
+  identity_is = ap (λ (y : Interned). y.identity) g
+
+  -- its diagnostic
+  diagnostic_is : x.diagnostic ≡ (diagnostic_in c k).diagnostic
+  diagnostic_is = ap (λ (y : Interned). y.diagnostic) g
+
+  -- the identity that it has to have
+  same_test : (m : ℕ) → m ≡ right_identity c k x.diagnostic → eqb x.identity m ≡ eqb (field Layout.diagnostics c k 0) (right_identity c k (diagnostic_in c k).diagnostic)
+  same_test m h = ap₂ eqb identity_is (h ∙ ap (right_identity c k) diagnostic_is)
+
+  -- another identity than it has to have
+  diagnostic_wrong : (m : ℕ) → m ≡ right_identity c k x.diagnostic → (x.identity ≡ m → ⊥) → true ≡ diagnostic_twice c k
+  unfolding diagnostic_twice
+  diagnostic_wrong m h n =
+      sym (or_first (not (eqb (field Layout.diagnostics c k 0) (right_identity c k (diagnostic_in c k).diagnostic))) (is_some (find_instance 0 (diagnostics_in c 0 k) (field Layout.diagnostics c k 0) (diagnostic_in c k).diagnostic))
+      (ap not (sym (same_test m h) ∙ ne_eqb x.identity m n)))
+
+  -- the right identity: an equal record decides
+  diagnostic_right : (m : ℕ) (r : Bool) → m ≡ right_identity c k x.diagnostic → x.identity ≡ m → r ≡ is_some (find_instance 0 (diagnostics_in c 0 k) x.identity x.diagnostic) → r ≡ diagnostic_twice c k
+  unfolding diagnostic_twice
+  diagnostic_right m r h e q =
+      q ∙ ap₂ (λ (i : ℕ) (d : Diagnostic). is_some (find_instance 0 (diagnostics_in c 0 k) i d)) identity_is diagnostic_is
+      ∙ sym (or_second (not (eqb (field Layout.diagnostics c k 0) (right_identity c k (diagnostic_in c k).diagnostic))) (is_some (find_instance 0 (diagnostics_in c 0 k) (field Layout.diagnostics c k 0) (diagnostic_in c k).diagnostic))
+      (ap not (sym (same_test m h) ∙ eq-eqb x.identity m e)))
+
+  -- a message that is new: it has the next identity, or another
+  pub diagnostic_new : (o : Found) (m : ℕ) → option_of o ≡ find_identity (diagnostics_in c 0 k) x.diagnostic → o ≡ Nowhere → m ≡ identities (diagnostics_in c 0 k) → not (eqb x.identity m) ≡ diagnostic_twice c k
+  diagnostic_new o m h e q = ⊎_elim next other (same_or_not x.identity m)
+    where
+      right : m ≡ right_identity c k x.diagnostic
+      right = right_next c k x.diagnostic o h m e q
+
+      next : x.identity ≡ m → not (eqb x.identity m) ≡ diagnostic_twice c k
+      next z = ap not (eq-eqb x.identity m z) ∙ diagnostic_right m false right z (sym (ap is_some (none_yet 0 (diagnostics_in c 0 k) x.identity x.diagnostic (omega arith))))
+
+      other : (x.identity ≡ m → ⊥) → not (eqb x.identity m) ≡ diagnostic_twice c k
+      other n = ap not (ne_eqb x.identity m n) ∙ diagnostic_wrong m right n
+
+  -- a message that is not: another identity, or an equal record before it
+  module _ (o : Found) (m : ℕ) (h : option_of o ≡ find_identity (diagnostics_in c 0 k) x.diagnostic) (e : o ≡ At m) where
+    pub diagnostic_other : (x.identity ≡ m → ⊥) → true ≡ diagnostic_twice c k
+    diagnostic_other n = diagnostic_wrong m (right_found c k x.diagnostic o h m e) n
+
+    pub diagnostic_same : (r : Bool) → x.identity ≡ m → r ≡ is_some (find_instance 0 (diagnostics_in c 0 k) x.identity x.diagnostic) → r ≡ diagnostic_twice c k
+    diagnostic_same r z q = diagnostic_right m r (right_found c k x.diagnostic o h m e) z q

@@ -1,0 +1,281 @@
+-- How a call comes to its outcome: the ways through the code, a law each. Assumes nothing.
+use Prim.Native.Nat.{ℕ, zero, suc, ◌^◌, ◌<◌}
+use native.Mathlib.Omega.{arith}
+use Rattle.std.proofs.Math.Path.{◌≡◌, ap}
+use Rattle.std.specs.Prelude.{refl, Bool, true, not, ◌||◌, List, eqb, ltb, ◌⊎◌}
+use Rattle.std.proofs.Common.{sym, ◌∙◌, inl, inr}
+use Rattle.std.proofs.Math.Bool.{false}
+use Rattle.std.proofs.Math.Option.{Option, none, some}
+use borrow.Author.Tests.{lt-ltb, ltb-true, not-false, eq-eqb, ne_eqb}
+use Rattle.base_tests.specs.Tests.{ite, is_some}
+use Rattle.base_tests.proofs.Laws.Bool.{never, or_first, or_second}
+use Rattle.refuse_entries.proofs.Laws.Accepted.{refusal_one, accepted_lent}
+use Rattle.refuse_entries.specs.Words.{state_refusal, identifiers}
+use Rattle.def_kinds.specs.declared.AbstractValue.{AbstractValue}
+use Rattle.def_kinds.specs.Kinds.{writable}
+use Rattle.def_effects.specs.declared.Span.{Span}
+use Rattle.def_effects.specs.declared.Session.{Session}
+use Rattle.lent_values.specs.Cells.{value_at, put_value}
+use Rattle.def_kinds.specs.Reasons.{are_reasons, is_reason}
+use Rattle.def_effects.specs.Places.{no_span}
+use Rattle.lent_sets.specs.Rows.{set_at, put_set, append_set}
+use Rattle.def_transfer.specs.Accepted.{not_anumber, not_yet_handed_out}
+use Rattle.def_transfer.specs.Pure as Pure
+use Rattle.def_transfer.specs.Monad.{Res, ok, M, Done, and_then, ◌>>=◌, ◌>>◌, return, done, if◌then◌else◌}
+use Rattle.def_transfer.specs.Tables.{World}
+use Rattle.def_transfer.specs.State as State
+use Rattle.state_ops.specs.Lists.{assigned_values, assigned_sets, freezes, frozen_values}
+use Rattle.state_ops.proofs.Laws.Text.{initialize_lists, define_lists, assign_lists, append_lists, freeze_lists}
+use Rattle.state_calls.specs.Calls as Calls
+use Rattle.state_calls.specs.Calls.{Lent, Outcome, outcome_of, call_with, start, rest_of, worst, refusal_of, outside, refusal1, refusal2, no_kind, kind_answer, test_answer}
+use Rattle.lent_work.specs.Access.{access_of}
+use Rattle.state_ops.specs.Use.{after_use}
+use Rattle.state_calls.specs.declared.KindAnswer.{KindAnswer}
+use Rattle.state_calls.specs.declared.TestAnswer.{TestAnswer}
+use Rattle.base_tests.proofs.Laws.Choice.{the}
+
+-- ---- the lower class
+
+module _ (r : ℕ) (out unfit : Bool) where
+  pub worst_1 : r ≡ 1 → 1 ≡ worst r out unfit
+  unfolding worst
+  worst_1 e = ap (λ (b : Bool). ite b 1 (ite (eqb r 3 || out) 3 (ite (eqb r 4 || unfit) 4 0))) (sym (eq-eqb r 1 e))
+
+  past_1 : (r ≡ 1 → ⊥) → ite (eqb r 3 || out) 3 (ite (eqb r 4 || unfit) 4 0) ≡ worst r out unfit
+  unfolding worst
+  past_1 h = ap (λ (b : Bool). ite b 1 (ite (eqb r 3 || out) 3 (ite (eqb r 4 || unfit) 4 0))) (sym (ne_eqb r 1 h))
+
+  pub worst_3 : (r ≡ 1 → ⊥) → r ≡ 3 → 3 ≡ worst r out unfit
+  worst_3 h e = ap (λ (b : Bool). ite b 3 (ite (eqb r 4 || unfit) 4 0)) (sym (or_first (eqb r 3) out (eq-eqb r 3 e))) ∙ past_1 h
+
+  pub worst_out : (r ≡ 1 → ⊥) → (r ≡ 3 → ⊥) → out ≡ true → 3 ≡ worst r out unfit
+  worst_out h i e = ap (λ (b : Bool). ite b 3 (ite (eqb r 4 || unfit) 4 0)) (sym (or_second (eqb r 3) out (ne_eqb r 3 i) ∙ e)) ∙ past_1 h
+
+  past_3 : (r ≡ 1 → ⊥) → (r ≡ 3 → ⊥) → out ≡ false → ite (eqb r 4 || unfit) 4 0 ≡ worst r out unfit
+  past_3 h i e = ap (λ (b : Bool). ite b 3 (ite (eqb r 4 || unfit) 4 0)) (sym (or_second (eqb r 3) out (ne_eqb r 3 i) ∙ e)) ∙ past_1 h
+
+  pub worst_4 : (r ≡ 1 → ⊥) → (r ≡ 3 → ⊥) → out ≡ false → r ≡ 4 → 4 ≡ worst r out unfit
+  worst_4 h i e f = ap (λ (b : Bool). ite b 4 0) (sym (or_first (eqb r 4) unfit (eq-eqb r 4 f))) ∙ past_3 h i e
+
+  pub worst_unfit : (r ≡ 1 → ⊥) → (r ≡ 3 → ⊥) → out ≡ false → (r ≡ 4 → ⊥) → (b : Bool) → unfit ≡ b → ite b 4 0 ≡ worst r out unfit
+  worst_unfit h i e f b g = ap (λ (x : Bool). ite x 4 0) (sym (or_second (eqb r 4) unfit (ne_eqb r 4 f) ∙ g)) ∙ past_3 h i e
+
+  -- no class at all: neither the state's nor the arguments'
+  pub worst_0 : worst r out unfit ≡ 0 → (r ≡ 1 → ⊥) × (r ≡ 3 → ⊥) × (r ≡ 4 → ⊥) × (out ≡ false) × (unfit ≡ false)
+  unfolding worst
+  worst_0 = go (eqb r 1) (eqb r 3) (eqb r 4) out unfit (eq-eqb r 1) (eq-eqb r 3) (eq-eqb r 4)
+    where
+      zero_one : {A : Type 0} → ◌≡◌ {A = ℕ} 1 0 → A
+      zero_one e = absurd (omega arith)
+
+      zero_three : {A : Type 0} → ◌≡◌ {A = ℕ} 3 0 → A
+      zero_three e = absurd (omega arith)
+
+      zero_four : {A : Type 0} → ◌≡◌ {A = ℕ} 4 0 → A
+      zero_four e = absurd (omega arith)
+
+      go : (a b d o u : Bool) → (r ≡ 1 → a ≡ true) → (r ≡ 3 → b ≡ true) → (r ≡ 4 → d ≡ true) → ◌≡◌ {A = ℕ} (ite a 1 (ite (b || o) 3 (ite (d || u) 4 0))) 0 → (r ≡ 1 → ⊥) × (r ≡ 3 → ⊥) × (r ≡ 4 → ⊥) × (o ≡ false) × (u ≡ false)
+      go true b d o u f g h e = zero_one e
+      go false true d o u f g h e = zero_three e
+      go false false d true u f g h e = zero_three e
+      go false false true false u f g h e = zero_four e
+      go false false false false true f g h e = zero_four e
+      go false false false false false f g h e = ((λ x. never false (f x) refl), (λ x. never false (g x) refl), (λ x. never false (h x) refl), refl, refl)
+
+-- a call that is not refused: its state is accepted, and nothing is wrong with its arguments
+module _ (vs ss : List ℕ) (s : Session) (out unfit : Bool) (z : refusal_of vs ss s out unfit ≡ 0) where
+  pub state_0 : state_refusal vs ss s.next s.access ≡ 0
+  unfolding refusal_of
+  state_0 = go (refusal_one vs ss s.next s.access) (worst_0 _ out unfit z)
+    where
+      go : (state_refusal vs ss s.next s.access ≡ 0) ⊎ ((state_refusal vs ss s.next s.access ≡ 1) ⊎ ((state_refusal vs ss s.next s.access ≡ 3) ⊎ (state_refusal vs ss s.next s.access ≡ 4)))
+          → (state_refusal vs ss s.next s.access ≡ 1 → ⊥) × (state_refusal vs ss s.next s.access ≡ 3 → ⊥) × (state_refusal vs ss s.next s.access ≡ 4 → ⊥) × (out ≡ false) × (unfit ≡ false)
+          → state_refusal vs ss s.next s.access ≡ 0
+      go (inl e) h = e
+      go (inr (inl e)) h = absurd (h.0 e)
+      go (inr (inr (inl e))) h = absurd (h.1 e)
+      go (inr (inr (inr e))) h = absurd (h.2 e)
+
+  pub in_range : out ≡ false
+  unfolding refusal_of
+  in_range = (worst_0 _ out unfit z).3
+
+  pub fit : unfit ≡ false
+  unfolding refusal_of
+  fit = (worst_0 _ out unfit z).4
+
+  -- an identifier of the list is one of the 512
+  pub inside_most : (i : ℕ) → outside ss i ≡ false → i < 512
+  unfolding outside
+  inside_most i e = let h : i < identifiers ss = ltb-true _ _ (not-false _ e) in let g = (accepted_lent vs ss s.next s.access state_0).most in omega arith
+
+-- ---- refused before anything is done, or the definition
+
+module _ {A : Type 0} (ref : Bool) (empty : A) (m : M (World Lent) A) (vs ss : List ℕ) (s : Session) where
+  pub call_refused : (n k : ℕ) → n ≡ k → (n ≡ 0 → ⊥) → record { refusal = n; answer = empty; values = vs; sets = ss; session = s } ≡ call_with ref k empty m vs ss s
+  unfolding call_with
+  call_refused zero k e h = absurd (h refl)
+  call_refused (suc n) k e h = ap (λ x. call_with ref x empty m vs ss s) e
+
+  pub call_runs : (n k : ℕ) (a : A) (w : World Lent) → n ≡ k → n ≡ 0 → m (start ref vs ss s) ≡ ok a w
+      → record { refusal = n; answer = a; values = w.state.values; sets = w.state.sets; session = w.rest.session } ≡ call_with ref k empty m vs ss s
+  unfolding call_with outcome_of
+  call_runs n k a w e z r =
+      ap (λ x. record { refusal = x; answer = a; values = w.state.values; sets = w.state.sets; session = w.rest.session }) z
+      ∙ ap (outcome_of empty) (sym r)
+      ∙ ap (λ x. call_with ref x empty m vs ss s) (sym z ∙ e)
+
+-- ---- a use of a place
+
+-- the definition records just that
+pub kind_runs : (ref : Bool) (vs ss : List ℕ) (s : Session) (i : ℕ) (span : Span) → i < 512
+    → State.kind_with_span i span (start ref vs ss s) ≡ ok (State.kind_of (value_at vs) (set_at ss i)) (start ref vs ss (after_use ss s i span))
+unfolding State.kind_with_span State.set_of State.peek State.record_access State.change after_use access_of done if◌then◌else◌ return ◌>>◌ ◌>>=◌ and_then
+kind_runs ref vs ss s i span h = go (set_at ss i) (eqb s.access 0) (ltb i 512) (lt-ltb i 512 h)
+  where
+    go : (o : Option ℕ) (b c : Bool) → c ≡ true
+        → and_then {W = World Lent} {A = Done} {B = AbstractValue} (elim (is_some o) as (λ x. Res (World Lent) Done) [ true ↦ ok tt (start ref vs ss s) | false ↦ ok tt (start ref vs ss (elim b as (λ x. Session) [ true ↦ record { next = s.next; access = suc i; span = span; entries = s.entries } | false ↦ s ])) ]) (λ _. State.peek i)
+        ≡ ok (State.kind_of (value_at vs) (set_at ss i)) (start ref vs ss (ite (is_some o) s (ite b (record { next = s.next; access = ite c (suc i) 0; span = span; entries = s.entries }) s)))
+    go (some x) b c e = refl
+    go none true true e = refl
+    go none true false e = never false e refl
+    go none false c e = refl
+
+pub write_runs : (vs ss : List ℕ) (s : Session) (i : ℕ) → State.may_write i (start false vs ss s) ≡ ok (writable (State.kind_of (value_at vs) (set_at ss i)).kind) (start false vs ss s)
+unfolding State.may_write State.peek return ◌>>=◌ and_then
+write_runs vs ss s i = refl
+
+pub defined_runs : (vs ss : List ℕ) (s : Session) (i : ℕ) → State.is_defined i (start false vs ss s) ≡ ok (is_some (set_at ss i)) (start false vs ss s)
+unfolding State.is_defined State.set_of return ◌>>=◌ and_then
+defined_runs vs ss s i = go (set_at ss i)
+  where
+    go : (o : Option ℕ) → ok (is_some o) (start false vs ss s) ≡ ok (is_some o) (start false vs ss s)
+    go none = refl
+    go (some x) = refl
+
+-- ---- how each call ends
+
+module _ (vs ss : List ℕ) (s : Session) (i : ℕ) where
+  pub inside1 : refusal1 vs ss s i ≡ 0 → i < 512
+  unfolding refusal1
+  inside1 z = inside_most vs ss s (outside ss i) false z i (in_range vs ss s (outside ss i) false z)
+
+  pub kind_ends : (span : Span) (n : ℕ) (a : AbstractValue) (t : Session) → n ≡ refusal1 vs ss s i → n ≡ 0 → a ≡ State.kind_of (value_at vs) (set_at ss i) → t ≡ after_use ss s i span
+      → record { refusal = n; value = a; session = t } ≡ kind_answer (Calls.kind_with_span vs ss s i span)
+  unfolding Calls.kind_with_span
+  kind_ends span n a t e z f g =
+      ap (λ (x : AbstractValue). the KindAnswer (record { refusal = n; value = x; session = t })) f
+      ∙ ap (λ (x : Session). the KindAnswer (record { refusal = n; value = State.kind_of (value_at vs) (set_at ss i); session = x })) g
+      ∙ ap kind_answer (call_runs false no_kind (State.kind_with_span i span) vs ss s n (refusal1 vs ss s i) _ _ e z (kind_runs false vs ss s i span (inside1 (sym e ∙ z))))
+
+  pub kind_refused : (span : Span) (n : ℕ) → n ≡ refusal1 vs ss s i → (n ≡ 0 → ⊥) → record { refusal = n; value = no_kind; session = s } ≡ kind_answer (Calls.kind_with_span vs ss s i span)
+  unfolding Calls.kind_with_span
+  kind_refused span n e h = ap kind_answer (call_refused false no_kind (State.kind_with_span i span) vs ss s n (refusal1 vs ss s i) e h)
+
+  pub write_ends : (n : ℕ) (a : AbstractValue) (b : Bool) → n ≡ refusal1 vs ss s i → n ≡ 0 → a ≡ State.kind_of (value_at vs) (set_at ss i) → b ≡ writable a.kind
+      → record { refusal = n; answer = b } ≡ test_answer (Calls.may_write vs ss s i)
+  unfolding Calls.may_write
+  write_ends n a b e z f g =
+      ap (λ (x : Bool). the TestAnswer (record { refusal = n; answer = x })) (g ∙ ap (λ (x : AbstractValue). writable x.kind) f)
+      ∙ ap test_answer (call_runs false false (State.may_write i) vs ss s n (refusal1 vs ss s i) _ _ e z (write_runs vs ss s i))
+
+  pub write_refused : (n : ℕ) → n ≡ refusal1 vs ss s i → (n ≡ 0 → ⊥) → record { refusal = n; answer = false } ≡ test_answer (Calls.may_write vs ss s i)
+  unfolding Calls.may_write
+  write_refused n e h = ap test_answer (call_refused false false (State.may_write i) vs ss s n (refusal1 vs ss s i) e h)
+
+  pub defined_ends : (n : ℕ) (b : Bool) → n ≡ refusal1 vs ss s i → n ≡ 0 → b ≡ is_some (set_at ss i) → record { refusal = n; answer = b } ≡ test_answer (Calls.is_defined vs ss s i)
+  unfolding Calls.is_defined
+  defined_ends n b e z g =
+      ap (λ (x : Bool). the TestAnswer (record { refusal = n; answer = x })) g
+      ∙ ap test_answer (call_runs false false (State.is_defined i) vs ss s n (refusal1 vs ss s i) _ _ e z (defined_runs vs ss s i))
+
+  pub defined_refused : (n : ℕ) → n ≡ refusal1 vs ss s i → (n ≡ 0 → ⊥) → record { refusal = n; answer = false } ≡ test_answer (Calls.is_defined vs ss s i)
+  unfolding Calls.is_defined
+  defined_refused n e h = ap test_answer (call_refused false false (State.is_defined i) vs ss s n (refusal1 vs ss s i) e h)
+
+  pub kind_plain : (a : KindAnswer) → a ≡ kind_answer (Calls.kind_with_span vs ss s i no_span) → a ≡ kind_answer (Calls.kind vs ss s i)
+  unfolding Calls.kind Calls.kind_with_span State.kind
+  kind_plain a e = e
+
+-- a call that changes the tables: the number, and what it leaves
+module _ (vs ss : List ℕ) (s : Session) (v : ℕ) (a : AbstractValue) (n : ℕ) (number reasons unfit out : Bool)
+    (p : number ≡ not_anumber (identifiers ss) v) (q : reasons ≡ are_reasons a.reason) (u : unfit ≡ not_yet_handed_out s.next v) (o : out ≡ (number || not reasons))
+    (e : n ≡ refusal_of vs ss s out unfit) where
+  initialize_refusal : n ≡ refusal_of vs ss s (not_anumber (identifiers ss) v || not (are_reasons a.reason)) (not_yet_handed_out s.next v)
+  initialize_refusal = cc
+
+  pub initialize_refused : (n ≡ 0 → ⊥) → (n ≡ (Calls.initialize vs ss s v a).refusal) × (vs ≡ (Calls.initialize vs ss s v a).values)
+  unfolding Calls.initialize
+  initialize_refused h =
+      let r = call_refused false tt (State.initialize v a) vs ss s n _ initialize_refusal h in
+      (ap (λ (x : Outcome Done). x.refusal) r, ap (λ (x : Outcome Done). x.values) r)
+
+  pub initialize_ends : (w : ℕ) (vs' : List ℕ) → n ≡ 0 → w ≡ v → vs' ≡ put_value vs w a → (n ≡ (Calls.initialize vs ss s v a).refusal) × (vs' ≡ (Calls.initialize vs ss s v a).values)
+  unfolding Calls.initialize
+  initialize_ends w vs' z f g =
+      let r = call_runs false tt (State.initialize v a) vs ss s n _ tt _ initialize_refusal z (initialize_lists Pure.pure false (rest_of false s) vs ss v a) in
+      (ap (λ (x : Outcome Done). x.refusal) r, g ∙ ap (λ x. put_value vs x a) f ∙ ap (λ (x : Outcome Done). x.values) r)
+
+module _ (vs ss : List ℕ) (s : Session) (i v : ℕ) (n : ℕ) (place number unfit out : Bool)
+    (p : place ≡ outside ss i) (q : number ≡ not_anumber (identifiers ss) v) (u : unfit ≡ not_yet_handed_out s.next v) (o : out ≡ (place || number))
+    (e : n ≡ refusal_of vs ss s out unfit) where
+  define_refusal : n ≡ refusal_of vs ss s (outside ss i || not_anumber (identifiers ss) v) (not_yet_handed_out s.next v)
+  define_refusal = cc
+
+  pub define_refused : (n ≡ 0 → ⊥) → (n ≡ (Calls.define vs ss s i v).refusal) × (ss ≡ (Calls.define vs ss s i v).sets)
+  unfolding Calls.define
+  define_refused h =
+      let r = call_refused false tt (State.define i v) vs ss s n _ define_refusal h in
+      (ap (λ (x : Outcome Done). x.refusal) r, ap (λ (x : Outcome Done). x.sets) r)
+
+  pub define_ends : (ss' : List ℕ) → n ≡ 0 → ss' ≡ put_set ss i (2 ^ v) → (n ≡ (Calls.define vs ss s i v).refusal) × (ss' ≡ (Calls.define vs ss s i v).sets)
+  unfolding Calls.define
+  define_ends ss' z g =
+      let r = call_runs false tt (State.define i v) vs ss s n _ tt _ define_refusal z (define_lists Pure.pure false (rest_of false s) vs ss i v) in
+      (ap (λ (x : Outcome Done). x.refusal) r, g ∙ ap (λ (x : Outcome Done). x.sets) r)
+
+module _ (vs ss : List ℕ) (s : Session) (into from : ℕ) (n : ℕ) where
+  pub assign_refused : n ≡ refusal2 vs ss s into from → (n ≡ 0 → ⊥)
+      → (n ≡ (Calls.assign vs ss s into from).refusal) × (vs ≡ (Calls.assign vs ss s into from).values) × (ss ≡ (Calls.assign vs ss s into from).sets)
+  unfolding Calls.assign
+  assign_refused e h =
+      let r = call_refused false tt (State.assign into from) vs ss s n _ e h in
+      (ap (λ (x : Outcome Done). x.refusal) r, ap (λ (x : Outcome Done). x.values) r, ap (λ (x : Outcome Done). x.sets) r)
+
+  pub assign_ends : (vs' ss' : List ℕ) → n ≡ refusal2 vs ss s into from → n ≡ 0 → (vs' ≡ assigned_values vs ss from) × (ss' ≡ assigned_sets ss into from)
+      → (n ≡ (Calls.assign vs ss s into from).refusal) × (vs' ≡ (Calls.assign vs ss s into from).values) × (ss' ≡ (Calls.assign vs ss s into from).sets)
+  unfolding Calls.assign
+  assign_ends vs' ss' e z g =
+      let r = call_runs false tt (State.assign into from) vs ss s n _ tt _ e z (assign_lists Pure.pure false (rest_of false s) vs ss into from) in
+      (ap (λ (x : Outcome Done). x.refusal) r, g.0 ∙ ap (λ (x : Outcome Done). x.values) r, g.1 ∙ ap (λ (x : Outcome Done). x.sets) r)
+
+  pub append_refused : n ≡ refusal2 vs ss s into from → (n ≡ 0 → ⊥) → (n ≡ (Calls.append_alias vs ss s into from).refusal) × (ss ≡ (Calls.append_alias vs ss s into from).sets)
+  unfolding Calls.append_alias
+  append_refused e h =
+      let r = call_refused false tt (State.append_alias into from) vs ss s n _ e h in
+      (ap (λ (x : Outcome Done). x.refusal) r, ap (λ (x : Outcome Done). x.sets) r)
+
+  pub append_ends : (ss' : List ℕ) → n ≡ refusal2 vs ss s into from → n ≡ 0 → ss' ≡ append_set ss into from
+      → (n ≡ (Calls.append_alias vs ss s into from).refusal) × (ss' ≡ (Calls.append_alias vs ss s into from).sets)
+  unfolding Calls.append_alias
+  append_ends ss' e z g =
+      let r = call_runs false tt (State.append_alias into from) vs ss s n _ tt _ e z (append_lists Pure.pure false (rest_of false s) vs ss into from) in
+      (ap (λ (x : Outcome Done). x.refusal) r, g ∙ ap (λ (x : Outcome Done). x.sets) r)
+
+module _ (vs ss : List ℕ) (s : Session) (i reason : ℕ) (n : ℕ) (place known out : Bool)
+    (p : place ≡ outside ss i) (q : known ≡ is_reason reason) (o : out ≡ (place || not known)) (e : n ≡ refusal_of vs ss s out false) where
+  freeze_refusal : n ≡ refusal_of vs ss s (outside ss i || not (is_reason reason)) false
+  freeze_refusal = cc
+
+  pub freeze_refused : (n ≡ 0 → ⊥) → (record { refusal = n; answer = false } ≡ test_answer (Calls.freeze vs ss s i reason)) × (vs ≡ (Calls.freeze vs ss s i reason).values)
+  unfolding Calls.freeze
+  freeze_refused h =
+      let r = call_refused false false (State.freeze i reason) vs ss s n _ freeze_refusal h in
+      (ap test_answer r, ap (λ (x : Outcome Bool). x.values) r)
+
+  pub freeze_ends : (b : Bool) (vs' : List ℕ) → n ≡ 0 → (b ≡ freezes vs ss i) × (vs' ≡ frozen_values vs ss i reason)
+      → (record { refusal = n; answer = b } ≡ test_answer (Calls.freeze vs ss s i reason)) × (vs' ≡ (Calls.freeze vs ss s i reason).values)
+  unfolding Calls.freeze
+  freeze_ends b vs' z g =
+      let r = call_runs false false (State.freeze i reason) vs ss s n _ _ _ freeze_refusal z (freeze_lists Pure.pure false (rest_of false s) vs ss i reason) in
+      (ap (λ (x : Bool). the TestAnswer (record { refusal = n; answer = x })) g.0 ∙ ap test_answer r, g.1 ∙ ap (λ (x : Outcome Bool). x.values) r)
