@@ -1,6 +1,6 @@
 """Times the call for one instruction beside the Rust, and finds out how much stack the call needs.
 
-Needs `rt check bench_call` (builds target/bin/bench_call) and `oracle/build.sh` (builds target/oracle/oracle) before.
+Needs `rt run -- 1 0` in crates/bench_call (builds out/bench_call there) and `oracle/build.sh` (builds target/oracle/oracle) before.
 Prints microseconds a call of both and their ratio, on nearly empty, middling and full tables, and kilobytes of stack.
 """
 
@@ -14,7 +14,7 @@ import time
 
 sys.dont_write_bytecode = True
 ROOT = os.path.join(os.path.dirname(os.path.abspath(__file__)), "..")
-PROGRAM = os.path.join(ROOT, "target", "bin", "bench_call")
+PROGRAM = os.path.join(ROOT, "crates", "bench_call", "out", "bench_call")
 ORACLE = os.path.join(ROOT, "target", "oracle", "oracle")
 NONE = 0xFFFFFFFF
 

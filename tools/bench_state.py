@@ -1,6 +1,6 @@
 """Times the operations of a state on a sparse and on a full table, with the program of crates/bench_state.
 
-Needs `rt check bench_state` before, which builds target/bin/bench_state. Prints a table of nanoseconds an operation.
+Needs `rt run -- 1 0 0` in crates/bench_state before, which builds out/bench_state there. Prints a table of nanoseconds an operation.
 """
 
 import os
@@ -9,7 +9,7 @@ import sys
 import time
 
 sys.dont_write_bytecode = True
-PROGRAM = os.path.join(os.path.dirname(os.path.abspath(__file__)), "..", "target", "bin", "bench_state")
+PROGRAM = os.path.join(os.path.dirname(os.path.abspath(__file__)), "..", "crates", "bench_state", "out", "bench_state")
 NAMES = ["kind", "freeze", "merge_from", "phi"]
 EMPTYING = 9
 

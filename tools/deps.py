@@ -5,10 +5,10 @@
     python3 tools/deps.py --check    exit 1 if crates.txt is not what the sources say, or the layer rule is broken
     python3 tools/deps.py --users NAME..   what a change of these crates proves again
 
-A crate's line lists the crates that its text names, `use NAME::..` and `NAME::f(..)` in code, `Rattle·NAME` in contracts,
+A crate's line lists the crates that its text names, `use NAME::..` and `NAME::f(..)` in code, `Rattle.NAME` in contracts,
 definitions, laws and proofs; and the crates that declare the types which its code reaches: those of the functions that it calls,
-and of the fields of these. AFTER adds what is there for scheduling alone. `rt` proves level by level, a crate's level being one more than the highest of those it lists, and
-a level in the order of the file: so the file goes by level, and in a level the crates with the most text to check come first.
+and of the fields of these. `rt` takes the lines in any order; the file goes by level, a crate's level being one more than the highest
+of those it lists, so that what stands on what is seen, and in a level by name.
 
 The layer rule (docs/ARCHITECTURE.md): groups are the prefixes, in the order of GROUPS; a crate names crates of its own group or
 of earlier ones. A crate of `laws` has no code and may speak of anything; it counts as of the last group that it names.
@@ -36,19 +36,9 @@ GROUPS = [
     ("bench", "programs that measure"),
     ("infer", "the program"),
 ]
-KIT = ["check", "bytes", "os", "io", "libc"]
-
-# Crates that wait for another one only so that a long check has company: on the way from effect_apply over call_apply and image_infer
-# to infer each crate waits for the one before, and would leave a processor idle.
-AFTER = {
-    "image_class4": ["effect_apply"],
-    "image_lines": ["effect_plain"],
-    "bench_state": ["call_attempt"],
-    "test_cases": ["call_attempt"],
-    "test_state": ["image_run"],
-    "test_jobs": ["image_run"],
-    "bench_call": ["image_infer"],
-}
+# Libraries of the kit that the sources name, beside `std`, which is never listed. A name that is neither here nor a crate's is reported.
+KIT = []
+LANGUAGE = {"std", "crate", "self", "super"}
 
 
 # The crates of the repository.
@@ -67,18 +57,25 @@ def code(crate):
     return "\n".join(re.sub(r"(?m)//.*$", "", open(p, encoding="utf-8").read()) for p in files(crate) if p.endswith(".rt"))
 
 
+# What a code brings in: (crate, name).
+def imported(text):
+    for head, path, several in re.findall(r"(?m)^(?:pub )?use ([a-z_0-9]+)::((?:\w+::)*)(\w+|\{[^}]*\});", text):
+        for name in re.findall(r"(?:\w+::)*(\w+)(?: as \w+)?", several):
+            yield head, name
+
+
 # What the sources declare: of each crate its types with the types of their fields, the types of each function's signature,
 # and the crate that each imported name comes from.
 def declared(every):
     types, functions, origin = {}, {}, {}
     for crate in every:
         text = code(crate)
-        origin[crate] = {path.split("::")[-1]: head for head, path in re.findall(r"(?m)^use ([a-z_0-9]+)::([A-Za-z_0-9:]+);", text)}
+        origin[crate] = {name: head for head, name in imported(text)}
         types[crate] = {}
         for name, body in re.findall(r"\b(?:struct|enum) ([A-Za-z0-9_]+)\s*[({]([^})]*)", text):
             types[crate][name] = set(re.findall(r"\b[A-Z][A-Za-z0-9_]*", body))
         functions[crate] = {}
-        for name, rest in re.findall(r"\bfn ([a-z_0-9]+)\s*\(((?:[^{;]|\n)*?)(?:ensures|requires|\{)", text):
+        for name, rest in re.findall(r"\bfn ([a-z_0-9]+)\s*(?:<[^>(]*>)?\s*\(((?:[^{;]|\n)*?)(?:ensures|requires|\{)", text):
             functions[crate].setdefault(name, set()).update(re.findall(r"\b[A-Z][A-Za-z0-9_]*", rest))
     return types, functions, origin
 
@@ -87,8 +84,8 @@ def declared(every):
 def reached(crate, known):
     types, functions, origin = known
     text = code(crate)
-    used = {(head, path.split("::")[-1]) for head, path in re.findall(r"(?m)^use ([a-z_0-9]+)::([A-Za-z_0-9:]+);", text)}
-    used |= {(head, name) for head, name in re.findall(r"(?<![\w:.·])([a-z_0-9]+)::([A-Za-z_0-9]+)", text)}
+    used = set(imported(text))
+    used |= {(head, name) for head, name in re.findall(r"(?<![\w:.])([a-z_0-9]+)::([A-Za-z_0-9]+)", text)}
     todo, seen = [], set()
     for head, name in used:
         if head not in types:
@@ -109,34 +106,38 @@ def reached(crate, known):
     return {head for head, _ in seen}
 
 
-# What a crate names, and how many bytes it has to be checked.
+# What a crate names.
 def named(crate, every):
-    found, size = set(), 0
+    found = set()
     for path in files(crate):
-        text = open(path, encoding="utf-8").read()
-        size += len(text)
+        with open(path, encoding="utf-8") as f:
+            text = f.read()
         if path.endswith(".rt"):
             text = re.sub(r"(?m)^\s*//.*$", "", text)
-            found |= set(re.findall(r"(?m)^use ([a-z_0-9]+)(?:::|;)", text))
-            found |= {n for n in re.findall(r"(?<![\w:.·])([a-z_0-9]+)::[a-zA-Z_]", text)}
+            found |= set(re.findall(r"(?m)^(?:pub )?use ([a-z_0-9]+)(?:::|;)", text))
+            found |= set(re.findall(r"(?<![\w:.])([a-z_0-9]+)::[a-zA-Z_{]", text))
         else:
             text = re.sub(r"(?m)^\s*--.*$", "", text)
-        found |= set(re.findall(r"Rattle·([a-z_0-9]+)[.·]", text))
-    if found & {"io", "os"}:
-        found.add("libc")
-    return {n for n in found if n != crate and (n in every or n in KIT)}, size
+        found |= set(re.findall(r"Rattle\.([a-z_0-9]+)\.", text))
+    return {n for n in found if n != crate and (n in every or n in KIT)}
 
 
-# Every crate with what it lists; sizes.
+# Libraries that a crate's code brings in and that are neither crates nor of KIT.
+def unknown(crate, every):
+    text = code(crate)
+    own = set(re.findall(r"(?m)^(?:pub )?mod (\w+)", text))
+    heads = set(re.findall(r"(?m)^(?:pub )?use ([a-z_0-9]+)(?:::|;)", text))
+    return sorted(h for h in heads if h not in every and h not in KIT and h not in LANGUAGE and h not in own)
+
+
+# Every crate with what it lists.
 def read():
     every = names()
-    deps, sizes = {}, {}
+    deps = {}
     known = declared(every)
     for crate in every:
-        deps[crate], sizes[crate] = named(crate, set(every))
-        deps[crate] |= reached(crate, known) - {crate}
-        deps[crate] |= set(AFTER.get(crate, []))
-    return deps, sizes
+        deps[crate] = named(crate, set(every)) | reached(crate, known) - {crate}
+    return deps
 
 
 # The level of each crate.
@@ -172,20 +173,15 @@ def group(crate):
 
 
 # The text of crates.txt.
-def text(deps, sizes):
+def text(deps):
     at = levels(deps)
-    lines = [
-        "# Written by tools/deps.py from what each crate names; the gate checks it. By level: `rt` proves a level after the other.",
-    ]
+    lines = ["# Written by tools/deps.py from what each crate names; the gate checks it. By level: a crate stands below those that it lists."]
     for level in range(max(at.values()) + 1):
         lines += ["", "# ---- level %d" % level]
-        for crate in sorted((c for c in deps if at[c] == level), key=lambda c: (-sizes[c], c)):
-            extra = AFTER.get(crate, [])
-            listed = sorted(d for d in deps[crate] if d in deps and d not in extra)
+        for crate in sorted(c for c in deps if at[c] == level):
+            listed = sorted(d for d in deps[crate] if d in deps)
             kit = [k for k in KIT if k in deps[crate]]
-            if extra:
-                lines.append("# %s waits for %s: scheduling alone" % (crate, " ".join(extra)))
-            lines.append(("%s: %s" % (crate, " ".join(extra + listed + kit))).rstrip())
+            lines.append(("%s: %s" % (crate, " ".join(listed + kit))).rstrip())
     return "\n".join(lines) + "\n"
 
 
@@ -213,7 +209,7 @@ def breaches(deps):
 
     for crate in sorted(deps):
         for d in sorted(deps[crate]):
-            if d in deps and d not in AFTER.get(crate, []) and counts(d) > counts(crate):
+            if d in deps and counts(d) > counts(crate):
                 out.append("%s names %s, which is of a later group" % (crate, d))
     return out
 
@@ -233,15 +229,17 @@ def main():
     parser.add_argument("--check", action="store_true")
     parser.add_argument("--users", nargs="+")
     options = parser.parse_args()
-    deps, sizes = read()
+    deps = read()
     if options.users:
         found = users(deps, options.users)
         print("%d crates: %s" % (len(found), " ".join(sorted(found))))
         return 0
-    wrong = breaches(deps)
+    wrong = ["layers: " + line for line in breaches(deps)]
+    for crate in deps:
+        wrong += ["%s brings in %s, which is no crate here and not in KIT of tools/deps.py" % (crate, name) for name in unknown(crate, set(deps))]
     for line in wrong:
-        print("layers: " + line, file=sys.stderr)
-    made = text(deps, sizes)
+        print(line, file=sys.stderr)
+    made = text(deps)
     path = os.path.join(ROOT, "crates.txt")
     if options.check:
         if not os.path.exists(path) or open(path, encoding="utf-8").read() != made:

@@ -2,11 +2,12 @@
 """What is promised: every public function with its statement, and every definition.
 
     python3 tools/statements.py                 list the public functions of the work tree, abbreviations of contracts unfolded
-    python3 tools/statements.py --against REV   compare with the tree of a commit: statements and definitions, up to the names of
-                                                docs/NAMES.md, to abbreviations of contracts, and to parentheses and layout
+    python3 tools/statements.py --against REV   compare with the tree of a commit: statements and definitions, up to abbreviations of
+                                                contracts, names of clauses, parentheses and layout
 
-An abbreviation of contracts is an `abbrev` of a file `Promise.antt`, `Lent.antt` (lent_slices) or `Cleared.antt`. Of a slice that
-is lent by `&` what it holds at the end is what it holds at the beginning. Exit status 1 if anything else differs.
+An abbreviation of contracts is an `abbrev` of a file `Promise.antt`, or of `Cleared.antt` (lent_copies).
+Exit status 1 if anything else differs. REV is a commit in today's spelling, that is one since the port (docs/PORT.md, its second line);
+between older ones the tool of the commit of then compares, and across the port docs/PORT.md has what differs.
 """
 
 import argparse
@@ -16,7 +17,7 @@ import subprocess
 import sys
 
 ROOT = os.path.abspath(os.path.join(os.path.dirname(os.path.abspath(__file__)), ".."))
-SHORT = ("Promise.antt", "lent_slices/specs/Lent.antt", "lent_copies/specs/Cleared.antt")
+SHORT = ("Promise.antt", "lent_copies/specs/Cleared.antt")
 INFIX = {"≡", "×", "→", "||", "&&", "≤", "<", "+", "*", "-", "/", "%", "^", "∷", "++", ":", "∙", ">>=", ">>"}
 
 
@@ -45,46 +46,21 @@ def tree(rev):
     return out
 
 
-# The tables of docs/NAMES.md: crates, functions, definitions, the names of definitions that stood twice, and where the functions of
-# a divided crate went.
-def renamed():
-    crates, functions, definitions, twice, divided = {}, {}, {}, set(), {}
-    part = ""
-    for line in open(os.path.join(ROOT, "docs", "NAMES.md"), encoding="utf-8"):
-        part = line.strip("# \n") if line.startswith("#") else part
-        if part == "Definitions that stood twice":
-            twice |= set(re.findall(r"`([^`. ]+)`", line.split(" | ")[0]))
-        m = re.match(r"\| out of `(\w+)` \| `(\w+)` \| (.*?) \|", line)
-        if m:
-            for name in re.findall(r"`(\w+)`", m.group(3)):
-                divided[(m.group(1), name)] = m.group(2)
-        m = re.match(r"\| `(\w+)` \| `(\w+)` \|", line)
-        if m:
-            crates[m.group(1)] = m.group(2)
-        m = re.match(r"\| `(\w+)::(\w+)`(?: \(private\))? \| `(\w+)::(\w+)` \|", line)
-        if m:
-            functions[(m.group(1), m.group(2))] = (m.group(3), m.group(4))
-        m = re.match(r"\| `\w+` `\w+\.antt`: `(\S+)` \| `\w+` `\w+\.antt`: `(\S+)` \|", line)
-        if m:
-            definitions[m.group(1)] = m.group(2)
-    return crates, functions, definitions, twice, divided
-
-
 # ---- terms: nested lists of words, one form for terms that differ in parentheses alone
 
-# The words of a text; a projection stays a word of its own.
+# The words of a text; a projection stays with what it is of: `r.f` is one word, and of `(g x).f` the `.f`.
 def words(text):
     text = re.sub(r"(?m)(--|//).*$", "", text)
-    return re.findall(r"[(){};,⌜⌝]|[^\s(){};,⌜⌝]+", text)
+    return re.findall(r"[(){};,]|[^\s(){};,]+", text)
 
 
 # A nested list from words.
 def nested(tokens):
     stack = [[]]
     for token in tokens:
-        if token in "({⌜":
+        if token in "({":
             stack.append([token])
-        elif token in ")}⌝":
+        elif token in ")}":
             group = stack.pop()
             stack[-1].append(group)
         else:
@@ -95,11 +71,12 @@ def nested(tokens):
 # Groups that change nothing go: around one word, and around the head of an application.
 def plain(term, top=True):
     items = [plain(t, False) if isinstance(t, list) else t for t in term]
-    opened = items[0] if not top and items and items[0] in ("(", "{", "⌜") else None
+    opened = items[0] if not top and items and items[0] in ("(", "{") else None
     body = items[1:] if opened else items
     out, head = [], True
-    for item in body:
-        if isinstance(item, list) and item[0] == "(":
+    for item, follows in zip(body, body[1:] + [""]):
+        projected = isinstance(follows, str) and re.match(r"\.\w", follows)
+        if isinstance(item, list) and item[0] == "(" and not projected:
             inner = item[1:]
             single = len(inner) == 1
             applied = not any(isinstance(w, str) and (w in INFIX or w.startswith("λ") or w in (";", ",")) for w in inner)
@@ -119,7 +96,7 @@ def plain(term, top=True):
 
 # A term as a text.
 def show(term):
-    close = {"(": ")", "{": "}", "⌜": "⌝"}
+    close = {"(": ")", "{": "}"}
     out = []
     for item in term:
         if isinstance(item, list):
@@ -131,39 +108,77 @@ def show(term):
 
 # ---- abbreviations of contracts
 
-# name -> (parameters, body as words)
+# What a file brings in of modules of definitions: name -> (crate, module).
+def brought_in(text):
+    found = {}
+    for crate, module, names in re.findall(r"(?m)^(?:ghost |pub )*use Rattle\.(\w+)\.specs\.(\w+)\.\{([^}]*)\}", text):
+        for name in names.split(","):
+            found[name.strip().split(" as ")[-1]] = (crate, module)
+    return found
+
+
+# (crate, module, name) -> (parameters, body as words, the names in scope there)
 def abbreviations(files):
     found = {}
     for path, text in files.items():
         if not path.endswith(SHORT):
             continue
+        m = re.match(r"crates/(\w+)/specs/(\w+)\.antt", path)
+        scope = brought_in(text)
         text = re.sub(r"(?m)^[ \t]*--.*\n", "", text)
         for block in re.split(r"\n\s*\n", text):
-            m = re.match(r"abbrev pub (\S+) : .*\n\1((?: \S+)*?) =\s*((?:.|\n)*)$", block)
-            if m:
-                found[m.group(1)] = (m.group(2).split(), words(m.group(3)))
+            one = re.match(r"abbrev pub (\S+) : .*\n\1((?: \S+)*?) =\s*((?:.|\n)*)$", block)
+            if one:
+                scope[one.group(1)] = m.groups()
+                found[m.groups() + (one.group(1),)] = (one.group(2).split(), words(one.group(3)), scope)
     return found
 
 
+# A word with what stands for it, or for what it is a field of.
+def filled(word, put):
+    head, dot, field = word.partition(".")
+    if word in put or head not in put or not field:
+        return [put.get(word, word)]
+    given = put[head]
+    return [given + dot + field] if isinstance(given, str) else [given, dot + field]
+
+
+# What a name abbreviates, by the scope it stands in; a name that the scope lacks is the one abbreviation of that name, if there is one.
+def abbreviated(item, short, scope):
+    if item in scope:
+        return short.get(scope[item] + (item,))
+    found = [key for key in short if key[2] == item]
+    return short[found[0]] if len(found) == 1 else None
+
+
 # A term with every abbreviation unfolded.
-def unfold(term, short):
+def unfold(term, short, scope):
     out, at = [], 0
     while at < len(term):
         item = term[at]
-        if isinstance(item, str) and item in short:
-            names, body = short[item]
-            # an argument is a word or a group: a projection behind the last one is of the whole
-            given = term[at + 1 : at + 1 + len(names)]
+        known = isinstance(item, str) and abbreviated(item, short, scope)
+        if known:
+            names, body, inside = known
+            # an argument is a word or a group, a group with the projection behind it
+            given, next = [], at + 1
+            while len(given) < len(names) and next < len(term):
+                one = term[next]
+                one = [one[0]] + unfold(one[1:], short, scope) if isinstance(one, list) else one
+                next += 1
+                if next < len(term) and isinstance(term[next], str) and re.match(r"\.\w", term[next]):
+                    one = ["(", one, term[next]]
+                    next += 1
+                given.append(one)
             if len(given) == len(names):
                 put = dict(zip(names, given))
 
                 def fill(t):
-                    return [fill(x) if isinstance(x, list) else put.get(x, x) for x in t]
+                    return [y for x in t for y in ([fill(x)] if isinstance(x, list) else filled(x, put))]
 
-                out.append(["("] + unfold(fill(nested(body)), short))
-                at += 1 + len(names)
+                out.append(["("] + fill(unfold(nested(body), short, inside)))
+                at = next
                 continue
-        out.append([item[0]] + unfold(item[1:], short) if isinstance(item, list) else item)
+        out.append([item[0]] + unfold(item[1:], short, scope) if isinstance(item, list) else item)
         at += 1
     return out
 
@@ -179,52 +194,48 @@ def settled(term):
 
 # ---- statements
 
+# Where the bracket that opens at a place closes.
+def closing(text, at):
+    depth, open_, close = 0, text[at], {"(": ")", "{": "}", "<": ">"}[text[at]]
+    while True:
+        depth += (text[at] == open_) - (text[at] == close)
+        at += 1
+        if depth == 0:
+            return at
+
+
 # crate, function -> statement: its types, then its clauses
-def statements(files, short, crates, functions, definitions, divided, numbers):
+def statements(files, short, numbers):
     found = {}
     for path, text in files.items():
         m = re.match(r"crates/(\w+)/src/", path)
         if not m:
             continue
-        crate = m.group(1)
-        owner = ""
-        lines = re.sub(r"(?m)^\s*//.*\n", "", text).split("\n")
-        at = 0
-        while at < len(lines):
-            m = re.match(r"impl (\w+)", lines[at])
-            if m:
-                owner = m.group(1) + "::"
-            if lines[at] == "}":
-                owner = ""
-            m = re.match(r" *pub (?:extern \"C\" )?fn (\w+)", lines[at])
-            if not m:
-                at += 1
+        crate, scope = m.group(1), brought_in(text)
+        text = re.sub(r"(?m)^\s*//.*\n", "", text)
+        for m in re.finditer(r"(?m)^impl(?:<[^>]*>)? (?:\w+ for )?(\w+)|^\}| *pub (?:extern \"C\" )?fn (\w+)", text):
+            if not m.group(2):
+                owner = m.group(1) + "::" if m.group(1) else ""
                 continue
-            head = []
-            while True:
-                head.append(lines[at])
-                at += 1
-                if lines[at - 1].rstrip().endswith("{") and lines[at - 1].count("{") > lines[at - 1].count("}"):
-                    break
-            whole = "\n".join(head).rstrip()[:-1]
-            clauses = re.findall(r"(ensures|requires) \{ (?:λ ([^.]+)\. )?⌜((?:.|\n)*?)⌝ \}", whole)
-            types = re.sub(r"\s+", " ", whole.split("ensures")[0].split("requires")[0]).strip()
+            if m.start() == text.find("fn") or not re.match(r" ", m.group(0)):
+                owner = ""
+            at = m.end()
+            if text[at] == "<":
+                at = closing(text, at)
+            at = closing(text, at)
+            end = re.compile(r"\b(?:requires|ensures)\b|\{").search(text, at).start()
+            types = re.sub(r"\s+", " ", text[m.start() : end]).strip()
             types = re.sub(r",? \)", ")", types).replace("( ", "(")
-            shared = set(re.findall(r"(\w+): &(?!mut)", types))
             said = []
-            for kind, answer, fact in clauses:
-                term = settled(unfold(nested(words(fact)), short))
-                fact = show(term)
-                for name in shared:
-                    fact = re.sub(r"\b%s \.exit" % re.escape(name), name + " .entry", fact)
-                said.append("%s %s. %s" % (kind, answer or "", fact))
-            name = (crate, owner + m.group(1))
-            key = functions.get((crate, m.group(1)), (crates.get(crate, crate), owner + m.group(1)))
-            while key in divided:
-                key = (divided[key], key[1])
-            said = [numbered(names_of(s, definitions), numbers) for s in said]
-            types = re.sub(r"fn \w+", "fn", types)
-            found[key] = types + "\n    " + "\n    ".join(said)
+            clause = re.compile(r"\s*(requires|ensures)(\*?)(?: (\w+))? (?=\{)")
+            while True:
+                c = clause.match(text, end)
+                if not c:
+                    break
+                end = closing(text, c.end())
+                fact = show(settled(unfold(nested(words(text[c.end() + 1 : end - 1])), short, scope)))
+                said.append("%s%s. %s" % (c.group(1), c.group(2), numbered(names_of(fact), numbers)))
+            found[crate, owner + m.group(2)] = re.sub(r"fn \w+", "fn", types) + "\n    " + "\n    ".join(said)
     return found
 
 
@@ -237,48 +248,40 @@ def sizes(files):
                 found["Layout." + name] = found[name] = number
             for name, fields in re.findall(r"(?m)^(\w+) = record \{ (.*) \}$", text):
                 for field, number in re.findall(r"(\w+) = (\d+)", fields):
-                    found["Layout.%s .%s" % (name, field)] = found["%s .%s" % (name, field)] = number
+                    found["Layout.%s.%s" % (name, field)] = found["%s.%s" % (name, field)] = number
     return found
 
 
 def numbered(text, numbers):
     for name in sorted(numbers, key=len, reverse=True):
-        if name.startswith("Layout.") or name in ("outputWords", "oneRun .width"):
-            text = re.sub(r"(?<![\w.])%s(?![\w′-])" % re.escape(name), numbers[name], text)
+        if name.startswith("Layout.") or name in ("output_words", "one_run.width"):
+            text = re.sub(r"(?<![\w.])%s(?![\w'-])" % re.escape(name), numbers[name], text)
     return re.sub(r"\((\d+)\)", r"\1", text)
 
 
-# A text with new names for old ones, and without the crate of a module.
-def names_of(text, definitions):
-    text = re.sub(r"Rattle·\w+(·specs)?\.specs\.(specs\.)?", "", text)
-    for old, new in definitions.items():
-        text = re.sub(r"(?<![\w′·-])(Step|Context|Walk|Reasons)\.%s(?![\w′-])" % re.escape(old), r"\1." + new, text)
-    return text
+# A text without the crate of a module.
+def names_of(text):
+    return re.sub(r"Rattle\.\w+\.specs\.", "", text)
 
 
 # ---- definitions
 
-# name, text -> how often: every unfoldable, abbrev, record and data, without comments
-def texts(files, crates, definitions, skip, numbers):
+# text -> how often: every unfoldable, abbrev, record and data, without comments
+def texts(files, numbers):
     found = {}
     for path, text in files.items():
-        m = re.match(r"crates/(\w+)/specs/", path)
-        if not m or path.endswith(SHORT) or re.match(r"crates/(%s)/" % skip, path):
+        if not re.match(r"crates/\w+/specs/", path) or path.endswith(SHORT):
             continue
         text = re.sub(r"(?m)^[ \t]*--.*\n", "", text)
         text = re.sub(r"(?m)^[ \t]*(pub )?use .*\n", "", text)
         for block in re.split(r"\n\s*\n", text):
             block = re.sub(r"^\s*module _.*where\n", "", block)
-            block = re.sub(r"^\s*infix.*\n", "", block)
+            block = re.sub(r"^\s*(infix|syntax).*\n", "", block)
             m = re.match(r"\s*(unfoldable|abbrev)(?: pub)? (\S+)|\s*(?:pub )?(record|data) (\S+)", block)
             # what `computing` unfolds is a list of names for laws, not a definition
             if not m or m.group(2) == "computing":
                 continue
-            term = show(nested(words(block)))
-            for old, new in definitions.items():
-                term = re.sub(r"(?<![\w′·-])%s(?![\w′-])" % re.escape(old), new, term)
-            term = re.sub(r"Rattle·\w+(·specs)?\.specs\.", "", term)
-            term = numbered(term, numbers)
+            term = numbered(names_of(show(nested(words(block)))), numbers)
             found[term] = found.get(term, 0) + 1
     return found
 
@@ -287,35 +290,32 @@ def main():
     parser = argparse.ArgumentParser(description="what is promised")
     parser.add_argument("--against")
     options = parser.parse_args()
-    crates, functions, definitions, twice, divided = renamed()
     now = tree(None)
-    short = abbreviations(now)
     numbers = sizes(now)
-    here = statements(now, short, {}, {}, {}, {}, numbers)
+    here = statements(now, abbreviations(now), numbers)
     if not options.against:
         for (crate, name), said in sorted(here.items()):
             print("%s::%s\n    %s" % (crate, name, said))
         print("%d public functions" % len(here))
         return 0
     past = tree(options.against)
-    there = statements(past, abbreviations(past), crates, functions, definitions, divided, numbers)
+    if any("use Rattle·" in text for text in past.values()):
+        print("statements: %s is in the older spelling, before the port: docs/PORT.md has what differs" % options.against, file=sys.stderr)
+        return 2
+    there = statements(past, abbreviations(past), sizes(past))
     wrong = 0
     for key in sorted(set(here) | set(there)):
         if key not in there:
-            private = [k for k in functions.values() if k == key]
-            print("new: %s::%s%s" % (key + (" (private before)" if private else "",)))
-            continue
-        if key not in here:
-            gone = key[0] == "join_table"
-            wrong += not gone
+            print("new: %s::%s" % key)
+        elif key not in here:
+            wrong += 1
             print("gone: %s::%s" % key)
-            continue
-        if here[key] != there[key]:
+        elif here[key] != there[key]:
             wrong += 1
             print("differs: %s::%s\n  before: %s\n  now:    %s" % (key + (there[key], here[key])))
     print("statements: %d before, %d now, %d differ" % (len(there), len(here), wrong))
-    before, after = texts(past, crates, definitions, "join_table", numbers), texts(now, {}, {}, "none", numbers)
-    lost = {t: n for t, n in before.items() if t not in after and not (set(t.split()[:4]) & twice)}
+    before, after = texts(past, sizes(past)), texts(now, numbers)
+    lost = {t: n for t, n in before.items() if t not in after}
     for term in sorted(lost):
         print("definition of before that is not here: " + term[:300])
     more = {t: n for t, n in after.items() if t not in before}

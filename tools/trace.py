@@ -7,13 +7,13 @@
 A citation is one of these, in backticks:
 
     `crate` `File.antt`: `name`, `name` (a remark), `name`    definitions, declared in crates/crate/specs/File.antt
-    `crate` `Laws/File.antt`: `name`                          laws, declared in crates/crate/specs/Laws/File.antt
+    `crate` `Laws/File.antt`: `name`                          laws, declared in crates/crate/proofs/Laws/File.antt
     `crates/crate/specs/File.antt`: `name`                    the same, by its path
     `crate::name`, `crate::Type::method`                      a function, a type or a constant of crates/crate/src
 
 A name that a file only imports counts as wrong there. Code, and any path that begins with crates/, tools/, docs/, oracle/, vectors/
-or examples/, is checked without backticks too; a path with NAME in it stands for any crate, one with `*` must match something.
-docs/NAMES.md has old names and docs/CHANGES.md those of its day, so they are left out.
+or examples/, is checked without backticks too; a path with NAME in it stands for any crate, one with `*` must match something, and one
+into a crate's out/ is made by rt. docs/NAMES.md and docs/PORT*.md have old names and docs/CHANGES.md those of its day, so they are left out.
 """
 
 import argparse
@@ -28,7 +28,7 @@ sys.path.insert(0, os.path.join(ROOT, "tools"))
 
 import deps  # noqa: E402
 
-LEFT_OUT = ("NAMES.md", "CHANGES.md")
+LEFT_OUT = re.compile(r"(NAMES|CHANGES|PORT[\w-]*)\.md$")
 FOLDERS = "crates|tools|docs|oracle|vectors|examples"
 # What --believe asks for: the plain definition, what lent words mean, and promises; each with the file of definitions that it names first.
 PROMISES = [
@@ -93,18 +93,18 @@ def code(crate):
 
 # The documents that are checked.
 def documents():
-    return ["README.md"] + sorted("docs/" + n for n in os.listdir(os.path.join(ROOT, "docs")) if n.endswith(".md") and n not in LEFT_OUT)
+    return ["README.md"] + sorted("docs/" + n for n in os.listdir(os.path.join(ROOT, "docs")) if n.endswith(".md") and not LEFT_OUT.match(n))
 
 
 # What is wrong with the definitions and laws that a line cites.
 def wrong_specs(line, crates, known):
-    line = re.sub(r"`crates/([a-z_0-9]+)/specs/((?:Laws/)?[A-Z]\w*\.antt)`", r"`\1` `\2`", line)
+    line = re.sub(r"`crates/([a-z_0-9]+)/(?:specs/|proofs/(?=Laws/))((?:Laws/)?[A-Z]\w*\.antt)`", r"`\1` `\2`", line)
     cited = r"(?:`([a-z_0-9]+)` )?`((?:Laws/)?[A-Z]\w*\.antt)`(?:: ((?:`[^`]+`(?: \([^()]*\))?(?:, )?)+))?"
     for crate, name, names in re.findall(cited, line):
         if crate not in crates:
             yield "%s stands behind no crate" % name if not crate else "there is no crate %s (before %s)" % (crate, name)
             continue
-        path = os.path.join("crates", crate, "specs", name)
+        path = os.path.join("crates", crate, "proofs" if name.startswith("Laws/") else "specs", name)
         if not os.path.exists(os.path.join(ROOT, path)):
             yield "there is no %s" % path
             continue
@@ -118,7 +118,7 @@ def wrong_specs(line, crates, known):
 # What is wrong with the code that a line cites.
 def wrong_code(line, crates, known):
     for crate, name in re.findall(r"(?<![\w:.])([a-z_0-9]+)::(\w+(?:::\w+)?)", line):
-        if crate in deps.KIT or crate == "std":
+        if crate in deps.KIT or crate in deps.LANGUAGE:
             continue
         if crate not in crates:
             yield "there is no crate %s (in %s::%s)" % (crate, crate, name)
@@ -131,9 +131,9 @@ def wrong_code(line, crates, known):
 
 # What is wrong with the paths that a line names.
 def wrong_paths(line):
-    for path in re.findall(r"(?<![\w./·-])((?:%s)/[\w./*+-]*)" % FOLDERS, line):
+    for path in re.findall(r"(?<![\w./-])((?:%s)/[\w./*+-]*)" % FOLDERS, line):
         path = path.rstrip(".")
-        if "NAME" not in path and not glob.glob(os.path.join(ROOT, path)):
+        if "NAME" not in path and "/out/" not in path and not glob.glob(os.path.join(ROOT, path)):
             yield "there is no %s" % path
 
 
@@ -152,7 +152,7 @@ def check():
 
 # ---- how much must be believed
 
-# The files of definitions of a crate: all of specs/ but its laws, and but the lists of modules.
+# The files of definitions of a crate: all of specs/ but the lists of modules.
 def definitions(crate):
     paths = sorted(glob.glob(os.path.join(ROOT, "crates", crate, "specs", "*.antt")))
     return [os.path.relpath(p, ROOT) for p in paths if os.path.basename(p) not in ("Lib.antt", "Laws.antt")]
@@ -172,7 +172,7 @@ def reached(path):
         if at in found or not os.path.exists(os.path.join(ROOT, at)):
             continue
         found.add(at)
-        todo += [os.path.join("crates", crate, "specs", name + ".antt") for crate, name in re.findall(r"Rattle·([a-z_0-9]+)(?:·specs)?\.specs\.([A-Z]\w*)", read(at))]
+        todo += [os.path.join("crates", crate, "specs", name + ".antt") for crate, name in re.findall(r"Rattle\.([a-z_0-9]+)\.specs\.([A-Z]\w*)", read(at))]
     return found
 
 
@@ -192,7 +192,7 @@ def believe():
             counted(group, paths)
         every += paths
     counted("all", every)
-    laws = glob.glob(os.path.join(ROOT, "crates", "*", "specs", "Laws", "*.antt"))
+    laws = glob.glob(os.path.join(ROOT, "crates", "*", "proofs", "Laws", "*.antt"))
     counted("(laws, which are checked)", [os.path.relpath(p, ROOT) for p in laws])
     print("\nwhat the promise rests on")
     for label, crate, name in PROMISES:

@@ -1,139 +1,87 @@
 #!/usr/bin/env python3
-"""Tries the wrong programs of some crates, and of no other: each edit must be refused by the prover.
+"""Whether each wrong program still fits its crate, and a try of those of some crates.
 
-    python3 tools/wrong_programs.py NAME..           the edits of crates/NAME/must-fail
-    python3 tools/wrong_programs.py --jobs 2 NAME..  so many at once (default 2)
-    python3 tools/wrong_programs.py --fit [NAME..]   only whether each edit fits its crate; with no name of every crate; in a second
+    python3 tools/wrong_programs.py --fit [NAME..]   whether each edit of crates/NAME/must-fail fits; with no name of every crate; in a second
+    python3 tools/wrong_programs.py NAME..           the same, and then `rt must-fail NAME..`, which has the prover refuse each
 
-`rt must-fail NAME` would try the edits of every library below NAME too. The libraries must be proved before: `rt check NAME`.
-An edit is one or more lines `file:`, `old:`, `new:`, as `rt` reads it. Prints for each edit where the prover refuses it first, and
-what it says there; exit status 1 if one is not refused, or does not fit.
+An edit is a file of lines `file:`, `old:`, `new:`, as `rt` reads it: each old text stands just once in its file, and the pairs apply one
+after the other. `rt ci` tries every edit too, but one that does not fit fails nothing there; here, and in `.ci/run`, it does. Exit
+status 1 if one does not fit, or is not refused.
 """
 
 import argparse
-import concurrent.futures
 import glob
 import os
 import re
-import shutil
 import subprocess
 import sys
-import tempfile
-import time
 
 sys.dont_write_bytecode = True
 ROOT = os.path.abspath(os.path.join(os.path.dirname(os.path.abspath(__file__)), ".."))
 
 
-# The kit's folder: where `rt` stands, as `rt` itself finds it.
-# RATTLE_HOME names another one.
-def kit():
-    found = shutil.which("rt")
-    if not found:
-        raise SystemExit("the tool 'rt' is missing")
-    return os.environ.get("RATTLE_HOME") or os.path.dirname(os.path.dirname(os.path.realpath(found)))
-
-
-# The libraries that crates.txt names for a crate.
-# In their order there.
-def libraries(name):
-    for line in open(os.path.join(ROOT, "crates.txt"), encoding="utf-8"):
-        head, _, rest = line.split("#")[0].partition(":")
-        if head.strip() == name:
-            return rest.split()
-    raise SystemExit("crates.txt does not list %s" % name)
-
-
-# The command that checks the crate folder `where` under a name, as `rt must-fail` does.
-# Libraries come from target/rlib or from the kit.
-def command(name, where):
-    home = kit()
-    own = os.path.join(home, "on", os.uname().machine)
-    main = os.path.join(where, "src", "main.rt")
-    root = main if os.path.exists(main) else os.path.join(where, "src", "lib.rt")
-    words = [os.path.join(own, "bin", "rattle"), "check", "--crate-name", name, root, "--extern", "std=%s/rlib/std.rlib" % own]
-    built = os.path.join(ROOT, "target", "rlib")
-    for library in libraries(name):
-        place = built if os.path.isdir(os.path.join(ROOT, "crates", library)) else os.path.join(own, "rlib")
-        words += ["--extern", "%s=%s/%s.rlib" % (library, place, library)]
-    return words + ["-L", "dependency=" + built, "-L", "dependency=%s/rlib" % own,
-                    "--antt-project", os.path.join(home, "logic", "antt-project.json"), "--logic-built", os.path.join(own, "logic-built")]
-
-
-# Applies an edit to a copy of its crate; each old text must stand there just once.
-# None, or what is wrong with the edit.
-def apply(edit, where):
-    path = old = None
-    pairs = 0
-    for line in open(edit, encoding="utf-8"):
-        line = line.rstrip("\n")
+# What is wrong with an edit, or None.
+# Nothing is written: the texts are changed in memory alone.
+def slip(edit):
+    crate = os.path.dirname(os.path.dirname(edit))
+    path, old, pairs, texts, was = None, None, 0, {}, {}
+    with open(edit, encoding="utf-8") as f:
+        lines = f.read().split("\n")
+    for line in lines:
         if line.startswith("file: "):
-            path = os.path.join(where, line[6:])
+            path = line[6:].strip()
+            if os.path.normpath(path) != path or not path.startswith(("src/", "specs/", "proofs/")):
+                return "it edits no file below src/, specs/ or proofs/"
         elif line.startswith("old: "):
             old = line[5:]
         elif line.startswith("new:"):
-            text = open(path, encoding="utf-8").read()
-            if not old or text.count(old) != 1:
-                return "its old text stands %d times in the file" % (text.count(old) if old else 0)
-            with open(path, "w", encoding="utf-8") as out:
-                out.write(text.replace(old, line[4:].removeprefix(" ")))
+            if not path or not old:
+                return "a 'new:' stands before any 'file:' or 'old:'"
+            if path not in texts:
+                if not os.path.isfile(os.path.join(crate, path)):
+                    return "there is no file %s" % path
+                with open(os.path.join(crate, path), encoding="utf-8") as f:
+                    texts[path] = was[path] = f.read()
+            if texts[path].count(old) != 1:
+                return "an old text stands %d times in %s" % (texts[path].count(old), path)
+            texts[path] = texts[path].replace(old, line[4:].removeprefix(" "))
             old, pairs = None, pairs + 1
-    return None if pairs else "it has no 'old:' and 'new:' pair"
+    if not pairs:
+        return "it has no 'old:' and 'new:' pair"
+    return "it changes nothing" if texts == was else None
 
 
-# Tries one edit: (whether it is refused, a line that says so).
-# Only a verdict of the prover counts, not an error before it.
-def attempt(edit):
-    name = edit.split(os.sep)[-3]
-    with tempfile.TemporaryDirectory() as where:
-        for part in ("src", "specs", "proofs"):
-            if os.path.isdir(os.path.join(ROOT, "crates", name, part)):
-                shutil.copytree(os.path.join(ROOT, "crates", name, part), os.path.join(where, part))
-        label = "%s/%s" % (name, os.path.basename(edit)[:-5])
-        slip = apply(edit, where)
-        if slip:
-            return False, "%s: BAD EDIT: %s" % (label, slip)
-        begun = time.time()
-        run = subprocess.run(command(name, where), stdout=subprocess.PIPE, stderr=subprocess.STDOUT, text=True)
-        refused = run.returncode == 1 and re.search(r"^logic=not-proved", run.stdout, flags=re.M)
-        first = re.search(r"^(\S+: error: .{0,120})", run.stdout, flags=re.M)
-        said = first.group(1).replace(where + os.sep, "") if first else ""
-        return bool(refused), "%s: %s (%.0f s) %s" % (label, "refused" if refused else "NOT REFUSED", time.time() - begun, said)
+# What stands in must-fail/ and is no edit, so that nothing tries it.
+def strangers(crate):
+    for path in sorted(glob.glob(os.path.join(ROOT, "crates", crate, "must-fail", "*"))):
+        if not re.fullmatch(r"[A-Za-z0-9_-][A-Za-z0-9_.-]*\.edit", os.path.basename(path)):
+            yield path
 
 
-# Whether an edit fits its crate: (whether it does, a line that says so).
-# Nothing is proved.
-def fits(edit):
-    name = edit.split(os.sep)[-3]
-    with tempfile.TemporaryDirectory() as where:
-        for part in ("src", "specs", "proofs"):
-            if os.path.isdir(os.path.join(ROOT, "crates", name, part)):
-                shutil.copytree(os.path.join(ROOT, "crates", name, part), os.path.join(where, part))
-        slip = apply(edit, where)
-    return not slip, "%s/%s: %s" % (name, os.path.basename(edit)[:-5], "BAD EDIT: " + slip if slip else "fits")
-
-
-# Reads the command line, tries the edits and counts.
+# Reads the command line, looks at the edits and counts.
 def main():
-    parser = argparse.ArgumentParser()
+    parser = argparse.ArgumentParser(description="whether each wrong program fits its crate")
     parser.add_argument("names", nargs="*")
     parser.add_argument("--fit", action="store_true")
-    parser.add_argument("--jobs", type=int, default=2)
     args = parser.parse_args()
     if not args.names and not args.fit:
         parser.error("a crate's name, or --fit")
-    edits = []
+    edits, wrong = [], 0
     for name in args.names or ["*"]:
-        edits += glob.glob(os.path.join(ROOT, "crates", name, "must-fail", "*.edit"))
-    failed = 0
-    with concurrent.futures.ThreadPoolExecutor(args.jobs) as pool:
-        for right, line in pool.map(fits if args.fit else attempt, sorted(edits)):
-            failed += not right
-            if not args.fit or not right:
-                print(line, flush=True)
-    print("%d wrong programs %s, %d not" % (len(edits) - failed, "fit" if args.fit else "refused", failed))
-    sys.exit(1 if failed else 0)
+        edits += sorted(glob.glob(os.path.join(ROOT, "crates", name, "must-fail", "*.edit")))
+        for path in strangers(name):
+            wrong += 1
+            print("%s is no edit" % os.path.relpath(path, ROOT))
+    for edit in edits:
+        said = slip(edit)
+        if said:
+            wrong += 1
+            print("%s/%s: BAD EDIT: %s" % (edit.split(os.sep)[-3], os.path.basename(edit)[:-5], said))
+    print("%d wrong programs, %d do not fit" % (len(edits), wrong), flush=True)
+    if wrong or args.fit:
+        return 1 if wrong else 0
+    return subprocess.run(["rt", "must-fail", *args.names], cwd=ROOT).returncode
 
 
 if __name__ == "__main__":
-    main()
+    sys.exit(main())

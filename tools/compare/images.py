@@ -5,9 +5,9 @@ python3 tools/compare/images.py LIST [--count N] [--small M] [--seed S] [--most 
 
 LIST is vectors/images.bin or vectors/damaged.bin (docs/VECTORS.md, 4). Of it are taken the
 M smallest records, then others at random by the seed, N in all, none above BYTES bytes.
-For each a test `T (eqList (infer bytes) (ascii "listing"))` is written into a throw-away
-repository, target/compare, and checked there: the prover computes the definition and nothing
-is run. A record is `equal`, or DIFFERENT with what the definition computes, or `not computed`
+For each a test `T (eq_list (infer bytes) (ascii "listing"))` is written into a throw-away
+repository, a folder compare-images among the temporary ones (`rt ci` refuses one inside this checkout), and
+checked there: the prover computes the definition and nothing is run. A record is `equal`, or DIFFERENT with what the definition computes, or `not computed`
 where the prover's step limit was met (no option raises it; all that were tried below 20,000 bytes stay under it).
 Exit status 0 if none is different.
 """
@@ -20,19 +20,18 @@ import shutil
 import struct
 import subprocess
 import sys
+import tempfile
 import time
 
 ROOT = os.path.abspath(os.path.join(os.path.dirname(os.path.abspath(__file__)), "..", ".."))
-PLACE = os.path.join(ROOT, "target", "compare")
+PLACE = os.path.join(tempfile.gettempdir(), "compare-images")
 NEEDED = ["base_tests", "base_orders", "base_sets", "def_kinds", "def_effects", "def_transfer", "def_image"]
 
-HEAD = """use Prim.Native.Nat.{ℕ, zero, suc, _+_, _*_}
-use mathlib.Core.List.{List, [], _∷_}
-use lib.Dec.{T}
-use Rattle·def_effects.specs.Keys.{eqList}
-use Rattle·def_image.specs.Listing.{ascii}
-use Rattle·def_image.specs.Infer.{infer}
-use Rattle·def_image.specs.Laws.Computing.{computing}
+HEAD = """use Rattle.std.specs.Prelude.{ℕ, zero, suc, ◌+◌, ◌*◌, List, [], ◌∷◌, T}
+use Rattle.def_effects.specs.Keys.{eq_list}
+use Rattle.def_image.specs.Listing.{ascii}
+use Rattle.def_image.specs.Infer.{infer}
+use Rattle.def_image.specs.Laws.Computing.{computing}
 """
 
 SHOW = """
@@ -89,11 +88,10 @@ def prepare():
     with open(os.path.join(PLACE, "crates.txt"), "w", encoding="utf-8") as f:
         f.writelines(line.rstrip("\n") + "\n" for line in lines)
         f.write("compare: %s\n" % " ".join(NEEDED))
-    shutil.rmtree(os.path.join(PLACE, "target", "inc", "compare"), ignore_errors=True)
     for name in NEEDED + ["compare"]:
         shutil.rmtree(os.path.join(PLACE, "crates", name), ignore_errors=True)
     for name in NEEDED:
-        shutil.copytree(os.path.join(ROOT, "crates", name), os.path.join(PLACE, "crates", name))
+        shutil.copytree(os.path.join(ROOT, "crates", name), os.path.join(PLACE, "crates", name), ignore=shutil.ignore_patterns("out", "must-fail"))
 
 
 # A list of bytes as antt writes it.
@@ -116,7 +114,7 @@ def write(records, chosen, per_file, one, extra=""):
     os.makedirs(os.path.join(base, "specs"))
     os.makedirs(os.path.join(base, "src"))
     with open(os.path.join(base, "src", "lib.rt"), "w") as f:
-        f.write("// Generated tests.\n")
+        f.write("// Generated tests.\n#![tactic(auto)]\n")
     names = []
     for start in range(0, len(chosen), per_file):
         name = "Part%d" % (start // per_file)
@@ -130,9 +128,9 @@ def write(records, chosen, per_file, one, extra=""):
 
 
 # Checks the crate `compare` and gives back all that was printed.
-# RT_CUT 0: no line is cut.
+# A refused test is no failure of the check here.
 def check(words):
-    run = subprocess.run(["rt", "dev", "compare"] + words, cwd=PLACE, env=dict(os.environ, RT_CUT="0"),
+    run = subprocess.run(["rt", "check"] + words, cwd=os.path.join(PLACE, "crates", "compare"),
                          stdout=subprocess.PIPE, stderr=subprocess.STDOUT, text=True)
     return run.returncode, run.stdout
 
@@ -140,7 +138,7 @@ def check(words):
 # The test of a record.
 # It is accepted just if the definition computes the listing.
 def test_of(records, k):
-    return ("pub test-%d : T (eqList (infer bytes-%d) (ascii %s))\nunfolding computing\ntest-%d = tt\n"
+    return ("pub test-%d : T (eq_list (infer bytes-%d) (ascii %s))\nunfolding computing\ntest-%d = tt\n"
             % (k, k, as_text(records[k][1]), k))
 
 

@@ -458,7 +458,7 @@ def arguments():
     parser.add_argument("--damaged", type=int, default=0)
     parser.add_argument("--seed", type=int, default=1)
     parser.add_argument("--jobs", type=int, default=os.cpu_count() or 1)
-    parser.add_argument("--program", default=os.path.join(ROOT, "target", "bin", "infer"))
+    parser.add_argument("--program", default=os.path.join(ROOT, "crates", "infer", "out", "infer"))
     parser.add_argument("--oracle", default=os.path.join(ROOT, "target", "oracle", "oracle"))
     parser.add_argument("--keep", help="folder for differences (default: a temporary one)")
     parser.add_argument("--seconds", type=float, default=10.0, help="the most that one run may take")

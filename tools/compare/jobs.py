@@ -1,7 +1,8 @@
 #!/usr/bin/env python3
 """Evaluates the definition (crates/*/specs) on recorded library jobs and state operations and compares with the Rust's answers.
 
-Makes a throw-away repository below target/ with one more crate, whose tests antt computes; reports each record that differs.
+Makes a throw-away repository, by default in a folder compare-jobs among the temporary ones (`rt ci` refuses one inside this checkout), with
+one more crate, whose tests antt computes; reports each record that differs.
 Usage: jobs.py [--jobs N] [--ops N] [--seed S] [--max-words W] [--per-file K] [--show ID]
 """
 
@@ -12,6 +13,7 @@ import re
 import shutil
 import subprocess
 import sys
+import tempfile
 import time
 
 HERE = os.path.dirname(os.path.abspath(__file__))
@@ -22,31 +24,26 @@ import parse  # noqa: E402
 from words import read_list  # noqa: E402
 
 ABSENT = 0xFFFFFFFF
-USES = """use Prim.Native.Nat.{ℕ}
-use mathlib.Core.Bool.{Bool, true, false}
-use mathlib.Core.List.{List, [], _∷_}
-use mathlib.Core.Option.{Option, none, some}
-use lib.Dec.{T}
-use Rattle·def_kinds.specs.Kinds as Kinds
-use Rattle·def_effects.specs.Effects.{AliasingEffect, Freeze, Mutate, MutateConditionally, MutateTransitive, MutateTransitiveConditionally, Capture, Alias, MaybeAlias, Assign, Create, CreateFrom, ImmutableCapture, CreateFunction, MutateFrozen, MutateGlobal, Impure, Render}
-use Rattle·def_effects.specs.declared.MutateVariant.the-variants as Variant
-use Rattle·def_effects.specs.Keys.{eqList}
-use Rattle·def_transfer.specs.Tables.{World}
-use Rattle·def_transfer.specs.Instruction.{Instruction}
-use Rattle·def_transfer.specs.State as State
-use Rattle·def_transfer.specs.Step as Step
-use Rattle·def_transfer.specs.Merge.{Entries, merge, mergeFrom}
-use Rattle·def_transfer.specs.Pure.{pure, at}
-use Rattle·def_transfer.specs.Laws.Computing.{computing}
-use Rattle·compare·specs.specs.Harness.{place, span, abs, func, ident, diag, key, diagAt, jobWords, checkJob, opWords, silent, absWords, flagWords, membersWords, resultWords, mergeWords, mergeFromWords}
-use Rattle·compare·specs.specs.Harness as H
-
-ruleset nothing = ()
+USES = """use Rattle.std.specs.Prelude.{ℕ, Bool, true, false, List, [], ◌∷◌, T}
+use Rattle.std.proofs.Math.Option.{Option, none, some}
+use Rattle.def_kinds.specs.Kinds as Kinds
+use Rattle.def_effects.specs.Effects.{AliasingEffect, Freeze, Mutate, MutateConditionally, MutateTransitive, MutateTransitiveConditionally, Capture, Alias, MaybeAlias, Assign, Create, CreateFrom, ImmutableCapture, CreateFunction, MutateFrozen, MutateGlobal, Impure, Render}
+use Rattle.def_effects.specs.declared.MutateVariant.TheVariants as Variant
+use Rattle.def_effects.specs.Keys.{eq_list}
+use Rattle.def_transfer.specs.Tables.{World}
+use Rattle.def_transfer.specs.Instruction.{Instruction}
+use Rattle.def_transfer.specs.State as State
+use Rattle.def_transfer.specs.Step as Step
+use Rattle.def_transfer.specs.Merge.{Entries, merge, merge_from}
+use Rattle.def_transfer.specs.Pure.{pure, at}
+use Rattle.def_transfer.specs.Laws.Computing.{computing}
+use Rattle.compare.specs.Harness.{place, span, abs, func, ident, diag, key, diag_at, job_words, check_job, op_words, silent, abs_words, flag_words, members_words, result_words, merge_words, merge_from_words}
+use Rattle.compare.specs.Harness as H
 """
 NAMES = ["Freeze", "Mutate", "MutateConditionally", "MutateTransitive", "MutateTransitiveConditionally", "Capture", "Alias",
          "MaybeAlias", "Assign", "Create", "CreateFrom", "ImmutableCapture", None, "CreateFunction", "MutateFrozen",
          "MutateGlobal", "Impure", "Render"]
-HARNESS = "H.placeWords H.placesWords H.effectWords H.effectsWords H.valueWords H.setWords H.entriesWords H.there H.countOf H.optionWord H.keyWords H.linkWords H.effectNumbers H.functionsWords H.diagnosticsWords H.boolWord H.runs H.accessWords H.endWords H.isIn H.allIn H.internedWords H.same H.jobWords H.checkJob H.stateWords H.opWords H.silent H.absWords H.flagWords H.membersWords H.resultWords H.mergeWords H.mergeFromWords"
+HARNESS = "H.place_words H.places_words H.effect_words H.effects_words H.value_words H.set_words H.entries_words H.there H.count_of H.option_word H.key_words H.link_words H.effect_numbers H.functions_words H.diagnostics_words H.bool_word H.runs H.access_words H.end_words H.is_in H.all_in H.interned_words H.same H.job_words H.check_job H.state_words H.op_words H.silent H.abs_words H.flag_words H.members_words H.result_words H.merge_words H.merge_from_words"
 
 
 # A list as an antt term.
@@ -89,7 +86,7 @@ def effect(c, places, world):
     if code in (2, 3, 4, 17):
         return "(%s %s)" % (name, place(one))
     if code == 9:
-        return "(Create %s (Kinds.kindAt %d) %d)" % (place(two), k, reason)
+        return "(Create %s (Kinds.kind_at %d) %d)" % (place(two), k, reason)
     if code == 13:
         return "(CreateFunction %s %d %s)" % (lst(place(p) for p in places[run:run + count]), function, place(two))
     if code in (14, 15, 16):
@@ -111,7 +108,7 @@ def sets_of(pairs):
 def state(flag, values, pairs):
     vals = table("none", [(v, "(some (abs %d %d))" % (k, r)) for v, k, r in values])
     sets = table("none", [(i, "(some %d)" % s) for i, s in sorted(sets_of(pairs).items())])
-    return "record { values = %s; sets = %s; isFunctionExpression = %s }" % (vals, sets, bool_of(flag))
+    return "record { values = %s; sets = %s; is_function_expression = %s }" % (vals, sets, bool_of(flag))
 
 
 def bool_of(n):
@@ -150,7 +147,7 @@ def world(j):
     interned = lst(effect(c, places, fixed) for c in j["interned"])
     return ("(record { state = %s; rest = record { session = record { next = %d; access = %d; span = span %d %d; entries = %d }; "
             "context = record { interned = %s; cached = %s; links = %s; functions = %s; identifiers = %s; transitive = %s; diagnostics = %s }; "
-            "work = record { initialized = []; listed = []; freezeEntries = 0; entries = 0 } } })") % (
+            "work = record { initialized = []; listed = []; freeze_entries = 0; entries = 0 } } })") % (
         state(h[2], j["values"], j["pairs"]), h[3], h[4], h[5], h[6], h[7], interned, table("none", cached),
         table("none", [(v, "(some %d)" % f) for v, f in j["links"]]), functions, idents, bool_of(h[1]), diags)
 
@@ -160,7 +157,7 @@ def world(j):
 def instructions(j):
     out = []
     for lvalue, own, cands in j["instructions"]:
-        es = lst(effect(c, j["places"], lambda d: "(diagAt w %d)" % d) for c in cands)
+        es = lst(effect(c, j["places"], lambda d: "(diag_at w %d)" % d) for c in cands)
         out.append("(λ (w : World pure). record { candidates = %s; lvalue = %s; own = %s })" % (
             es, place(j["places"][lvalue]), opt(own - 1 if own else None)))
     return lst(out)
@@ -215,7 +212,7 @@ def job_terms(words, answer, chooser=None):
     if chooser:
         main = spoiled(main, chooser.randrange(len(main)))
     args = "%s %s %s %s %s" % (instructions(j), world(j), lst(vs), lst(range(n)), lst(range(len(j["functions"]))))
-    return "checkJob %s %s %s" % (args, lst(main), lst(lst(x) for x in interned)), "jobWords %s" % args
+    return "check_job %s %s %s" % (args, lst(main), lst(lst(x) for x in interned)), "job_words %s" % args
 
 
 # The test of one state operation.
@@ -230,35 +227,35 @@ def op_terms(words, answer, chooser=None):
     session = "record { next = 512; access = %d; span = span %d %d; entries = 0 }" % (h[2], h[3], h[4])
     idents = table("(ident false false 0 0 0)", [(k, "(ident true false 0 0 0)") for k, f in enumerate(o["flags"]) if f & 1])
     w = ("(record { state = %s; rest = record { session = %s; context = record { interned = []; cached = λ n. none; links = λ n. none; functions = λ n. func [] [] false; "
-         "identifiers = %s; transitive = false; diagnostics = [] }; work = record { initialized = []; listed = []; freezeEntries = 0; entries = 0 } } })") % (first, session, idents)
+         "identifiers = %s; transitive = false; diagnostics = [] }; work = record { initialized = []; listed = []; freeze_entries = 0; entries = 0 } } })") % (first, session, idents)
     variants = ["Mutate", "MutateConditionally", "MutateTransitive", "MutateTransitiveConditionally"]
     calls = {
-        1: lambda: ("absWords", "State.kind %d" % args[0]),
-        2: lambda: ("absWords", "State.kindWithSpan %d (span %d %d)" % tuple(args)),
+        1: lambda: ("abs_words", "State.kind %d" % args[0]),
+        2: lambda: ("abs_words", "State.kind_with_span %d (span %d %d)" % tuple(args)),
         3: lambda: ("silent", "State.initialize %d (abs %d %d)" % tuple(args)),
         4: lambda: ("silent", "State.define %d %d" % tuple(args)),
         5: lambda: ("silent", "State.assign %d %d" % tuple(args)),
-        6: lambda: ("silent", "State.appendAlias %d %d" % tuple(args)),
-        7: lambda: ("flagWords", "State.isDefined %d" % args[0]),
-        8: lambda: ("membersWords", "State.setOf %d" % args[0]),
-        9: lambda: ("flagWords", "State.freeze %d %d" % tuple(args)),
-        10: lambda: ("resultWords", "Step.mutate Variant.%s (place %d 0 0 %d %d)" % (variants[args[0]], args[1], args[2], args[3])),
-        11: lambda: ("silent", "State.inferPhi %d %s" % (args[0], lst(args[1:]))),
+        6: lambda: ("silent", "State.append_alias %d %d" % tuple(args)),
+        7: lambda: ("flag_words", "State.is_defined %d" % args[0]),
+        8: lambda: ("members_words", "State.set_of %d" % args[0]),
+        9: lambda: ("flag_words", "State.freeze %d %d" % tuple(args)),
+        10: lambda: ("result_words", "Step.mutate Variant.%s (place %d 0 0 %d %d)" % (variants[args[0]], args[1], args[2], args[3])),
+        11: lambda: ("silent", "State.infer_phi %d %s" % (args[0], lst(args[1:]))),
     }
     where = "%s %s" % (lst(vs), lst(range(n)))
     if o["op"] in calls:
         f, call = calls[o["op"]]()
-        term = "opWords %s %s (%s %s)" % (where, f, call, w)
+        term = "op_words %s %s (%s %s)" % (where, f, call, w)
     else:
         def entries(part):
             return "(record { value = %s; set = %s })" % (
                 table("none", [(v, "(some (abs %d %d))" % (k, r)) for v, k, r in part[0]]),
                 table("none", [(i, "(some %d)" % s) for i, s in sorted(sets_of(part[1]).items())]))
-        name = "merge" if o["op"] == 12 else "mergeFrom"
-        term = "%sWords %s (%s) %s (%s %s %s)" % (name, where, session, bool_of(h[5]), name, entries(o["first"]), entries(o["second"]))
+        name = "merge" if o["op"] == 12 else "merge_from"
+        term = "%s_words %s (%s) %s (%s %s %s)" % (name, where, session, bool_of(h[5]), name, entries(o["first"]), entries(o["second"]))
     if chooser:
         answer = spoiled(list(answer), chooser.randrange(len(answer)))
-    return "eqList (%s) %s" % (term, lst(answer)), term
+    return "eq_list (%s) %s" % (term, lst(answer)), term
 
 
 # Expected words with one number changed, k says which.
@@ -277,20 +274,20 @@ def repository(path):
     for name in needed:
         target = os.path.join(path, "crates", name)
         shutil.rmtree(target, ignore_errors=True)
-        shutil.copytree(os.path.join(ROOT, "crates", name), target)
+        shutil.copytree(os.path.join(ROOT, "crates", name), target, ignore=shutil.ignore_patterns("out", "must-fail"))
     with open(os.path.join(ROOT, "crates.txt"), encoding="utf-8") as f:
         lines = [line for line in f if line.split(":")[0] in needed]
     with open(os.path.join(path, "crates.txt"), "w", encoding="utf-8") as f:
         f.writelines(lines + ["compare: %s\n" % " ".join(needed)])
     with open(os.path.join(path, "crates", "compare", "src", "lib.rt"), "w") as f:
-        f.write("// Tests.\n")
+        f.write("// Tests.\n#![tactic(auto)]\n")
     shutil.copy(os.path.join(HERE, "harness.txt"), os.path.join(path, "crates", "compare", "specs", "Harness.antt"))
 
 
 # Runs the check of the throw-away crate and returns what it prints.
 # Tests that fail show as errors with the test's name.
 def check(path, *words):
-    run = subprocess.run(["rt", "dev", "compare", *words], cwd=path, stdout=subprocess.PIPE, stderr=subprocess.STDOUT, text=True)
+    run = subprocess.run(["rt", "check", *words], cwd=os.path.join(path, "crates", "compare"), stdout=subprocess.PIPE, stderr=subprocess.STDOUT, text=True)
     return run.stdout, run.returncode
 
 
@@ -303,7 +300,7 @@ def main():
     ap.add_argument("--per-file", type=int, default=20)
     ap.add_argument("--show", default=None, help="job-K or op-K: print what the definition computes")
     ap.add_argument("--self-test", action="store_true", help="change one number of each expected answer: every record must then differ")
-    ap.add_argument("--work", default=os.path.join(ROOT, "target", "compare-jobs"))
+    ap.add_argument("--work", default=os.path.join(tempfile.gettempdir(), "compare-jobs"))
     args = ap.parse_args()
     chooser = random.Random(args.seed)
     tests = []
@@ -323,7 +320,7 @@ def main():
         mod = "Tests%d" % (start // args.per_file)
         mods.append(mod)
         with open(os.path.join(specs, mod + ".antt"), "w") as f:
-            f.write(USES.replace("\nruleset nothing = ()\n", ""))
+            f.write(USES)
             for name, terms, (given, answer) in tests[start:start + args.per_file]:
                 test, shown = terms(given, answer, chooser if args.self_test else None)
                 if args.show:

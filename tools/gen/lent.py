@@ -87,7 +87,7 @@ def record_of(context, table, record):
 # ------------------------------------------------------------ parts of a job
 
 # The values of a state: 1 + kind in the low bits, the reasons above.
-# `wordOf` of Cells.antt.
+# `word_of` of Cells.antt.
 def values_of(values):
     return {n: reasons * 8 + kind + 1 for n, kind, reasons in values}
 

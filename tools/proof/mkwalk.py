@@ -1,5 +1,8 @@
 #!/usr/bin/env python3
-"""mkwalk.py CRATE FUNCTION [--says 'TERM'] [--req CALLEE 'TERM'].. [--use 'MODULE.{NAMES}']..   (run in the repository's folder)
+"""For walks by hand of the older kit alone (`rattle-kit-5b-plain`, up to commit dda91ae), whose proof files followed the code step by step,
+and the MIR that its `rt` printed: today's `rt` prints none, so nothing here runs. Kept for those commits. What follows is as it was.
+
+mkwalk.py CRATE FUNCTION [--says 'TERM'] [--req CALLEE 'TERM'].. [--use 'MODULE.{NAMES}']..   (run in the repository's folder)
 
 Writes crates/CRATE/proofs/FUNCTION/Proof.antt: the walk of a THIN function, one with no branch and no loop, whose
 statements are only: reborrow a `&mut` slice or a `&mut S` and pass it on; copy `*r`, or a field of it, of a `&mut S` or a `&S`; copy a local or a

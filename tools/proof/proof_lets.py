@@ -1,4 +1,7 @@
 #!/usr/bin/env python3
+# For proofs of the older kit alone (`rattle-kit-5b-plain`, up to commit dda91ae), whose proof files followed the code step by step.
+# Today an answer cites a fact by its place, and there are no ways back (docs/PROVING.md).
+#
 # proof_lets.py PROOF..: in proof files, names the stations of long ways back. An answer with a way of seven steps or more, `c .before .. .if1 .left`,
 # gets a `let` for each station that it looks at, `let at-if1 = c .before .. in`, each from the one before; `at-if1 .if1 .left` stands in its place.
 # Answers that have a `let` already are left. Run `rt fmt` after.

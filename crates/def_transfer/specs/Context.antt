@@ -7,7 +7,7 @@ use Rattle.def_effects.specs.declared.AliasingDiagnostic.{AliasingDiagnostic}
 use Rattle.def_effects.specs.declared.Session.{Session}
 use Rattle.def_effects.specs.Effects.{AliasingEffect, Freeze, Mutate, MutateConditionally, MutateTransitive, MutateTransitiveConditionally, Capture, Alias, MaybeAlias, Assign, Create, CreateFrom, ImmutableCapture, CreateFunction, MutateFrozen, MutateGlobal, Impure, Render}
 use Rattle.def_effects.specs.Keys.{EffectKey, effect_key}
-use Rattle.def_transfer.specs.Monad.{M, Done, ◌>>◌, return, refuse, if◌then◌else◌, ◌>>=◌}
+use Rattle.def_transfer.specs.Monad.{M, Done, ◌>>◌, return, refuse, when◌then◌else◌, ◌>>=◌}
 use Rattle.def_transfer.specs.Diagnostics.{Diagnostic}
 use Rattle.def_transfer.specs.Tables.{Tables, Work, Rest, World}
 use Rattle.def_transfer.specs.State.{ask, change, on_session}
@@ -72,7 +72,7 @@ module _ {T : Tables} where
   intern_new e (some x) = return (refreshed e x)
   intern_new e none = do
     n ← ask (λ r. T.interned_count r.context)
-    if leb 2048 n then refuse 8 else (put_effect e >> return e)
+    when leb 2048 n then refuse 8 else (put_effect e >> return e)
 
   -- "The first effect under a key of `effect_key` is used ever after, spans included" (`intern_effect`)
   unfoldable pub intern_effect : AliasingEffect → M (World T) AliasingEffect
@@ -89,7 +89,7 @@ module _ {T : Tables} where
   unfoldable pub fresh_number : M (World T) ℕ
   fresh_number = do
     n ← ask (λ r. r.session.next)
-    if leb 512 n then refuse 9 else (set_next (suc n) >> return n)
+    when leb 512 n then refuse 9 else (set_next (suc n) >> return n)
 
   unfoldable pub cache : EffectKey → ℕ → M (World T) Done
   cache k n = change (on_context λ c. T.put_key c n k)
@@ -133,13 +133,13 @@ module _ {T : Tables} where
   new_identity (some n) = return n
   new_identity none = do
     n ← ask (λ r. T.identity_count r.context)
-    if leb 256 n then refuse 10 else return n
+    when leb 256 n then refuse 10 else return n
 
   unfoldable pub new_instance : ℕ → Diagnostic → Option ℕ → M (World T) ℕ
   new_instance identity d (some n) = return n
   new_instance identity d none = do
     n ← ask (λ r. T.instance_count r.context)
-    if leb 256 n then refuse 10 else (put_diagnostic identity d >> return n)
+    when leb 256 n then refuse 10 else (put_diagnostic identity d >> return n)
 
   unfoldable pub intern_diagnostic : Diagnostic → M (World T) AliasingDiagnostic
   intern_diagnostic d = do
@@ -165,7 +165,7 @@ module _ {T : Tables} where
   unfoldable pub begin : ℕ → M (World T) Done
   begin i = do
     b ← is_initialized i
-    if b then refuse 6 else put_initialized i
+    when b then refuse 6 else put_initialized i
 
   -- "each Freeze starts from zero"
   unfoldable pub start_freeze : M (World T) Done
@@ -175,4 +175,4 @@ module _ {T : Tables} where
   unfoldable pub count_entry : M (World T) Done
   count_entry = do
     full ← ask (λ r. leb 4096 r.work.freeze_entries)
-    if full then refuse 11 else change (on_work λ k. record { initialized = k.initialized; listed = k.listed; freeze_entries = suc k.freeze_entries; entries = T.one_more k.entries })
+    when full then refuse 11 else change (on_work λ k. record { initialized = k.initialized; listed = k.listed; freeze_entries = suc k.freeze_entries; entries = T.one_more k.entries })

@@ -6,7 +6,7 @@ use Rattle.def_kinds.specs.Kinds.{is_frozen}
 use Rattle.def_effects.specs.declared.Place.{Place}
 use Rattle.def_effects.specs.Places.{identifiers}
 use Rattle.def_effects.specs.Effects.{AliasingEffect, MutateFrozen}
-use Rattle.def_transfer.specs.Monad.{M, Done, ◌>>◌, done, if◌then◌else◌, each, atomically, ◌>>=◌}
+use Rattle.def_transfer.specs.Monad.{M, Done, ◌>>◌, done, when◌then◌else◌, each, atomically, ◌>>=◌}
 use Rattle.def_transfer.specs.Tables.{Tables, Rest, World}
 use Rattle.def_transfer.specs.State.{default, from_identifier, ask, change, set_of, peek, initialize, define}
 use Rattle.base_tests.specs.Tests.{is_some}
@@ -30,7 +30,7 @@ module _ {T : Tables} where
     o ← set_of p.identifier
     a ← peek p.identifier
     name ← ask (λ r. T.name_of r.context p.identifier)
-    if is_some o && is_frozen a.kind
+    when is_some o && is_frozen a.kind
         then (do
           d ← intern_diagnostic (modified p name a)
           emit (MutateFrozen p d))
@@ -40,7 +40,7 @@ module _ {T : Tables} where
   unfoldable pub early_error : ℕ → Place → M (World T) Done
   early_error f p = do
     near ← ask (λ r. has p.identifier (identifiers (function_context f r)))
-    if near then report_early p else done
+    when near then report_early p else done
 
   unfoldable pub early_errors : Option ℕ → M (World T) Done
   early_errors none = done
@@ -52,7 +52,7 @@ module _ {T : Tables} where
   unfoldable pub define_lvalue : ℕ → M (World T) Done
   define_lvalue i = do
     o ← set_of i
-    if is_some o then done else (do
+    when is_some o then done else (do
       initialize (from_identifier i) default
       define i (from_identifier i))
 

@@ -13,7 +13,7 @@ abbrev pub Done : Type 0
 Done = Unit {0}
 
 infixl 20 ◌>>=◌ ◌>>◌
-infix 15 if◌then◌else◌
+infix 15 when◌then◌else◌
 unfoldable pub and_then : {W A B : Type 0} → Res W A → (A → M W B) → Res W B
 and_then (ok a w) f = f a w
 and_then (refused n w) f = refused n w
@@ -33,8 +33,8 @@ refuse n w = refused n w
 unfoldable pub done : {W : Type 0} → M W Done
 done = return tt
 
-unfoldable pub if◌then◌else◌ : {W A : Type 0} → Bool → M W A → M W A → M W A
-if◌then◌else◌ b m n w = elim b [ true ↦ m w | false ↦ n w ]
+unfoldable pub when◌then◌else◌ : {W A : Type 0} → Bool → M W A → M W A → M W A
+when◌then◌else◌ b m n w = elim b [ true ↦ m w | false ↦ n w ]
 
 -- one after the other
 unfoldable pub each : {W A : Type 0} → List A → (A → M W Done) → M W Done

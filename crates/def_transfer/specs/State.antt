@@ -13,7 +13,7 @@ use Rattle.def_effects.specs.declared.Span.{Span}
 use Rattle.def_effects.specs.declared.Place.{Place}
 use Rattle.def_effects.specs.declared.Session.{Session}
 use Rattle.def_effects.specs.Places.{no_span}
-use Rattle.def_transfer.specs.Monad.{ok, M, Done, return, done, if◌then◌else◌, each, ◌>>=◌, ◌>>◌}
+use Rattle.def_transfer.specs.Monad.{ok, M, Done, return, done, when◌then◌else◌, each, ◌>>=◌, ◌>>◌}
 use Rattle.def_transfer.specs.Tables.{Tables, Rest, World}
 use Rattle.base_tests.specs.Tests.{is_some}
 
@@ -89,7 +89,7 @@ module _ {T : Tables} where
   unfoldable pub kind_with_span : ℕ → Span → M (World T) AbstractValue
   kind_with_span i span = do
     o ← set_of i
-    if is_some o then done else record_access i span
+    when is_some o then done else record_access i span
     peek i
 
   -- the kind of a place, with its span
@@ -146,7 +146,7 @@ module _ {T : Tables} where
   to_freeze i = do
     o ← set_of i
     a ← peek i
-    if is_some o && freezable a.kind then return o else return none
+    when is_some o && freezable a.kind then return o else return none
 
   unfoldable pub freeze : ℕ → ℕ → M (World T) Bool
   freeze i reason = do
@@ -165,4 +165,4 @@ module _ {T : Tables} where
   unfoldable pub infer_phi : ℕ → List ℕ → M (World T) Done
   infer_phi place operands = do
     s ← union_of operands 0
-    if eqb s 0 then done else point place s
+    when eqb s 0 then done else point place s

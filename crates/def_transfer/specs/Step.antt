@@ -17,7 +17,7 @@ use Rattle.def_effects.specs.Places.{no_span, eq_span}
 use Rattle.def_effects.specs.Mutation.{is_strict, result_of}
 use Rattle.def_effects.specs.Effects.{AliasingEffect, Freeze, Mutate, MutateConditionally, MutateTransitive, MutateTransitiveConditionally, Capture, Alias, MaybeAlias, Assign, Create, CreateFrom, ImmutableCapture, CreateFunction, MutateFrozen, MutateGlobal, Impure, Render}
 use Rattle.def_effects.specs.Keys.{effect_key, two, AssignFrozen, AssignCopy}
-use Rattle.def_transfer.specs.Monad.{M, Done, ◌>>=◌, ◌>>◌, return, refuse, done, if◌then◌else◌, each}
+use Rattle.def_transfer.specs.Monad.{M, Done, ◌>>=◌, ◌>>◌, return, refuse, done, when◌then◌else◌, each}
 use Rattle.def_transfer.specs.Diagnostics.{Diagnostic, cannot_be_modified, accessed_before}
 use Rattle.def_transfer.specs.Tables.{Tables, Rest, World}
 use Rattle.def_transfer.specs.State.{ask, set_of, peek, initialize, kind_at, kind, define, assign, freeze}
@@ -107,7 +107,7 @@ module _ {T : Tables} where
   any_written [] = return false
   any_written (p ∷ ps) = do
     b ← is_written p
-    if b then return true else any_written ps
+    when b then return true else any_written ps
 
   unfoldable pub any_ref : List Place → Rest T → Bool
   any_ref [] r = false
@@ -118,7 +118,7 @@ module _ {T : Tables} where
   update_context f p = do
     o ← set_of p.identifier
     a ← peek p.identifier
-    if eqb p.effect Places.Capture && (is_some o && (copied a.kind || is_frozen a.kind)) then make_read f p.identifier else done
+    when eqb p.effect Places.Capture && (is_some o && (copied a.kind || is_frozen a.kind)) then make_read f p.identifier else done
 
   unfoldable pub by_flow : Flow → M (World T) Done → M (World T) Done → M (World T) Done → M (World T) Done
   by_flow Immutable i s m = i
@@ -130,7 +130,7 @@ module _ {T : Tables} where
   unfoldable pub mutate : MutateVariant → Place → M (World T) MutationResult
   mutate variant p = do
     ref ← ask (ref_flag p.identifier)
-    if ref then return Result.MutateRef else (do
+    when ref then return Result.MutateRef else (do
       a ← kind_at p
       return (result_of (is_strict variant) a.kind))
 
@@ -149,7 +149,7 @@ module _ {T : Tables} where
     report_modified p a = do
       name ← ask (λ r. T.name_of r.context p.identifier)
       d ← intern_diagnostic (modified p name a)
-      if is_frozen a.kind then again (MutateFrozen p d) else again (MutateGlobal p d)
+      when is_frozen a.kind then again (MutateFrozen p d) else again (MutateGlobal p d)
 
     -- an access before the declaration
     unfoldable pub report_hoisted : Place → M (World T) Done
@@ -170,7 +170,7 @@ module _ {T : Tables} where
     report e p Result.MutateFrozen = do
       a ← kind p.identifier
       hoisted ← ask (λ r. T.is_hoisted r.context p.identifier)
-      if hoisted then report_hoisted p else report_modified p a
+      when hoisted then report_hoisted p else report_modified p a
 
     unfoldable pub mutating : MutateVariant → AliasingEffect → Place → M (World T) Done
     mutating variant e p = do
@@ -181,11 +181,11 @@ module _ {T : Tables} where
     unfoldable pub freezing : Place → ℕ → M (World T) Done
     freezing p reason = do
       acts ← freeze p.identifier reason
-      if acts
+      when acts
           then (do
             emit (Freeze p reason)
             transitive ← ask (λ r. T.is_transitive r.context)
-            if transitive
+            when transitive
                 then (do
                   o ← set_of p.identifier
                   walk (values_of o) reason)
@@ -202,14 +202,14 @@ module _ {T : Tables} where
     unfoldable pub capturing_immutably : Place → Place → M (World T) Done
     capturing_immutably from into = do
       a ← kind from.identifier
-      if copied a.kind then done else emit (ImmutableCapture from into)
+      when copied a.kind then done else emit (ImmutableCapture from into)
 
     -- what is listed of a CreateFrom, by the source's kind; "The Create that CreateFrom emits" is not interned
     unfoldable pub list_created : Place → Place → AbstractValue → M (World T) Done
     list_created from into a =
-        if copied a.kind
+        when copied a.kind
         then emit (Create into a.kind (Reasons.primary_reason a.reason))
-        else if is_frozen a.kind
+        else when is_frozen a.kind
         then (do
           emit (Create into a.kind (Reasons.primary_reason a.reason))
           again (ImmutableCapture from into))
@@ -227,12 +227,12 @@ module _ {T : Tables} where
     assigning from into = do
       begin into.identifier
       a ← kind_at from
-      if is_frozen a.kind
+      when is_frozen a.kind
           then (do
             again (ImmutableCapture from into)
             v ← get_or_create_value_id (two AssignFrozen from into)
             create into v a)
-          else if copied a.kind
+          else when copied a.kind
           then (do
             v ← get_or_create_value_id (two AssignCopy from into)
             create into v a)
@@ -263,7 +263,7 @@ module _ {T : Tables} where
     act (Capture from into) = flowing false (Capture from into) from into
     act (Alias from into) = do
       b ← is_initialized into.identifier
-      if b then flowing false (Alias from into) from into else refuse 7
+      when b then flowing false (Alias from into) from into else refuse 7
     act (MaybeAlias from into) = flowing true (MaybeAlias from into) from into
     act (Assign from into) = assigning from into
     act (Create into k reason) = creating into k reason

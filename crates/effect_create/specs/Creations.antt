@@ -5,7 +5,7 @@ use Rattle.def_kinds.specs.Kinds.{copied, is_frozen}
 use Rattle.def_effects.specs.declared.Place.{Place}
 use Rattle.def_effects.specs.Effects.{AliasingEffect, Assign, ImmutableCapture}
 use Rattle.def_effects.specs.Keys.{two, AssignFrozen, AssignCopy}
-use Rattle.def_transfer.specs.Monad.{M, Done, if◌then◌else◌, ◌>>=◌, ◌>>◌}
+use Rattle.def_transfer.specs.Monad.{M, Done, when◌then◌else◌, ◌>>=◌, ◌>>◌}
 use Rattle.def_transfer.specs.Tables.{World}
 use Rattle.def_transfer.specs.State as State
 use Rattle.def_transfer.specs.Context.{get_or_create_value_id, emit}
@@ -23,7 +23,7 @@ numbered code from into a = do
 -- the definition's last two cases
 unfoldable pub assigned : Place → Place → AbstractValue → M (World lent) Done
 assigned from into a =
-    if copied a.kind
+    when copied a.kind
     then numbered AssignCopy from into a
     else (do
       State.assign into.identifier from.identifier
@@ -33,7 +33,7 @@ assigned from into a =
 -- what is frozen is captured first, and takes its number afterwards
 unfoldable pub assigning : (AliasingEffect → M (World lent) Done) → Place → Place → AbstractValue → M (World lent) Done
 assigning again from into a =
-    if is_frozen a.kind
+    when is_frozen a.kind
     then (do
       again (ImmutableCapture from into)
       numbered AssignFrozen from into a)

@@ -2,7 +2,7 @@
 use Rattle.std.specs.Prelude.{ℕ, Bool, true, false, not}
 use Rattle.def_effects.specs.declared.Place.{Place}
 use Rattle.def_effects.specs.Effects.{AliasingEffect}
-use Rattle.def_transfer.specs.Monad.{M, Done, refuse, if◌then◌else◌, ◌>>=◌}
+use Rattle.def_transfer.specs.Monad.{M, Done, refuse, when◌then◌else◌, ◌>>=◌}
 use Rattle.def_transfer.specs.Tables.{World}
 use Rattle.def_transfer.specs.Context.{is_initialized}
 use Rattle.def_transfer.specs.Step.{flowing}
@@ -16,7 +16,7 @@ unfoldable pub flows : (AliasingEffect → M (World lent) Done) → Bool → Boo
 flows again false maybe e from into = flowing again maybe e from into
 flows again true maybe e from into = do
   b ← is_initialized into.identifier
-  if b then flowing again maybe e from into else refuse 7
+  when b then flowing again maybe e from into else refuse 7
 
 -- whether a flow is refused, by what goes by value
 -- an Alias into a place that is not marked

@@ -18,7 +18,7 @@ use Rattle.def_effects.specs.declared.AliasingDiagnostic.{AliasingDiagnostic}
 use Rattle.def_effects.specs.Places.{identifiers}
 use Rattle.def_effects.specs.Effects.{AliasingEffect, MutateFrozen}
 use Rattle.def_effects.specs.declared.Diagnostic.{Diagnostic}
-use Rattle.def_transfer.specs.Monad.{Res, ok, M, Done, and_then, ◌>>=◌, ◌>>◌, done, if◌then◌else◌, each}
+use Rattle.def_transfer.specs.Monad.{Res, ok, M, Done, and_then, ◌>>=◌, ◌>>◌, done, when◌then◌else◌, each}
 use Rattle.def_transfer.specs.Tables.{World}
 use Rattle.def_transfer.specs.State as State
 use Rattle.def_transfer.specs.State.{kind_of}
@@ -91,10 +91,10 @@ module _ (c : List ℕ) (f i n k : ℕ) where
 module _ (vs ss c os : List ℕ) (r : Run) (p : Place) where
   -- the definition looks at the place and its name, and tests
   report_tests : (a : AbstractValue) (name : ℕ) → a ≡ kind_of (value_at vs) (set_at ss p.identifier) → name ≡ Lent.name_of c p.identifier
-      → Instruction.report_early p (world vs ss c os r) ≡ (if is_some (set_at ss p.identifier) && is_frozen a.kind then (Context.intern_diagnostic (Step.modified p name a) >>= λ d. Context.emit (MutateFrozen p d)) else done) (world vs ss c os r)
+      → Instruction.report_early p (world vs ss c os r) ≡ (when is_some (set_at ss p.identifier) && is_frozen a.kind then (Context.intern_diagnostic (Step.modified p name a) >>= λ d. Context.emit (MutateFrozen p d)) else done) (world vs ss c os r)
   unfolding Instruction.report_early State.set_of State.peek State.ask ◌>>=◌ and_then
   report_tests a name e g =
-      ap₂ (λ (x : AbstractValue) (y : ℕ). (if is_some (set_at ss p.identifier) && is_frozen x.kind then (Context.intern_diagnostic (Step.modified p y x) >>= λ d. Context.emit (MutateFrozen p d)) else done) (world vs ss c os r)) (sym e) (sym g)
+      ap₂ (λ (x : AbstractValue) (y : ℕ). (when is_some (set_at ss p.identifier) && is_frozen x.kind then (Context.intern_diagnostic (Step.modified p y x) >>= λ d. Context.emit (MutateFrozen p d)) else done) (world vs ss c os r)) (sym e) (sym g)
 
   -- what the set of the place says
   module _ (b : Bool) (s : b ≡ is_some (set_at ss p.identifier)) where

@@ -14,7 +14,7 @@ use Rattle.def_kinds.specs.Values.{join}
 use Rattle.def_effects.specs.declared.Place.{Place}
 use Rattle.def_effects.specs.declared.Session.{Session}
 use Rattle.def_effects.specs.Places.{identifiers}
-use Rattle.def_transfer.specs.Monad.{Res, ok, refused, M, Done, and_then, ◌>>=◌, ◌>>◌, return, refuse, done, if◌then◌else◌, each, restore, atomically}
+use Rattle.def_transfer.specs.Monad.{Res, ok, refused, M, Done, and_then, ◌>>=◌, ◌>>◌, return, refuse, done, when◌then◌else◌, each, restore, atomically}
 use Rattle.def_transfer.specs.Tables.{Tables, State, Work, Rest, World}
 use Rattle.base_sets.specs.Members.{values_of}
 use Rattle.def_transfer.specs.State.{or_default, join_values, kind_of, set_of, value_of, peek, initialize, point, ask, change}
@@ -160,14 +160,14 @@ module _ {n : ℕ} {T : Tables} {F : Faithful n T} where
   unfolding refuse
   refuse_means k = record { runs = λ w u i. (refl, i) }
 
-  pub if_means : {A : Type 0} {Q : A → Type 0} {m k : M (World T) A} {f g : M (World pure) A} (b : Bool) → Means F Q m f → Means F Q k g → Means F Q (if b then m else k) (if b then f else g)
-  unfolding if◌then◌else◌
+  pub if_means : {A : Type 0} {Q : A → Type 0} {m k : M (World T) A} {f g : M (World pure) A} (b : Bool) → Means F Q m f → Means F Q k g → Means F Q (when b then m else k) (when b then f else g)
+  unfolding when◌then◌else◌
   if_means true h k = h
   if_means false h k = k
 
   -- the same, with the test's outcome in each branch
-  pub test_means : {A : Type 0} {Q : A → Type 0} {m k : M (World T) A} {f g : M (World pure) A} (b : Bool) → (b ≡ true → Means F Q m f) → (b ≡ false → Means F Q k g) → Means F Q (if b then m else k) (if b then f else g)
-  unfolding if◌then◌else◌
+  pub test_means : {A : Type 0} {Q : A → Type 0} {m k : M (World T) A} {f g : M (World pure) A} (b : Bool) → (b ≡ true → Means F Q m f) → (b ≡ false → Means F Q k g) → Means F Q (when b then m else k) (when b then f else g)
+  unfolding when◌then◌else◌
   test_means true h k = h refl
   test_means false h k = k refl
 
@@ -302,8 +302,8 @@ module _ {n : ℕ} {T : Tables} {F : Faithful n T} where
   unfolding ask ◌>>=◌ and_then
   look_found {Q = Q} f g {k = k} {l = l} e x h = record { runs = λ w u i. subst (λ (b : _). Rel F Q (k (f w.rest) w) (l b u)) (e w.rest u.rest i.rest) ((h (f w.rest) (x w.rest u.rest i.rest)).runs w u i refl) }
 
-  pub when_test : {P : Rest T → Type 0} {A : Type 0} {Q : A → Type 0} {m k : M (World T) A} {f g : M (World pure) A} (b : Bool) → Means F Q m f → (b ≡ false → When F Q P k g) → When F Q P (if b then m else k) (if b then f else g)
-  unfolding if◌then◌else◌
+  pub when_test : {P : Rest T → Type 0} {A : Type 0} {Q : A → Type 0} {m k : M (World T) A} {f g : M (World pure) A} (b : Bool) → Means F Q m f → (b ≡ false → When F Q P k g) → When F Q P (when b then m else k) (when b then f else g)
+  unfolding when◌then◌else◌
   when_test true h k = record { runs = λ w u i _. h.runs w u i }
   when_test false h k = record { runs = λ w u i x. (k refl).runs w u i x }
 

@@ -18,7 +18,7 @@ use Rattle.def_effects.specs.declared.MutateVariant.{MutateVariant}
 use Rattle.def_effects.specs.Places.{identifiers}
 use Rattle.def_effects.specs.Effects.{AliasingEffect}
 use Rattle.def_effects.specs.Keys.{EffectKey, effect_key}
-use Rattle.def_transfer.specs.Monad.{M, Done, and_then, ◌>>=◌, ◌>>◌, return, refuse, if◌then◌else◌}
+use Rattle.def_transfer.specs.Monad.{M, Done, and_then, ◌>>=◌, ◌>>◌, return, refuse, when◌then◌else◌}
 use Rattle.def_transfer.specs.Diagnostics.{Diagnostic}
 use Rattle.def_transfer.specs.Tables.{Tables, Rest, World}
 use Rattle.def_transfer.specs.State.{first_access, from_identifier, ask, change, record_access, kind_with_span, kind, define, or_insert, assign_set, assign, freeze_value, to_freeze, freeze}
@@ -66,7 +66,7 @@ first_next a span t = go (eqb t.access 0)
 
 -- the number n, where it is fresh, is handed out under a key
 abbrev hand_out : {T : Tables} → EffectKey → ℕ → M (World T) ℕ
-hand_out k n = (if leb 512 n then refuse 9 else (set_next (suc n) >> return n)) >>= (λ v. cache k v >> return v)
+hand_out k n = (when leb 512 n then refuse 9 else (set_next (suc n) >> return n)) >>= (λ v. cache k v >> return v)
 
 module _ {n : ℕ} {T : Tables} {F : Faithful n T} where
   -- ---- what is read of session, context and work
@@ -246,11 +246,11 @@ module _ {n : ℕ} {T : Tables} {F : Faithful n T} where
   -- ---- value numbers
 
   hand_out_when : (k : EffectKey) → Short k → (m : ℕ) → When F Fresh (λ r. (T.find_number r.context k ≡ none) × (r.session.next ≡ m)) (hand_out k m) (hand_out k m)
-  unfolding set_next cache change return refuse if◌then◌else◌ ◌>>=◌ ◌>>◌ and_then
+  unfolding set_next cache change return refuse when◌then◌else◌ ◌>>=◌ ◌>>◌ and_then
   hand_out_when k s m = record { runs = λ w u h x. go w u h x (leb 512 m) refl }
     where
       go : (w : World T) (u : World pure) → Related F w u → (T.find_number w.rest.context k ≡ none) × (w.rest.session.next ≡ m) → (b : Bool) → leb 512 m ≡ b
-          → Rel F Fresh (((if b then refuse 9 else (set_next (suc m) >> return m)) >>= (λ v. cache k v >> return v)) w) (((if b then refuse 9 else (set_next (suc m) >> return m)) >>= (λ v. cache k v >> return v)) u)
+          → Rel F Fresh (((when b then refuse 9 else (set_next (suc m) >> return m)) >>= (λ v. cache k v >> return v)) w) (((when b then refuse 9 else (set_next (suc m) >> return m)) >>= (λ v. cache k v >> return v)) u)
       go w u h x true e = (refl, h)
       go w u h x false e = (
         refl,

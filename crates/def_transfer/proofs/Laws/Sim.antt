@@ -6,7 +6,7 @@ use Rattle.std.proofs.Math.Path.{refl, subst}
 use Rattle.std.proofs.Math.Bool.{true, false}
 use mathlib.Core.List.{List, [], ◌∷◌}
 use Rattle.base_tests.specs.Tests.{All}
-use Rattle.def_transfer.specs.Monad.{Res, ok, refused, M, Done, and_then, ◌>>=◌, ◌>>◌, return, refuse, done, if◌then◌else◌, each}
+use Rattle.def_transfer.specs.Monad.{Res, ok, refused, M, Done, and_then, ◌>>=◌, ◌>>◌, return, refuse, done, when◌then◌else◌, each}
 
 -- nothing to say of an answer
 abbrev pub Any : {A : Type 0} → A → Type 0
@@ -59,14 +59,14 @@ module _ {W : Type 0} {𝓕 : Frame W} where
   unfolding refuse
   refuse_sim n a = record { runs = λ w u i. (refl, a, i) }
 
-  pub if_sim : {A : Type 0} {Q : A → Type 0} {m n f g : M W A} (b : Bool) → Sim 𝓕 Q m f → Sim 𝓕 Q n g → Sim 𝓕 Q (if b then m else n) (if b then f else g)
-  unfolding if◌then◌else◌
+  pub if_sim : {A : Type 0} {Q : A → Type 0} {m n f g : M W A} (b : Bool) → Sim 𝓕 Q m f → Sim 𝓕 Q n g → Sim 𝓕 Q (when b then m else n) (when b then f else g)
+  unfolding when◌then◌else◌
   if_sim true h k = h
   if_sim false h k = k
 
   -- the same, with the test's outcome in each branch
-  pub test_sim : {A : Type 0} {Q : A → Type 0} {m n f g : M W A} (b : Bool) → (b ≡ true → Sim 𝓕 Q m f) → (b ≡ false → Sim 𝓕 Q n g) → Sim 𝓕 Q (if b then m else n) (if b then f else g)
-  unfolding if◌then◌else◌
+  pub test_sim : {A : Type 0} {Q : A → Type 0} {m n f g : M W A} (b : Bool) → (b ≡ true → Sim 𝓕 Q m f) → (b ≡ false → Sim 𝓕 Q n g) → Sim 𝓕 Q (when b then m else n) (when b then f else g)
+  unfolding when◌then◌else◌
   test_sim true h k = h refl
   test_sim false h k = k refl
 

@@ -8,7 +8,7 @@ use Rattle.std.proofs.Math.Dec.{leb}
 use Rattle.std.proofs.Math.ListN.{set}
 use Rattle.def_effects.specs.declared.AliasingDiagnostic.{AliasingDiagnostic}
 use Rattle.def_effects.specs.declared.Diagnostic.{Diagnostic}
-use Rattle.def_transfer.specs.Monad.{ok, M, and_then, ◌>>=◌, ◌>>◌, return, refuse, if◌then◌else◌}
+use Rattle.def_transfer.specs.Monad.{ok, M, and_then, ◌>>=◌, ◌>>◌, return, refuse, when◌then◌else◌}
 use Rattle.def_transfer.specs.State.{ask, change}
 use Rattle.def_transfer.specs.Context as Context
 use Rattle.lent_context.specs.Lent as Lent
@@ -29,11 +29,11 @@ module _ (c : List ℕ) (d : Diagnostic) (x : Option ℕ) (e : x ≡ Lent.find_i
 
   module _ (h : x ≡ none) (m : ℕ) (g : m ≡ Lent.identity_count c) where
     -- without one the number of identities decides
-    identity_new : (vs ss os : List ℕ) (r : Run) → Context.new_identity (Lent.find_identity c d) (world vs ss c os r) ≡ (if leb 256 m then refuse 10 else return m) (world vs ss c os r)
+    identity_new : (vs ss os : List ℕ) (r : Run) → Context.new_identity (Lent.find_identity c d) (world vs ss c os r) ≡ (when leb 256 m then refuse 10 else return m) (world vs ss c os r)
     unfolding Context.new_identity ask ◌>>=◌ and_then
     identity_new vs ss os r =
         ap (λ (o : Option ℕ). Context.new_identity o (world vs ss c os r)) (sym e ∙ h)
-        ∙ ap (λ (k : ℕ). (if leb 256 k then refuse 10 else return k) (world vs ss c os r)) (sym g)
+        ∙ ap (λ (k : ℕ). (when leb 256 k then refuse 10 else return k) (world vs ss c os r)) (sym g)
 
     -- there are 256 identities
     -- the 257th is refused
@@ -58,11 +58,11 @@ module _ (c : List ℕ) (i : ℕ) (d : Diagnostic) (x : Option ℕ) (e : x ≡ L
 
   module _ (h : x ≡ none) (m : ℕ) (g : m ≡ Lent.instance_count c) where
     -- without one the number of records decides
-    instance_new : (vs ss os : List ℕ) (r : Run) → Context.new_instance i d (Lent.find_instance c i d) (world vs ss c os r) ≡ (if leb 256 m then refuse 10 else (Context.put_diagnostic i d >> return m)) (world vs ss c os r)
+    instance_new : (vs ss os : List ℕ) (r : Run) → Context.new_instance i d (Lent.find_instance c i d) (world vs ss c os r) ≡ (when leb 256 m then refuse 10 else (Context.put_diagnostic i d >> return m)) (world vs ss c os r)
     unfolding Context.new_instance ask ◌>>=◌ and_then
     instance_new vs ss os r =
         ap (λ (o : Option ℕ). Context.new_instance i d o (world vs ss c os r)) (sym e ∙ h)
-        ∙ ap (λ (k : ℕ). (if leb 256 k then refuse 10 else (Context.put_diagnostic i d >> return k)) (world vs ss c os r)) (sym g)
+        ∙ ap (λ (k : ℕ). (when leb 256 k then refuse 10 else (Context.put_diagnostic i d >> return k)) (world vs ss c os r)) (sym g)
 
     -- there are 256 records
     -- the 257th is refused

@@ -13,7 +13,7 @@ use Rattle.base_tests.proofs.Laws.Bool.{and_true, and_false}
 use Rattle.def_kinds.specs.declared.AbstractValue.{AbstractValue}
 use Rattle.def_kinds.specs.Kinds.{copied, is_frozen}
 use Rattle.def_effects.specs.declared.Place.{Place}
-use Rattle.def_transfer.specs.Monad.{ok, and_then, ◌>>=◌, return, done, if◌then◌else◌, each}
+use Rattle.def_transfer.specs.Monad.{ok, and_then, ◌>>=◌, return, done, when◌then◌else◌, each}
 use Rattle.def_transfer.specs.State as State
 use Rattle.def_transfer.specs.State.{kind_of, change}
 use Rattle.base_tests.specs.Tests.{is_some}
@@ -196,10 +196,10 @@ module _ (c : List ℕ) (f : ℕ) where
 module _ (vs ss c : List ℕ) (f : ℕ) (p : Place) where
   -- the definition looks at the place and tests, and no more
   update_tests : (os : List ℕ) (r : Run) (a : AbstractValue) → a ≡ kind_of (value_at vs) (set_at ss p.identifier)
-      → Step.update_context f p (world vs ss c os r) ≡ (if eqb p.effect 3 && (is_some (set_at ss p.identifier) && (copied a.kind || is_frozen a.kind)) then Context.make_read f p.identifier else done) (world vs ss c os r)
+      → Step.update_context f p (world vs ss c os r) ≡ (when eqb p.effect 3 && (is_some (set_at ss p.identifier) && (copied a.kind || is_frozen a.kind)) then Context.make_read f p.identifier else done) (world vs ss c os r)
   unfolding Step.update_context State.set_of State.peek ◌>>=◌ and_then
   update_tests os r a e =
-      ap (λ (x : AbstractValue). (if eqb p.effect 3 && (is_some (set_at ss p.identifier) && (copied x.kind || is_frozen x.kind)) then Context.make_read f p.identifier else done) (world vs ss c os r)) (sym e)
+      ap (λ (x : AbstractValue). (when eqb p.effect 3 && (is_some (set_at ss p.identifier) && (copied x.kind || is_frozen x.kind)) then Context.make_read f p.identifier else done) (world vs ss c os r)) (sym e)
 
   -- a test failed
   update_stays : (a : AbstractValue) → a ≡ kind_of (value_at vs) (set_at ss p.identifier) → (eqb p.effect 3 && (is_some (set_at ss p.identifier) && (copied a.kind || is_frozen a.kind))) ≡ false

@@ -13,7 +13,7 @@ use Rattle.def_effects.specs.declared.Place.{Place}
 use Rattle.def_effects.specs.declared.Session.{Session}
 use Rattle.def_effects.specs.Places.{no_span}
 use Rattle.def_effects.specs.Effects.{AliasingEffect}
-use Rattle.def_transfer.specs.Monad.{Res, ok, Done, and_then, ◌>>=◌, ◌>>◌, return, refuse, done, if◌then◌else◌}
+use Rattle.def_transfer.specs.Monad.{Res, ok, Done, and_then, ◌>>=◌, ◌>>◌, return, refuse, done, when◌then◌else◌}
 use Rattle.def_transfer.specs.Tables.{World}
 use Rattle.def_transfer.specs.State as State
 use Rattle.def_transfer.specs.State.{kind_of, ask, change}
@@ -69,7 +69,7 @@ module _ (vs ss cs os : List ℕ) (r : Run) (i : ℕ) (b : Bool) (e : b ≡ is_m
 
 pub kind_is : (vs ss : List ℕ) (r : Run) (i : ℕ) (span : Span) (a : AbstractValue) (s : Session) (u : Run) → a ≡ kind_of (value_at vs) (set_at ss i) → s ≡ after_use ss r.session i span → u ≡ with_session s r
     → (cs os : List ℕ) → State.kind_with_span i span (world vs ss cs os r) ≡ ok a (world vs ss cs os u)
-unfolding State.kind_with_span State.set_of State.peek State.record_access State.change after_use access_of done if◌then◌else◌ return ◌>>◌ ◌>>=◌ and_then
+unfolding State.kind_with_span State.set_of State.peek State.record_access State.change after_use access_of done when◌then◌else◌ return ◌>>◌ ◌>>=◌ and_then
 kind_is vs ss r i span a s u e g h cs os =
     go (is_some (set_at ss i)) (eqb r.session.access 0)
     ∙ ap₂ (λ (x : AbstractValue) (y : Run). ok x (world vs ss cs os y)) (sym e) (sym (h ∙ ap (λ (t : Session). with_session t r) g))
@@ -115,7 +115,7 @@ module _ (vs ss ws : List ℕ) (n k : ℕ) where
   unfolding counted_places
   whole e = let z : n - 0 ≡ n = omega arith in ap (places_in one_run ws 0 1 0) (z ∙ e)
 
-  asked : (cs os : List ℕ) (r : Run) (p : Place) (ps : List Place) → Step.any_written (p ∷ ps) (world vs ss cs os r) ≡ (if writes vs ss p.identifier then return true else Step.any_written ps) (world vs ss cs os r)
+  asked : (cs os : List ℕ) (r : Run) (p : Place) (ps : List Place) → Step.any_written (p ∷ ps) (world vs ss cs os r) ≡ (when writes vs ss p.identifier then return true else Step.any_written ps) (world vs ss cs os r)
   unfolding Step.any_written Step.is_written State.set_of State.peek writes return ◌>>=◌ and_then
   asked cs os r p ps = refl
 

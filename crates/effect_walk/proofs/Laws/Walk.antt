@@ -13,7 +13,7 @@ use Rattle.def_kinds.specs.Kinds.{freezable}
 use Rattle.def_kinds.specs.Reasons.{single}
 use Rattle.def_kinds.specs.Values.{mk}
 use Rattle.def_effects.specs.declared.Place.{Place}
-use Rattle.def_transfer.specs.Monad.{Res, ok, M, Done, and_then, ◌>>=◌, return, refuse, if◌then◌else◌, each}
+use Rattle.def_transfer.specs.Monad.{Res, ok, M, Done, and_then, ◌>>=◌, return, refuse, when◌then◌else◌, each}
 use Rattle.def_transfer.specs.Tables.{World}
 use Rattle.def_transfer.specs.State.{kind_of, ask, change, set_of, peek, initialize, freeze_value, to_freeze}
 use Rattle.base_sets.specs.Members.{values_of, bits_of}
@@ -63,7 +63,7 @@ module _ (ss cs : List ℕ) (s : Still) where
 
   module _ (F : ℕ → M (World lent) Done) (reason : ℕ) (vs : List ℕ) (made all : ℕ) where
     to_freeze_is : (i : ℕ) (b : Bool) → b ≡ freezes vs ss i → to_freeze i (walking vs ss cs s made all) ≡ ok (ite b (set_at ss i) none) (walking vs ss cs s made all)
-    unfolding to_freeze set_of peek freezes return if◌then◌else◌ ◌>>=◌ and_then
+    unfolding to_freeze set_of peek freezes return when◌then◌else◌ ◌>>=◌ and_then
     to_freeze_is i b e = go (is_some (set_at ss i) && freezable (kind_of (value_at vs) (set_at ss i)).kind) ∙ ap (λ (x : Bool). ok (ite x (set_at ss i) none) (walking vs ss cs s made all)) (sym e)
       where
         go : (x : Bool) → (elim x as (λ y. Res (World lent) (Option ℕ)) [ true ↦ ok (set_at ss i) (walking vs ss cs s made all) | false ↦ ok none (walking vs ss cs s made all) ]) ≡ ok (ite x (set_at ss i) none) (walking vs ss cs s made all)

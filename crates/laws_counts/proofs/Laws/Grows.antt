@@ -5,7 +5,7 @@ use native.Mathlib.Omega.{arith}
 use Rattle.std.proofs.Math.Bool.{true, false}
 use Rattle.std.proofs.Math.Path.{refl}
 use mathlib.Core.List.{List, [], ◌∷◌}
-use Rattle.def_transfer.specs.Monad.{Res, ok, refused, M, Done, and_then, ◌>>=◌, ◌>>◌, return, refuse, done, if◌then◌else◌, each, restore, atomically}
+use Rattle.def_transfer.specs.Monad.{Res, ok, refused, M, Done, and_then, ◌>>=◌, ◌>>◌, return, refuse, done, when◌then◌else◌, each, restore, atomically}
 use Rattle.def_transfer.specs.Tables.{Tables, Work, Rest, World}
 use Rattle.def_transfer.specs.State.{ask}
 
@@ -94,18 +94,18 @@ module _ {T : Tables} {μ : Work T → ℕ} where
   refuse_grows n = record { grows = λ w. omega arith }
 
   -- either branch is bounded
-  pub if_grows : {A : Type 0} {m n : M (World T) A} {b : ℕ} (t : Bool) → Grows μ b m → Grows μ b n → Grows μ b (if t then m else n)
-  unfolding if◌then◌else◌
+  pub if_grows : {A : Type 0} {m n : M (World T) A} {b : ℕ} (t : Bool) → Grows μ b m → Grows μ b n → Grows μ b (when t then m else n)
+  unfolding when◌then◌else◌
   if_grows true h k = h
   if_grows false h k = k
 
   -- refused where a test of the rest holds: what goes on may use that it does not
   -- for entries, which are counted below 4,096 only
-  pub unless_grows : {A : Type 0} {b : ℕ} (f : Rest T → Bool) (n : ℕ) (m : M (World T) A) → ((w : World T) → f w.rest ≡ false → μ (after (m w)) ≤ μ w.rest.work + b) → Grows μ b (ask f >>= λ t. if t then refuse n else m)
-  unfolding ask ◌>>=◌ and_then if◌then◌else◌ refuse
+  pub unless_grows : {A : Type 0} {b : ℕ} (f : Rest T → Bool) (n : ℕ) (m : M (World T) A) → ((w : World T) → f w.rest ≡ false → μ (after (m w)) ≤ μ w.rest.work + b) → Grows μ b (ask f >>= λ t. when t then refuse n else m)
+  unfolding ask ◌>>=◌ and_then when◌then◌else◌ refuse
   unless_grows {b = b} f n m h = record { grows = λ w. go w (f w.rest) (h w) }
     where
-      go : (w : World T) (t : Bool) → (t ≡ false → μ (after (m w)) ≤ μ w.rest.work + b) → μ (after ((if t then refuse n else m) w)) ≤ μ w.rest.work + b
+      go : (w : World T) (t : Bool) → (t ≡ false → μ (after (m w)) ≤ μ w.rest.work + b) → μ (after ((when t then refuse n else m) w)) ≤ μ w.rest.work + b
       go w true k = omega arith
       go w false k = k refl
 

@@ -18,7 +18,7 @@ use Rattle.def_effects.specs.declared.MutationResult.TheVariants as Result
 use Rattle.def_effects.specs.Places.{identifiers}
 use Rattle.def_effects.specs.Effects.{AliasingEffect, Freeze, Mutate, MutateConditionally, MutateTransitive, MutateTransitiveConditionally, Capture, Alias, MaybeAlias, Assign, Create, CreateFrom, ImmutableCapture, CreateFunction, MutateFrozen, MutateGlobal, Impure, Render}
 use Rattle.def_effects.specs.Keys.{EffectKey, effect_key}
-use Rattle.def_transfer.specs.Monad.{M, Done, ◌>>=◌, ◌>>◌, and_then, return, refuse, if◌then◌else◌, each}
+use Rattle.def_transfer.specs.Monad.{M, Done, ◌>>=◌, ◌>>◌, and_then, return, refuse, when◌then◌else◌, each}
 use Rattle.def_transfer.specs.Tables.{Tables, Work, World}
 use Rattle.def_transfer.specs.State.{ask, change}
 use Rattle.def_transfer.specs.Context.{put_effect, intern_new, intern_effect, emit, put_initialized, begin}
@@ -209,11 +209,11 @@ module _ {T : Tables} (found : Finding T) (e : AliasingEffect) where
   -- the effect that is used has the key of the one that was given
   -- one found has it by the laws of the tables, a new one is the one given
   known : (o : Option AliasingEffect) → ((x : AliasingEffect) → o ≡ some x → effect_key e ≡ effect_key x) → (w : World T) → Holds (λ x. effect_key e ≡ effect_key x) (intern_new e o w)
-  unfolding intern_new ask ◌>>=◌ ◌>>◌ and_then if◌then◌else◌ return refuse put_effect change
+  unfolding intern_new ask ◌>>=◌ ◌>>◌ and_then when◌then◌else◌ return refuse put_effect change
   known (some x) h w = refreshed_key e x (h x refl)
   known none h w = go (leb 2048 (T.interned_count w.rest.context))
     where
-      go : (b : Bool) → Holds (λ x. effect_key e ≡ effect_key x) ((if b then refuse 8 else (put_effect {T = T} e >> return e)) w)
+      go : (b : Bool) → Holds (λ x. effect_key e ≡ effect_key x) ((when b then refuse 8 else (put_effect {T = T} e >> return e)) w)
       go true = tt
       go false = refl
 

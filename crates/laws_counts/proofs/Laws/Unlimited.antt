@@ -7,7 +7,7 @@ use Rattle.std.proofs.Math.Bool.{true, false}
 use mathlib.Core.List.{List, [], ◌∷◌, ◌++◌}
 use Rattle.def_effects.specs.declared.Session.{Session}
 use Rattle.def_effects.specs.Effects.{AliasingEffect}
-use Rattle.def_transfer.specs.Monad.{Res, ok, refused, M, Done, and_then, ◌>>=◌, ◌>>◌, return, refuse, done, if◌then◌else◌, each, restore, atomically}
+use Rattle.def_transfer.specs.Monad.{Res, ok, refused, M, Done, and_then, ◌>>=◌, ◌>>◌, return, refuse, done, when◌then◌else◌, each, restore, atomically}
 use Rattle.def_transfer.specs.Tables.{Tables, Work, Rest, World}
 use Rattle.def_transfer.specs.State.{ask, change}
 
@@ -132,8 +132,8 @@ module _ {T : Tables} where
   refuse_same n = record { same = λ w. refl }
 
   -- either branch
-  pub if_same : {A : Type 0} {m n : M (World T) A} {f g : M (World (unlimited T)) A} (b : Bool) → Same T m f → Same T n g → Same T (if b then m else n) (if b then f else g)
-  unfolding if◌then◌else◌
+  pub if_same : {A : Type 0} {m n : M (World T) A} {f g : M (World (unlimited T)) A} (b : Bool) → Same T m f → Same T n g → Same T (when b then m else n) (when b then f else g)
+  unfolding when◌then◌else◌
   if_same true h k = h
   if_same false h k = k
 

@@ -30,6 +30,8 @@ later n h = go (ltb 5 n) (ltb n 12) refl refl h
   where
     go : (a b : Bool) → ltb 5 n ≡ a → ltb n 12 ≡ b → T (a && b) → (6 ≤ n) × (n ≤ 11)
     go true true e f t = (ltb-true 5 n e, let z = ltb-true n 12 f in omega arith)
+    go false b e f t = elim t [ ]
+    go true false e f t = elim t [ ]
 
 -- the number that a call answers with, by how its transfer ends
 -- none, or one of 6 to 11

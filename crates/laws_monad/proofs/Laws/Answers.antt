@@ -6,7 +6,7 @@ use Rattle.std.specs.Prelude.{Bool, leb}
 use Rattle.std.proofs.Math.Bool.{true, false}
 use mathlib.Core.List.{List, [], ◌∷◌}
 use Rattle.std.proofs.lemmas.Bool.{lt-leb}
-use Rattle.def_transfer.specs.Monad.{Res, ok, refused, M, Done, and_then, ◌>>=◌, ◌>>◌, return, refuse, done, if◌then◌else◌, each}
+use Rattle.def_transfer.specs.Monad.{Res, ok, refused, M, Done, and_then, ◌>>=◌, ◌>>◌, return, refuse, done, when◌then◌else◌, each}
 use Rattle.laws_monad.specs.Answers.{answer}
 
 module _ {W A : Type 0} where
@@ -73,20 +73,20 @@ module _ {W A B : Type 0} where
 
 -- the test of a branch is known
 module _ {W A : Type 0} where
-  pub if_true : (b : Bool) (m n : M W A) (w : W) (x : Res W A) → b ≡ true → m w ≡ x → (if b then m else n) w ≡ x
-  unfolding if◌then◌else◌
+  pub if_true : (b : Bool) (m n : M W A) (w : W) (x : Res W A) → b ≡ true → m w ≡ x → (when b then m else n) w ≡ x
+  unfolding when◌then◌else◌
   if_true true m n w x h e = e
   if_true false m n w x h e = let z : ◌≡◌ {A = ℕ} 0 1 = cc in absurd (omega arith)
 
-  pub if_false : (b : Bool) (m n : M W A) (w : W) (x : Res W A) → b ≡ false → n w ≡ x → (if b then m else n) w ≡ x
-  unfolding if◌then◌else◌
+  pub if_false : (b : Bool) (m n : M W A) (w : W) (x : Res W A) → b ≡ false → n w ≡ x → (when b then m else n) w ≡ x
+  unfolding when◌then◌else◌
   if_false false m n w x h e = e
   if_false true m n w x h e = let z : ◌≡◌ {A = ℕ} 0 1 = cc in absurd (omega arith)
 
-  pub if_le : (a b : ℕ) (m n : M W A) (w : W) (x : Res W A) → a ≤ b → m w ≡ x → (if leb a b then m else n) w ≡ x
+  pub if_le : (a b : ℕ) (m n : M W A) (w : W) (x : Res W A) → a ≤ b → m w ≡ x → (when leb a b then m else n) w ≡ x
   if_le a b m n w x h e = if_true _ m n w x (le-leb a b h) e
 
-  pub if_gt : (a b : ℕ) (m n : M W A) (w : W) (x : Res W A) → b < a → n w ≡ x → (if leb a b then m else n) w ≡ x
+  pub if_gt : (a b : ℕ) (m n : M W A) (w : W) (x : Res W A) → b < a → n w ≡ x → (when leb a b then m else n) w ≡ x
   if_gt a b m n w x h e = if_false _ m n w x (lt-leb a b h) e
 
 -- a list, from its first element on

@@ -10,7 +10,7 @@ use Rattle.std.proofs.Math.Option.{some}
 use Rattle.std.proofs.Math.ListN.{length}
 use Rattle.def_effects.specs.Effects.{AliasingEffect}
 use Rattle.def_effects.specs.Keys.{EffectKey, effect_key}
-use Rattle.def_transfer.specs.Monad.{Res, ok, refused, M, Done, and_then, ◌>>=◌, ◌>>◌, return, refuse, done, if◌then◌else◌, each, restore, atomically}
+use Rattle.def_transfer.specs.Monad.{Res, ok, refused, M, Done, and_then, ◌>>=◌, ◌>>◌, return, refuse, done, when◌then◌else◌, each, restore, atomically}
 use Rattle.def_transfer.specs.Diagnostics.{Diagnostic}
 use Rattle.def_transfer.specs.Tables.{Tables, Rest, World}
 use Rattle.def_transfer.specs.State.{ask, change}
@@ -168,8 +168,8 @@ module _ {T : Tables} {𝓟 : Padded T} where
   refuse_near n = record { near = λ w d p l. record { long = d; same = refl; pad = p; most = omega arith; least = omega arith } }
 
   -- either branch
-  pub if_near : {A : Type 0} {m n : M (World T) A} {b : ℕ} (t : Bool) → Near 𝓟 b m → Near 𝓟 b n → Near 𝓟 b (if t then m else n)
-  unfolding if◌then◌else◌
+  pub if_near : {A : Type 0} {m n : M (World T) A} {b : ℕ} (t : Bool) → Near 𝓟 b m → Near 𝓟 b n → Near 𝓟 b (when t then m else n)
+  unfolding when◌then◌else◌
   if_near true h k = h
   if_near false h k = k
 

@@ -14,7 +14,7 @@ use Rattle.def_effects.specs.declared.Place.{Place}
 use Rattle.def_effects.specs.declared.MutateVariant.{MutateVariant}
 use Rattle.def_effects.specs.Effects.{AliasingEffect}
 use Rattle.def_effects.specs.Keys.{EffectKey, effect_key}
-use Rattle.def_transfer.specs.Monad.{M, Done, ◌>>=◌, ◌>>◌, and_then, return, refuse, if◌then◌else◌}
+use Rattle.def_transfer.specs.Monad.{M, Done, ◌>>=◌, ◌>>◌, and_then, return, refuse, when◌then◌else◌}
 use Rattle.def_transfer.specs.Diagnostics.{Diagnostic}
 use Rattle.def_transfer.specs.Tables.{Tables, Rest, World}
 use Rattle.def_transfer.specs.State.{ask, change, set_of, value_of, peek, initialize, point, record_access, kind_with_span, kind, define, or_insert, assign_set, assign, freeze_value, to_freeze, freeze}
@@ -161,11 +161,11 @@ module _ {T : Tables} {𝓟 : Padded T} where
 module _ {T : Tables} (𝓜 : Measured T) (e : AliasingEffect) where
   -- one found has it by the laws of the tables, a new one is the one given
   known : (o : Option AliasingEffect) → ((x : AliasingEffect) → o ≡ some x → effect_key e ≡ effect_key x) → (w : World T) → Holds (λ x. effect_key e ≡ effect_key x) (intern_new e o w)
-  unfolding intern_new ask ◌>>=◌ ◌>>◌ and_then if◌then◌else◌ return refuse put_effect change
+  unfolding intern_new ask ◌>>=◌ ◌>>◌ and_then when◌then◌else◌ return refuse put_effect change
   known (some x) h w = refreshed_key e x (h x refl)
   known none h w = go (leb 2048 (T.interned_count w.rest.context))
     where
-      go : (b : Bool) → Holds (λ x. effect_key e ≡ effect_key x) ((if b then refuse 8 else (put_effect {T = T} e >> return e)) w)
+      go : (b : Bool) → Holds (λ x. effect_key e ≡ effect_key x) ((when b then refuse 8 else (put_effect {T = T} e >> return e)) w)
       go true = tt
       go false = refl
 

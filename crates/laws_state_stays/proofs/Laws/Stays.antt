@@ -20,7 +20,7 @@ use Rattle.def_effects.specs.declared.Session.{Session}
 use Rattle.def_effects.specs.declared.MutateVariant.{MutateVariant}
 use Rattle.def_effects.specs.Places.{no_span}
 use Rattle.def_transfer.specs.Accepted.{not_anumber, not_yet_handed_out}
-use Rattle.def_transfer.specs.Monad.{Res, ok, M, and_then, ◌>>=◌, return, if◌then◌else◌}
+use Rattle.def_transfer.specs.Monad.{Res, ok, M, and_then, ◌>>=◌, return, when◌then◌else◌}
 use Rattle.def_transfer.specs.Tables.{World}
 use Rattle.def_transfer.specs.Pure as Pure
 use Rattle.def_transfer.specs.State as State
@@ -180,13 +180,13 @@ module _ (n next : ℕ) (vs ss : List ℕ) (x : ValuesFit n next vs) where
 
 mutate_ref : (vs ss : List ℕ) (s : Session) (variant : MutateVariant) (i : ℕ) (span : Span)
     → Step.mutate variant (record { identifier = i; effect = 0; reactive = 0; span = span }) (start true vs ss s) ≡ ok Result.MutateRef (start true vs ss s)
-unfolding Step.mutate State.ask if◌then◌else◌ return ◌>>=◌ and_then
+unfolding Step.mutate State.ask when◌then◌else◌ return ◌>>=◌ and_then
 mutate_ref vs ss s variant i span = refl
 
 mutate_kind : (vs ss : List ℕ) (s : Session) (variant : MutateVariant) (i : ℕ) (span : Span) → i < 512
     → Step.mutate variant (record { identifier = i; effect = 0; reactive = 0; span = span }) (start false vs ss s)
     ≡ ok (result_of (is_strict variant) (State.kind_of (value_at vs) (set_at ss i)).kind) (start false vs ss (after_use ss s i span))
-unfolding Step.mutate State.ask if◌then◌else◌ return ◌>>=◌ and_then
+unfolding Step.mutate State.ask when◌then◌else◌ return ◌>>=◌ and_then
 mutate_kind vs ss s variant i span l = ap (λ (x : Res (World Lent) AbstractValue). and_then x (λ a. return (result_of (is_strict variant) a.kind))) (kind_runs false vs ss s i span l)
 
 -- ---- each call

@@ -21,7 +21,7 @@ use Rattle.def_effects.specs.Places.{no_span}
 use Rattle.lent_sets.specs.Rows.{set_at, put_set, append_set}
 use Rattle.def_transfer.specs.Accepted.{not_anumber, not_yet_handed_out}
 use Rattle.def_transfer.specs.Pure as Pure
-use Rattle.def_transfer.specs.Monad.{Res, ok, M, Done, and_then, ◌>>=◌, ◌>>◌, return, done, if◌then◌else◌}
+use Rattle.def_transfer.specs.Monad.{Res, ok, M, Done, and_then, ◌>>=◌, ◌>>◌, return, done, when◌then◌else◌}
 use Rattle.def_transfer.specs.Tables.{World}
 use Rattle.def_transfer.specs.State as State
 use Rattle.state_ops.specs.Lists.{assigned_values, assigned_sets, freezes, frozen_values}
@@ -130,7 +130,7 @@ module _ {A : Type 0} (ref : Bool) (empty : A) (m : M (World Lent) A) (vs ss : L
 -- the definition records just that
 pub kind_runs : (ref : Bool) (vs ss : List ℕ) (s : Session) (i : ℕ) (span : Span) → i < 512
     → State.kind_with_span i span (start ref vs ss s) ≡ ok (State.kind_of (value_at vs) (set_at ss i)) (start ref vs ss (after_use ss s i span))
-unfolding State.kind_with_span State.set_of State.peek State.record_access State.change after_use access_of done if◌then◌else◌ return ◌>>◌ ◌>>=◌ and_then
+unfolding State.kind_with_span State.set_of State.peek State.record_access State.change after_use access_of done when◌then◌else◌ return ◌>>◌ ◌>>=◌ and_then
 kind_runs ref vs ss s i span h = go (set_at ss i) (eqb s.access 0) (ltb i 512) (lt-ltb i 512 h)
   where
     go : (o : Option ℕ) (b c : Bool) → c ≡ true

@@ -22,7 +22,7 @@ use Rattle.lent_values.specs.Cells.{value_at}
 use Rattle.lent_sets.specs.Rows.{set_at, left, next_member}
 use Rattle.base_sets.specs.Members.{bits_of, values_of}
 use Rattle.lent_sets.proofs.Laws.Row.{walk_step, walk_end, none_of}
-use Rattle.def_transfer.specs.Monad.{Res, ok, Done, and_then, ◌>>=◌, ◌>>◌, return, if◌then◌else◌}
+use Rattle.def_transfer.specs.Monad.{Res, ok, Done, and_then, ◌>>=◌, ◌>>◌, return, when◌then◌else◌}
 use Rattle.def_transfer.specs.Tables.{World}
 use Rattle.def_transfer.specs.Pure as Pure
 use Rattle.def_transfer.specs.State as State
@@ -77,12 +77,12 @@ module _ (vs ss : List ℕ) (s : Session) (place : ℕ) (operands : List ℕ) (n
 -- ---- mutation
 
 pub mutate_ref : (vs ss : List ℕ) (s : Session) (variant : MutateVariant) (i : ℕ) (span : Span) → Step.mutate variant (used i span) (start true vs ss s) ≡ ok Result.MutateRef (start true vs ss s)
-unfolding Step.mutate State.ask if◌then◌else◌ return ◌>>=◌ and_then
+unfolding Step.mutate State.ask when◌then◌else◌ return ◌>>=◌ and_then
 mutate_ref vs ss s variant i span = refl
 
 pub mutate_kind : (vs ss : List ℕ) (s : Session) (variant : MutateVariant) (i : ℕ) (span : Span) → i < 512
     → Step.mutate variant (used i span) (start false vs ss s) ≡ ok (result_of (is_strict variant) (State.kind_of (value_at vs) (set_at ss i)).kind) (start false vs ss (after_use ss s i span))
-unfolding Step.mutate State.ask if◌then◌else◌ return ◌>>=◌ and_then
+unfolding Step.mutate State.ask when◌then◌else◌ return ◌>>=◌ and_then
 mutate_kind vs ss s variant i span h = ap (λ (x : Res (World Lent) AbstractValue). and_then x (λ a. return (result_of (is_strict variant) a.kind))) (kind_runs false vs ss s i span h)
 
 module _ (vs ss : List ℕ) (s : Session) (variant : MutateVariant) (i : ℕ) (span : Span) (n : ℕ) (e : n ≡ refusal1 vs ss s i) where

@@ -12,7 +12,7 @@ use Rattle.def_kinds.specs.declared.ValueKind.TheVariants.{Frozen}
 use Rattle.def_kinds.specs.Kinds.{freezable}
 use Rattle.def_kinds.specs.Reasons.{single}
 use Rattle.def_kinds.specs.Values.{mk}
-use Rattle.def_transfer.specs.Monad.{Res, ok, Done, and_then, ◌>>=◌, ◌>>◌, return, done, if◌then◌else◌, each}
+use Rattle.def_transfer.specs.Monad.{Res, ok, Done, and_then, ◌>>=◌, ◌>>◌, return, done, when◌then◌else◌, each}
 use Rattle.def_transfer.specs.Tables.{Tables, Rest, World}
 use Rattle.def_transfer.specs.State.{kind_of, set_of, value_of, peek, initialize, point, is_defined, define, or_insert, assign_set, assign, append_sets, append_alias, freeze_value, to_freeze, freeze, union_of, infer_phi, from_identifier}
 use Rattle.lent_values.specs.Cells.{value_at, put_value}
@@ -49,7 +49,7 @@ module _ (T : Tables) (flag : Bool) (r : Rest (on_lists T)) where
   each_frozen reason (m ∷ ms) vs ss = each_frozen reason ms (put_value vs m (mk Frozen (single reason))) ss
 
   pub freeze_lists : (vs ss : List ℕ) (i reason : ℕ) → freeze i reason (lists T flag r vs ss) ≡ ok (freezes vs ss i) (lists T flag r (frozen_values vs ss i reason) ss)
-  unfolding freeze to_freeze set_of peek freezes frozen_values each done if◌then◌else◌ return ◌>>◌ ◌>>=◌ and_then
+  unfolding freeze to_freeze set_of peek freezes frozen_values each done when◌then◌else◌ return ◌>>◌ ◌>>=◌ and_then
   freeze_lists vs ss i reason = go (set_at ss i) (freezable (kind_of (value_at vs) (set_at ss i)).kind)
     where
       go : (o : Option ℕ) (b : Bool)
@@ -86,11 +86,11 @@ module _ (T : Tables) (flag : Bool) (r : Rest (on_lists T)) where
   union_lists vs ss (i ∷ is) s = union_lists vs ss is (union s (bits_of (set_at ss i)))
 
   pub phi_lists : (vs ss : List ℕ) (place : ℕ) (operands : List ℕ) → infer_phi place operands (lists T flag r vs ss) ≡ ok tt (lists T flag r vs (phi_sets ss place operands))
-  unfolding infer_phi phi_sets if◌then◌else◌ point done return ◌>>=◌ and_then
+  unfolding infer_phi phi_sets when◌then◌else◌ point done return ◌>>=◌ and_then
   phi_lists vs ss place operands =
-      ap (λ (x : Res (World (on_lists T)) ℕ). and_then x (λ s. if eqb s 0 then done else point place s)) (union_lists vs ss operands 0) ∙ go (unions ss operands 0)
+      ap (λ (x : Res (World (on_lists T)) ℕ). and_then x (λ s. when eqb s 0 then done else point place s)) (union_lists vs ss operands 0) ∙ go (unions ss operands 0)
     where
-      go : (s : ℕ) → (if eqb s 0 then done else point place s) (lists T flag r vs ss) ≡ ok tt (lists T flag r vs (elim (eqb s 0) as (λ x. List ℕ) [ true ↦ ss | false ↦ put_set ss place s ]))
+      go : (s : ℕ) → (when eqb s 0 then done else point place s) (lists T flag r vs ss) ≡ ok tt (lists T flag r vs (elim (eqb s 0) as (λ x. List ℕ) [ true ↦ ss | false ↦ put_set ss place s ]))
       go s = by (eqb s 0)
         where
           by : (b : Bool) → (elim b as (λ x. Res (World (on_lists T)) Done) [ true ↦ ok tt (lists T flag r vs ss) | false ↦ ok tt (lists T flag r vs (put_set ss place s)) ]) ≡ ok tt (lists T flag r vs (elim b as (λ x. List ℕ) [ true ↦ ss | false ↦ put_set ss place s ]))
