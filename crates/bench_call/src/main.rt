@@ -8,12 +8,14 @@ use call_outcome::Applied;
 use def_effects::{Place, Session, Span};
 use def_kinds::{AbstractValue, ValueKind};
 use lent_slices::{set32, wide32};
-use libc::STDOUT_FILENO;
+use std::io;
+use std::rt::Env;
 
 // The digit that argument k is, or 0.
-fn digit(k: usize) -> u32 {
+fn digit(rt: &impl Env, k: usize) -> u32 {
     let mut text = [0u8; 2];
-    os::arg(k, &mut text);
+    // A missing argument leaves the zeros, and a longer one counts by its first byte.
+    let _ = rt.arg(k, &mut text);
     let c = text[0];
     match c {
         49 => 1,
@@ -526,8 +528,7 @@ fn measure(kind: u32, n: u32) -> u64 {
     measure_walk(n)
 }
 
-fn main() {
-    let r = measure(digit(1), power(digit(2)));
-    io::print_decimal(STDOUT_FILENO, r);
-    io::write_all(STDOUT_FILENO, b"\n");
+fn main(rt: HostRuntime) -> io::Result<()> {
+    let r = measure(digit(&rt, 1), power(digit(&rt, 2)));
+    println!(rt; "{r}")
 }

@@ -4,12 +4,14 @@
 
 use def_effects::{Session, Span};
 use def_kinds::{AbstractValue, ValueKind};
-use libc::STDOUT_FILENO;
+use std::io;
+use std::rt::Env;
 
 // The digit that argument k is, or 0.
-fn digit(k: usize) -> u32 {
+fn digit(rt: &impl Env, k: usize) -> u32 {
     let mut text = [0u8; 2];
-    os::arg(k, &mut text);
+    // A missing argument leaves the zeros, and a longer one counts by its first byte.
+    let _ = rt.arg(k, &mut text);
     let c = text[0];
     match c {
         49 => 1,
@@ -184,22 +186,21 @@ fn repeat(
     r
 }
 
-fn main() {
+fn main(rt: HostRuntime) -> io::Result<()> {
     let mut values = [0u64; 1024];
     let mut sets = [0u64; 8192];
     let mut values2 = [0u64; 1024];
     let mut sets2 = [0u64; 8192];
-    let full = digit(2);
+    let full = digit(&rt, 2);
     fill(&mut values, &mut sets, full);
     fill(&mut values2, &mut sets2, full);
     let r = repeat(
-        digit(1),
-        power(digit(3)),
+        digit(&rt, 1),
+        power(digit(&rt, 3)),
         &mut values,
         &mut sets,
         &values2,
         &sets2,
     );
-    io::print_decimal(STDOUT_FILENO, r as u64);
-    io::write_all(STDOUT_FILENO, b"\n");
+    println!(rt; "{r}")
 }

@@ -3,32 +3,60 @@
 // and the pieces of the listing in their order and nothing else, is these lines.
 #![tactic(auto)]
 
+ghost use Rattle.std.specs.Prelude.{◌≤◌, IfOk, length};
+
 use image_pieces::Shown;
+use std::io;
+use std::io::Read;
+
+// Reads until the buffer is full or the input ends, and answers how many bytes there were.
+fn read_full(input: &mut impl Read, buffer: &mut [u8]) -> io::Result<usize>
+    ensures { IfOk result (λ n. n ≤ length buffer.new) }
+{
+    let mut done = 0;
+    while done < buffer.len() {
+        let n = input.read(&mut buffer[done..])?;
+        if n == 0 {
+            break;
+        }
+        done += n;
+    }
+    Ok(done)
+}
 
 // A piece is written, and nothing else; of an empty one nothing.
 // It never runs past the buffer, so the test always passes; no contract of this program asks for it.
-fn show(buffer: &[u8], length: usize) {
+fn show(rt: &impl Print, buffer: &[u8], length: usize) -> io::Result<()> {
     if length <= buffer.len() {
-        io::write_all(1, &buffer[..length]);
+        rt.write_all(&buffer[..length])?;
     }
+    Ok(())
 }
 
 // All pieces, one after the other.
-fn show_pieces(shown: Shown, values: &[u64], sets: &[u64], output: &[u32], buffer: &mut [u8]) {
+fn show_pieces(
+    rt: &impl Print,
+    shown: Shown,
+    values: &[u64],
+    sets: &[u64],
+    output: &[u32],
+    buffer: &mut [u8],
+) -> io::Result<()> {
     let count = image_listing::piece_count();
     let mut k: u32 = 0;
     while k < count {
         let length = image_listing::put_piece(shown, k, values, sets, output, buffer);
-        show(buffer, length);
+        show(rt, buffer, length)?;
         k += 1;
     }
+    Ok(())
 }
 
 // Standard input until its end; 65,537 bytes are enough to know that it is too long.
 // All memory that the job needs stands here, on the stack: 1.8 MB.
-fn main() {
+fn main(rt: HostRuntime) -> io::Result<()> {
     let mut input = [0u8; 65537];
-    let n = io::read_full(0, &mut input);
+    let n = read_full(&mut rt.stdin(), &mut input)?;
     let mut words = [0u32; 16384];
     let mut values = [0u64; 1024];
     let mut sets = [0u64; 8192];
@@ -49,5 +77,5 @@ fn main() {
         &mut scratch32,
     );
     let mut buffer = [0u8; image_pieces::PIECE_BYTES];
-    show_pieces(shown, &values, &sets, &output, &mut buffer);
+    show_pieces(&rt, shown, &values, &sets, &output, &mut buffer)
 }

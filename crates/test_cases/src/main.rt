@@ -4,9 +4,9 @@
 
 use def_effects::{Session, Span};
 use def_kinds::{AbstractValue, ValueKind};
-use libc::STDOUT_FILENO;
 use state_calls::{KindAnswer, TestAnswer};
 use state_pairs::MergeAnswer;
+use std::io;
 
 // A session with every fresh number handed out and no access.
 fn session() -> Session {
@@ -44,22 +44,21 @@ fn both(values: &[u64], sets: &mut [u64]) {
 }
 
 // A number with a word before it.
-fn say(name: &[u8], n: u64) {
-    io::write_all(STDOUT_FILENO, name);
-    io::print_decimal(STDOUT_FILENO, n);
+fn say(rt: &impl Print, name: &str, n: u64) -> io::Result<()> {
+    print!(rt; "{name}{n}")
 }
 
 // A line: case, refusal, kind, reasons, first access.
-fn say_kind(n: u64, a: KindAnswer) {
+fn say_kind(rt: &impl Print, n: u64, a: KindAnswer) -> io::Result<()> {
     let value = a.value;
     let kind = value.kind;
     let after = a.session;
-    say(b"case ", n);
-    say(b": refusal ", a.refusal as u64);
-    say(b", kind ", code(kind));
-    say(b", reasons ", value.reason as u64);
-    say(b", access ", after.access as u64);
-    io::write_all(STDOUT_FILENO, b"\n");
+    say(rt, "case ", n)?;
+    say(rt, ": refusal ", a.refusal as u64)?;
+    say(rt, ", kind ", code(kind))?;
+    say(rt, ", reasons ", value.reason as u64)?;
+    say(rt, ", access ", after.access as u64)?;
+    println!(rt)
 }
 
 // A test's answer by its number.
@@ -68,88 +67,90 @@ fn flag(b: bool) -> u64 {
 }
 
 // A line: case, refusal, yes or no.
-fn say_test(n: u64, a: TestAnswer) {
-    say(b"case ", n);
-    say(b": refusal ", a.refusal as u64);
-    say(b", answer ", flag(a.answer));
-    io::write_all(STDOUT_FILENO, b"\n");
+fn say_test(rt: &impl Print, n: u64, a: TestAnswer) -> io::Result<()> {
+    say(rt, "case ", n)?;
+    say(rt, ": refusal ", a.refusal as u64)?;
+    say(rt, ", answer ", flag(a.answer))?;
+    println!(rt)
 }
 
 // A line: case, refusal, yes or no, the third state's flag.
-fn say_merge(n: u64, a: MergeAnswer) {
-    say(b"case ", n);
-    say(b": refusal ", a.refusal as u64);
-    say(b", answer ", flag(a.answer));
-    say(b", flag ", flag(a.flag));
-    io::write_all(STDOUT_FILENO, b"\n");
+fn say_merge(rt: &impl Print, n: u64, a: MergeAnswer) -> io::Result<()> {
+    say(rt, "case ", n)?;
+    say(rt, ": refusal ", a.refusal as u64)?;
+    say(rt, ", answer ", flag(a.answer))?;
+    say(rt, ", flag ", flag(a.flag))?;
+    println!(rt)
 }
 
 // 2, 3, 4: the kind of a place with two values.
-fn joined(n: u64, first: ValueKind, second: ValueKind) {
+fn joined(rt: &impl Print, n: u64, first: ValueKind, second: ValueKind) -> io::Result<()> {
     let mut values = [0u64; 1024];
     let mut sets = [0u64; 8192];
     put(&mut values, &sets, 1, first, 2048);
     put(&mut values, &sets, 2, second, 2048);
     both(&values, &mut sets);
-    say_kind(n, state_read_kinds::kind(&values, &sets, session(), 0));
+    say_kind(rt, n, state_read_kinds::kind(&values, &sets, session(), 0))
 }
 
 // 5: an undefined place is Mutable {Other}, and recorded.
-fn undefined() {
+fn undefined(rt: &impl Print) -> io::Result<()> {
     let values = [0u64; 1024];
     let sets = [0u64; 8192];
-    say_kind(5, state_read_kinds::kind(&values, &sets, session(), 7));
+    say_kind(rt, 5, state_read_kinds::kind(&values, &sets, session(), 7))
 }
 
 // 6: a place that is defined, with an empty set: the same, nothing recorded. Bit 0 of its row says that it is defined.
-fn empty_set() {
+fn empty_set(rt: &impl Print) -> io::Result<()> {
     let values = [0u64; 1024];
     let mut sets = [0u64; 8192];
     lent_set_writes::put_set(&mut sets, 7, &[0u64; 16]);
-    say_kind(6, state_read_kinds::kind(&values, &sets, session(), 7));
+    say_kind(rt, 6, state_read_kinds::kind(&values, &sets, session(), 7))
 }
 
 // 7: a freeze of {Mutable, Primitive}: both Frozen.
-fn freeze_both() {
+fn freeze_both(rt: &impl Print) -> io::Result<()> {
     let mut values = [0u64; 1024];
     let mut sets = [0u64; 8192];
     put(&mut values, &sets, 1, ValueKind::Mutable, 2048);
     put(&mut values, &sets, 2, ValueKind::Primitive, 2048);
     both(&values, &mut sets);
     say_test(
+        rt,
         7,
         state_write_values::freeze(&mut values, &sets, session(), 0, 1),
-    );
+    )?;
     state_write_sets::define(&values, &mut sets, session(), 0, 1);
-    say_kind(7, state_read_kinds::kind(&values, &sets, session(), 0));
-    say_kind(7, state_read_kinds::kind(&values, &sets, session(), 1));
+    say_kind(rt, 7, state_read_kinds::kind(&values, &sets, session(), 0))?;
+    say_kind(rt, 7, state_read_kinds::kind(&values, &sets, session(), 1))
 }
 
 // 8: a freeze of Frozen {State}: no, and the reason is kept.
-fn freeze_frozen() {
+fn freeze_frozen(rt: &impl Print) -> io::Result<()> {
     let mut values = [0u64; 1024];
     let mut sets = [0u64; 8192];
     put(&mut values, &sets, 1, ValueKind::Frozen, 2);
     state_write_sets::define(&values, &mut sets, session(), 0, 1);
     say_test(
+        rt,
         8,
         state_write_values::freeze(&mut values, &sets, session(), 0, 5),
-    );
-    say_kind(8, state_read_kinds::kind(&values, &sets, session(), 0));
+    )?;
+    say_kind(rt, 8, state_read_kinds::kind(&values, &sets, session(), 0))
 }
 
 // 9: a phi of undefined operands leaves its place.
-fn phi_of_none() {
+fn phi_of_none(rt: &impl Print) -> io::Result<()> {
     let mut values = [0u64; 1024];
     let mut sets = [0u64; 8192];
     put(&mut values, &sets, 1, ValueKind::Context, 2048);
     state_write_sets::define(&values, &mut sets, session(), 0, 1);
     state_phi::infer_phi(&values, &mut sets, session(), 0, &[3u32, 4]);
-    say_kind(9, state_read_kinds::kind(&values, &sets, session(), 0));
+    say_kind(rt, 9, state_read_kinds::kind(&values, &sets, session(), 0))
 }
 
 // 14: a state merged with itself: None, so no flag either.
-fn merged_with_itself() {
+fn merged_with_itself(rt: &impl Print) -> io::Result<()> {
     let mut values = [0u64; 1024];
     let mut sets = [0u64; 8192];
     let mut values3 = [0u64; 1024];
@@ -158,6 +159,7 @@ fn merged_with_itself() {
     put(&mut values, &sets, 2, ValueKind::Mutable, 2048);
     both(&values, &mut sets);
     say_merge(
+        rt,
         14,
         state_merge_calls::merge(
             &values,
@@ -170,17 +172,17 @@ fn merged_with_itself() {
             &mut values3,
             &mut sets3,
         ),
-    );
+    )
 }
 
-fn main() {
-    joined(2, ValueKind::Mutable, ValueKind::Frozen);
-    joined(3, ValueKind::Context, ValueKind::Mutable);
-    joined(4, ValueKind::Global, ValueKind::Primitive);
-    undefined();
-    empty_set();
-    freeze_both();
-    freeze_frozen();
-    phi_of_none();
-    merged_with_itself();
+fn main(rt: HostRuntime) -> io::Result<()> {
+    joined(&rt, 2, ValueKind::Mutable, ValueKind::Frozen)?;
+    joined(&rt, 3, ValueKind::Context, ValueKind::Mutable)?;
+    joined(&rt, 4, ValueKind::Global, ValueKind::Primitive)?;
+    undefined(&rt)?;
+    empty_set(&rt)?;
+    freeze_both(&rt)?;
+    freeze_frozen(&rt)?;
+    phi_of_none(&rt)?;
+    merged_with_itself(&rt)
 }

@@ -2,11 +2,14 @@
 // The lists are docs/VECTORS.md's, part 4; their names are the arguments. Prints of each list the first records that failed, then how many were replayed.
 #![tactic(auto)]
 
-ghost use Rattle.std.specs.Prelude.{◌≤◌, ◌<◌, ◌*◌, length};
+ghost use Rattle.std.specs.Prelude.{◌≤◌, ◌<◌, ◌*◌, IfOk, length};
 
 use image_pieces::Shown;
 use lent_slices::wide32;
-use libc::STDOUT_FILENO;
+use std::env::FillError;
+use std::io::Read;
+use std::rt::{Env, Files, Runtime};
+use std::{fs, io};
 
 // A word of a file, and whether all four bytes of it were there.
 // A list that is cut short is told by this.
@@ -42,11 +45,10 @@ struct Seen {
     left: usize,
 }
 
-// How a list goes: its file, the records left, those replayed and those that failed.
+// How a list goes: the records left, those replayed and those that failed.
 // A list that is not whole counts as one failure more.
 #[derive(Clone, Copy)]
 struct Run {
-    fd: i32,
     left: u32,
     done: u32,
     failed: u32,
@@ -95,11 +97,26 @@ fn words_of(length: u32) -> u32
 
 // ---- reading a list
 
+// Reads until the buffer is full, or the file ends or cannot be read, and answers how many bytes there were.
+// A list is not whole where they are too few.
+fn read_full(file: &mut impl Read, buffer: &mut [u8]) -> usize
+    ensures { result ≤ length buffer.new }
+{
+    let mut done = 0;
+    while done < buffer.len() {
+        match file.read(&mut buffer[done..]) {
+            Ok(n) if n > 0 => done += n,
+            _ => break,
+        }
+    }
+    done
+}
+
 // The next word of a file.
 // Counts, lengths and the words of a listing.
-fn read_word(fd: i32) -> Taken {
+fn read_word(file: &mut impl Read) -> Taken {
     let mut bytes = [0u8; 4];
-    let n = io::read_full(fd, &mut bytes);
+    let n = read_full(file, &mut bytes);
     Taken {
         whole: n == 4,
         word: word(&bytes, 0),
@@ -108,9 +125,9 @@ fn read_word(fd: i32) -> Taken {
 
 // The next byte of a file.
 // What stands after the last piece of a listing.
-fn read_byte(fd: i32) -> Taken {
+fn read_byte(file: &mut impl Read) -> Taken {
     let mut bytes = [0u8; 1];
-    let n = io::read_full(fd, &mut bytes);
+    let n = read_full(file, &mut bytes);
     Taken {
         whole: n == 1,
         word: wide8(byte(&bytes, 0)),
@@ -119,11 +136,11 @@ fn read_byte(fd: i32) -> Taken {
 
 // The head of the next text: the count of its words, and its length, which has to fill as many words but one.
 // Any other count is refused, since the records after it would be read from a wrong place.
-fn read_head(fd: i32) -> Text
+fn read_head(file: &mut impl Read) -> Text
     ensures { (result.words ≤ 1073741824) × (result.length ≤ 4 * result.words) }
 {
-    let count = read_word(fd);
-    let length = read_word(fd);
+    let count = read_word(file);
+    let length = read_word(file);
     let words = words_of(length.word);
     Text {
         whole: count.whole && length.whole && count.word == words + 1,
@@ -147,10 +164,10 @@ fn zero8(bytes: &[u8], from: usize, to: usize) -> bool {
 
 // Reads an image into a list.
 // Its length lies within the list, so that its bytes can be lent.
-fn read_image(fd: i32, image: &mut [u8]) -> Image
+fn read_image(file: &mut impl Read, image: &mut [u8]) -> Image
     ensures { result.length ≤ length image.new }
 {
-    let head = read_head(fd);
+    let head = read_head(file);
     let n = wide32(head.words) * 4;
     if n > image.len() {
         return Image {
@@ -158,7 +175,7 @@ fn read_image(fd: i32, image: &mut [u8]) -> Image
             length: 0,
         };
     }
-    let got = io::read_full(fd, &mut image[..n]);
+    let got = read_full(file, &mut image[..n]);
     let k = wide32(head.length);
     let filled = zero8(image, k, n);
     Image {
@@ -183,7 +200,7 @@ fn begins(recorded: &[u8], shown: &[u8]) -> bool {
 
 // The next bytes of a recorded listing are compared with a piece.
 // A piece that is longer than what is left is a difference, and nothing is read.
-fn same_piece(fd: i32, shown: &[u8], recorded: &mut [u8], before: Seen) -> Seen {
+fn same_piece(file: &mut impl Read, shown: &[u8], recorded: &mut [u8], before: Seen) -> Seen {
     let n = shown.len();
     if n > before.left {
         return Seen {
@@ -199,7 +216,7 @@ fn same_piece(fd: i32, shown: &[u8], recorded: &mut [u8], before: Seen) -> Seen 
             left: before.left,
         };
     }
-    let got = io::read_full(fd, &mut recorded[..n]);
+    let got = read_full(file, &mut recorded[..n]);
     let same = begins(recorded, shown);
     Seen {
         whole: before.whole && got == n,
@@ -210,9 +227,15 @@ fn same_piece(fd: i32, shown: &[u8], recorded: &mut [u8], before: Seen) -> Seen 
 
 // The same of the first n bytes of the buffer.
 // A piece never runs past the buffer, so the test always passes; no contract here asks for it.
-fn same_buffer(fd: i32, buffer: &[u8], n: usize, recorded: &mut [u8], before: Seen) -> Seen {
+fn same_buffer(
+    file: &mut impl Read,
+    buffer: &[u8],
+    n: usize,
+    recorded: &mut [u8],
+    before: Seen,
+) -> Seen {
     if n <= buffer.len() {
-        return same_piece(fd, &buffer[..n], recorded, before);
+        return same_piece(file, &buffer[..n], recorded, before);
     }
     Seen {
         whole: false,
@@ -223,10 +246,10 @@ fn same_buffer(fd: i32, buffer: &[u8], n: usize, recorded: &mut [u8], before: Se
 
 // Whether a file has so many bytes more.
 // They are read, since the next record follows.
-fn skipped(fd: i32, n: usize) -> bool {
+fn skipped(file: &mut impl Read, n: usize) -> bool {
     let mut k: usize = 0;
     while k < n {
-        if !read_byte(fd).whole {
+        if !read_byte(file).whole {
             return false;
         }
         k += 1;
@@ -236,11 +259,11 @@ fn skipped(fd: i32, n: usize) -> bool {
 
 // What no piece was compared with: a recorded listing that goes on after the last piece is another one.
 // It is read to its end, since the next record follows.
-fn same_rest(fd: i32, before: Seen) -> Seen {
+fn same_rest(file: &mut impl Read, before: Seen) -> Seen {
     if before.left == 0 {
         return before;
     }
-    let there = skipped(fd, before.left);
+    let there = skipped(file, before.left);
     Seen {
         whole: before.whole && there,
         same: false,
@@ -249,11 +272,11 @@ fn same_rest(fd: i32, before: Seen) -> Seen {
 }
 
 // The bytes that fill the last word of a recorded listing are zero.
-fn same_fill(fd: i32, n: usize, before: Seen) -> Seen {
+fn same_fill(file: &mut impl Read, n: usize, before: Seen) -> Seen {
     let mut seen = before;
     let mut k: usize = 0;
     while k < n {
-        let next = read_byte(fd);
+        let next = read_byte(file);
         seen = Seen {
             whole: seen.whole && next.whole,
             same: seen.same && next.word == 0,
@@ -266,7 +289,7 @@ fn same_fill(fd: i32, n: usize, before: Seen) -> Seen {
 
 // All pieces, one after the other, are compared with what comes next in the file.
 fn same_pieces(
-    fd: i32,
+    file: &mut impl Read,
     shown: Shown,
     values: &[u64],
     sets: &[u64],
@@ -280,7 +303,7 @@ fn same_pieces(
     let mut k: u32 = 0;
     while k < count {
         let n = image_listing::put_piece(shown, k, values, sets, output, buffer);
-        seen = same_buffer(fd, buffer, n, recorded, seen);
+        seen = same_buffer(file, buffer, n, recorded, seen);
         k += 1;
     }
     seen
@@ -289,7 +312,7 @@ fn same_pieces(
 // A listing is compared with the recorded one, which comes next in the file: length and bytes.
 // It is read to its end also after a difference, since the next record follows.
 fn same_listing(
-    fd: i32,
+    file: &mut impl Read,
     shown: Shown,
     values: &[u64],
     sets: &[u64],
@@ -297,7 +320,7 @@ fn same_listing(
     buffer: &mut [u8],
     recorded: &mut [u8],
 ) -> Seen {
-    let head = read_head(fd);
+    let head = read_head(file);
     let length = wide32(head.length);
     let fill = wide32(head.words) * 4 - length;
     let start = Seen {
@@ -308,57 +331,67 @@ fn same_listing(
     if !head.whole {
         return start;
     }
-    let seen = same_pieces(fd, shown, values, sets, output, buffer, recorded, start);
-    let rest = same_rest(fd, seen);
-    same_fill(fd, fill, rest)
+    let seen = same_pieces(file, shown, values, sets, output, buffer, recorded, start);
+    let rest = same_rest(file, seen);
+    same_fill(file, fill, rest)
+}
+
+// ---- arguments
+
+// Argument i, or an empty text where it is missing, too long or no text.
+fn argument<'a>(rt: &impl Env, i: usize, buffer: &'a mut [u8]) -> &'a str {
+    match rt.arg(i, buffer) {
+        Ok(n) => str::from_utf8(&buffer[..n]).unwrap_or(""),
+        Err(_) => "",
+    }
+}
+
+// Whether there is an argument i.
+fn is_given(rt: &impl Env, i: usize) -> bool {
+    !matches!(rt.arg(i, &mut []), Err(FillError::NotPresent))
 }
 
 // ---- what is printed
 
 // Writes the name of a list.
-fn say_name(i: usize) {
-    let mut path = io::buffer();
-    let n = os::arg(i, &mut path);
-    io::write_all(STDOUT_FILENO, &path[..n]);
+fn say_name(rt: &(impl Env + Print), i: usize) -> io::Result<()> {
+    let mut buffer = [0u8; 4096];
+    print!(rt; "{}", argument(rt, i, &mut buffer))
 }
 
 // Writes the name of a list and a text.
-fn say(i: usize, what: &[u8]) {
-    say_name(i);
-    io::write_all(STDOUT_FILENO, what);
+fn say(rt: &(impl Env + Print), i: usize, what: &str) -> io::Result<()> {
+    say_name(rt, i)?;
+    print!(rt; "{what}")
 }
 
 // Writes a line: the name of a list, what is wrong with it, and at which record.
 // Records are numbered from 0 on.
-fn say_at(i: usize, what: &[u8], k: u32) {
-    say(i, what);
-    io::print_decimal(STDOUT_FILENO, k as u64);
-    io::write_all(STDOUT_FILENO, b"\n");
+fn say_at(rt: &(impl Env + Print), i: usize, what: &str, k: u32) -> io::Result<()> {
+    say(rt, i, what)?;
+    println!(rt; "{k}")
 }
 
 // Names a record that failed, if it is one of the first five.
 // A wrong build fails at very many.
-fn say_failed(i: usize, k: u32, failed: u32) {
+fn say_failed(rt: &(impl Env + Print), i: usize, k: u32, failed: u32) -> io::Result<()> {
     if failed < 5 {
-        say_at(i, b" failed at record ", k);
+        say_at(rt, i, " failed at record ", k)?;
     }
+    Ok(())
 }
 
 // Writes how a list went.
-fn say_score(i: usize, done: u32, failed: u32) {
-    say(i, b" ");
-    io::print_decimal(STDOUT_FILENO, done as u64);
-    io::write_all(STDOUT_FILENO, b" replayed, ");
-    io::print_decimal(STDOUT_FILENO, failed as u64);
-    io::write_all(STDOUT_FILENO, b" failed\n");
+fn say_score(rt: &(impl Env + Print), i: usize, done: u32, failed: u32) -> io::Result<()> {
+    say(rt, i, " ")?;
+    println!(rt; "{done} replayed, {failed} failed")
 }
 
 // ---- how a list goes
 
 // A list at its beginning, with a number of records to go.
-fn start(fd: i32, left: u32) -> Run {
+fn start(left: u32) -> Run {
     Run {
-        fd,
         left,
         done: 0,
         failed: 0,
@@ -372,7 +405,6 @@ fn broken(run: Run) -> Run
     ensures { result.left ≤ 0 }
 {
     Run {
-        fd: run.fd,
         left: 0,
         done: run.done,
         failed: more(run.failed),
@@ -398,7 +430,6 @@ fn counted(run: Run, same: bool) -> Run
     ensures { 0 < run.left → result.left < run.left }
 {
     Run {
-        fd: run.fd,
         left: fewer(run.left),
         done: more(run.done),
         failed: failures(run.failed, same),
@@ -407,23 +438,25 @@ fn counted(run: Run, same: bool) -> Run
 }
 
 // How a list goes after a record.
-fn after(i: usize, run: Run, seen: Seen) -> Run
-    ensures { 0 < run.left → result.left < run.left }
+fn after(rt: &(impl Env + Print), i: usize, run: Run, seen: Seen) -> io::Result<Run>
+    ensures { IfOk result (λ next. 0 < run.left → next.left < run.left) }
 {
     if !seen.whole {
-        say_at(i, b" cannot be read at record ", run.done);
-        return broken(run);
+        say_at(rt, i, " cannot be read at record ", run.done)?;
+        return Ok(broken(run));
     }
     if !seen.same {
-        say_failed(i, run.done, run.failed);
+        say_failed(rt, i, run.done, run.failed)?;
     }
-    counted(run, seen.same)
+    Ok(counted(run, seen.same))
 }
 
 // How a list goes after an image that stood whole in it and what came of it.
 // The recorded listing comes next in the file.
 fn noted(
+    rt: &(impl Env + Print),
     i: usize,
+    file: &mut impl Read,
     run: Run,
     whole: bool,
     shown: Shown,
@@ -432,8 +465,8 @@ fn noted(
     output: &[u32],
     buffer: &mut [u8],
     recorded: &mut [u8],
-) -> Run
-    ensures { 0 < run.left → result.left < run.left }
+) -> io::Result<Run>
+    ensures { IfOk result (λ next. 0 < run.left → next.left < run.left) }
 {
     if !whole {
         let none = Seen {
@@ -441,74 +474,72 @@ fn noted(
             same: false,
             left: 0,
         };
-        return after(i, run, none);
+        return after(rt, i, run, none);
     }
-    let seen = same_listing(run.fd, shown, values, sets, output, buffer, recorded);
-    after(i, run, seen)
+    let seen = same_listing(file, shown, values, sets, output, buffer, recorded);
+    after(rt, i, run, seen)
 }
 
 // ---- a list
 
 // The file of a list.
-// An argument that cannot be opened gives -1.
-fn open_file(i: usize) -> i32 {
-    let mut path = io::buffer();
-    let n = os::arg(i, &mut path);
-    os::open_read(&path[..n])
+// An argument that cannot be opened gives an error.
+fn open_file<R: Env + Files>(rt: &R, i: usize) -> io::Result<R::File> {
+    let mut buffer = [0u8; 4096];
+    fs::open(rt, argument(rt, i, &mut buffer))
 }
 
 // Says why a list has no beginning.
 // A file that is missing, or one without a word in it.
-fn say_unread(i: usize, fd: i32) {
-    if fd < 0 {
-        say(i, b" cannot be opened\n");
+fn say_unread(rt: &(impl Env + Print), i: usize, is_open: bool) -> io::Result<()> {
+    if is_open {
+        say(rt, i, " has no count of records\n")
     } else {
-        say(i, b" has no count of records\n");
+        say(rt, i, " cannot be opened\n")
     }
 }
 
 // The list that an argument names, at its beginning.
-// One without a count of records has failed already; nothing is read from a file that was not opened.
-fn open_list(i: usize) -> Run {
-    let fd = open_file(i);
-    let count = read_word(fd);
+// One without a count of records has failed already.
+fn open_list(rt: &(impl Env + Print), i: usize, file: &mut impl Read) -> io::Result<Run> {
+    let count = read_word(file);
     if count.whole {
-        return start(fd, count.word);
+        return Ok(start(count.word));
     }
-    say_unread(i, fd);
-    broken(start(fd, 0))
+    say_unread(rt, i, true)?;
+    Ok(broken(start(0)))
 }
 
 // Whether a file is at its end.
 // Nothing may stand after the last record.
-fn at_end(fd: i32) -> bool {
+fn at_end(file: &mut impl Read) -> bool {
     let mut bytes = [0u8; 1];
-    io::read_full(fd, &mut bytes) == 0
+    read_full(file, &mut bytes) == 0
 }
 
 // How a list ends: with its last record, or it has failed.
 // A list that broke off before is not looked at again.
-fn ended(i: usize, run: Run) -> Run {
+fn ended(rt: &(impl Env + Print), i: usize, file: &mut impl Read, run: Run) -> io::Result<Run> {
     if run.whole {
-        if at_end(run.fd) {
-            return run;
+        if at_end(file) {
+            return Ok(run);
         }
-        say(i, b" goes on after its last record\n");
-        return broken(run);
+        say(rt, i, " goes on after its last record\n")?;
+        return Ok(broken(run));
     }
-    run
+    Ok(run)
 }
 
 // Says how a list went.
-fn close_list(i: usize, run: Run) {
-    let last = ended(i, run);
-    say_score(i, last.done, last.failed);
-    libc::close(last.fd);
+fn close_list(rt: &(impl Env + Print), i: usize, file: &mut impl Read, run: Run) -> io::Result<()> {
+    let last = ended(rt, i, file, run)?;
+    say_score(rt, i, last.done, last.failed)
 }
 
 // The list that an argument names, record by record: an image is read, put through `infer_image`, and the pieces of its listing compared.
-// All memory serves every record, with whatever the record before left in it.
+// All memory serves every record, with whatever the record before left in it. Of a list that cannot be opened nothing is read, and it has failed.
 fn replay_list(
+    rt: &impl Runtime,
     i: usize,
     image: &mut [u8],
     words: &mut [u32],
@@ -521,10 +552,15 @@ fn replay_list(
     scratch32: &mut [u32],
     buffer: &mut [u8],
     recorded: &mut [u8],
-) {
-    let mut run = open_list(i);
+) -> io::Result<()> {
+    let Ok(mut file) = open_file(rt, i) else {
+        say_unread(rt, i, false)?;
+        let run = broken(start(0));
+        return say_score(rt, i, run.done, run.failed);
+    };
+    let mut run = open_list(rt, i, &mut file)?;
     while run.left > 0 {
-        let text = read_image(run.fd, image);
+        let text = read_image(&mut file, image);
         let k = text.length;
         let shown = image_infer::infer_image(
             &image[..k],
@@ -538,15 +574,15 @@ fn replay_list(
             scratch32,
         );
         run = noted(
-            i, run, text.whole, shown, values, sets, output, buffer, recorded,
-        );
+            rt, i, &mut file, run, text.whole, shown, values, sets, output, buffer, recorded,
+        )?;
     }
-    close_list(i, run);
+    close_list(rt, i, &mut file, run)
 }
 
 // The same with all memory that a job needs, on the stack, as in the program `infer`.
 // An image of a list may be longer than the 65,536 bytes that are accepted: it has to be refused.
-fn replay_file(i: usize) {
+fn replay_file(rt: &impl Runtime, i: usize) -> io::Result<()> {
     let mut image = [0u8; 65544];
     let mut words = [0u32; 16384];
     let mut values = [0u64; 1024];
@@ -559,6 +595,7 @@ fn replay_file(i: usize) {
     let mut buffer = [0u8; image_pieces::PIECE_BYTES];
     let mut recorded = [0u8; image_pieces::PIECE_BYTES];
     replay_list(
+        rt,
         i,
         &mut image,
         &mut words,
@@ -571,16 +608,17 @@ fn replay_file(i: usize) {
         &mut scratch32,
         &mut buffer,
         &mut recorded,
-    );
+    )
 }
 
 // Every list that an argument names.
 // Argument 0 is the program's own name.
-fn main() {
-    let n = os::arg_count();
-    let mut i: usize = 1;
-    while i < n {
-        replay_file(i);
-        i += 1;
+fn main(rt: HostRuntime) -> io::Result<()> {
+    for i in 1..usize::MAX {
+        if !is_given(&rt, i) {
+            break;
+        }
+        replay_file(&rt, i)?;
     }
+    Ok(())
 }

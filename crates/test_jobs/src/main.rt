@@ -2,13 +2,15 @@
 // The lists are docs/VECTORS.md's, part 5; their names are the arguments. Prints each job that failed, then how many were replayed.
 #![tactic(auto)]
 
-ghost use Rattle.std.specs.Prelude.{◌≤◌, ◌<◌, length};
+ghost use Rattle.std.specs.Prelude.{◌≤◌, ◌<◌, IfOk, length};
 
 use call_outcome::Applied;
 use def_effects::{Place, Session, Span};
 use lent_slices::{get32, get64, set32, set64, wide32};
-use libc::STDOUT_FILENO;
 use refuse_context::context_class;
+use std::io::Read;
+use std::rt::{Env, Runtime};
+use std::{fs, io};
 
 // Where the reading of a job stands, and how many differences were found in it.
 // What is compared goes through a job from its first word to its last.
@@ -837,33 +839,47 @@ fn replay_job(bytes: &[u8], size: u32) -> bool {
 
 // Writes the number of a job that failed.
 // From 0 on, as in the list.
-fn say_failed(k: u32) {
-    io::write_all(STDOUT_FILENO, b"failed: job ");
-    io::print_decimal(STDOUT_FILENO, k as u64);
-    io::write_all(STDOUT_FILENO, b"\n");
+fn say_failed(rt: &impl Print, k: u32) -> io::Result<()> {
+    println!(rt; "failed: job {k}")
 }
 
 // One job; 1 where it failed, else 0.
-fn replay_named(bytes: &[u8], size: u32, k: u32) -> u32 {
+fn replay_named(rt: &impl Print, bytes: &[u8], size: u32, k: u32) -> io::Result<u32> {
     if replay_job(bytes, size) {
-        return 0;
+        return Ok(0);
     }
-    say_failed(k);
-    1
+    say_failed(rt, k)?;
+    Ok(1)
+}
+
+// Reads until the buffer is full or the input ends, and answers how many bytes there were.
+fn read_full(input: &mut impl Read, buffer: &mut [u8]) -> io::Result<usize>
+    ensures { IfOk result (λ n. n ≤ length buffer.new) }
+{
+    let mut done = 0;
+    while done < buffer.len() {
+        let n = input.read(&mut buffer[done..])?;
+        if n == 0 {
+            break;
+        }
+        done += n;
+    }
+    Ok(done)
 }
 
 // The next word of a file.
-fn read_word(fd: i32) -> u32 {
+fn read_word(file: &mut impl Read) -> io::Result<u32> {
     let mut bytes = [0u8; 4];
-    io::read_full(fd, &mut bytes);
-    word(&bytes, 0)
+    read_full(file, &mut bytes)?;
+    Ok(word(&bytes, 0))
 }
 
 // Reads the words of a job.
 // Those that the list has no room for are not read, so that such a job fails.
-fn read_job(fd: i32, bytes: &mut [u8], size: u32) {
+fn read_job(file: &mut impl Read, bytes: &mut [u8], size: u32) -> io::Result<()> {
     let k = most8(size, bytes);
-    io::read_full(fd, &mut bytes[..k]);
+    read_full(file, &mut bytes[..k])?;
+    Ok(())
 }
 
 // How many bytes the words of a job have, and no more than a list has.
@@ -876,59 +892,62 @@ fn most8(size: u32, bytes: &[u8]) -> usize
 
 // The next job of a file; how the list went with it.
 // In 393,216 bytes, which the largest recorded job fits.
-fn replay_next(fd: i32, k: u32, before: Score) -> Score {
+fn replay_next(rt: &impl Print, file: &mut impl Read, k: u32, before: Score) -> io::Result<Score> {
     let mut bytes = [0u8; 393216];
-    let size = read_word(fd);
-    read_job(fd, &mut bytes, size);
-    let failed = replay_named(&bytes, size, k);
-    Score {
+    let size = read_word(file)?;
+    read_job(file, &mut bytes, size)?;
+    let failed = replay_named(rt, &bytes, size, k)?;
+    Ok(Score {
         instructions: plus(before.instructions, instructions_of(&bytes)),
         failed: plus(before.failed, failed),
-    }
+    })
 }
 
 // All jobs of a file.
-fn replay_all(fd: i32, n: u32) -> Score {
+fn replay_all(rt: &impl Print, file: &mut impl Read, n: u32) -> io::Result<Score> {
     let mut score = Score {
         instructions: 0,
         failed: 0,
     };
     let mut k: u32 = 0;
     while k < n {
-        score = replay_next(fd, k, score);
+        score = replay_next(rt, file, k, score)?;
         k += 1;
     }
-    score
+    Ok(score)
 }
 
 // Replays a list and says how it went.
-fn replay_list(fd: i32) {
-    let n = read_word(fd);
-    let score = replay_all(fd, n);
-    io::print_decimal(STDOUT_FILENO, n as u64);
-    io::write_all(STDOUT_FILENO, b" jobs, ");
-    io::print_decimal(STDOUT_FILENO, score.instructions as u64);
-    io::write_all(STDOUT_FILENO, b" instructions replayed, ");
-    io::print_decimal(STDOUT_FILENO, score.failed as u64);
-    io::write_all(STDOUT_FILENO, b" failed\n");
+fn replay_list(rt: &impl Print, file: &mut impl Read) -> io::Result<()> {
+    let n = read_word(file)?;
+    let score = replay_all(rt, file, n)?;
+    println!(rt;
+        "{n} jobs, {} instructions replayed, {} failed",
+        score.instructions, score.failed
+    )
+}
+
+// Argument i, or an empty text where it is missing, too long or no text.
+fn argument<'a>(rt: &impl Env, i: usize, buffer: &'a mut [u8]) -> &'a str {
+    match rt.arg(i, buffer) {
+        Ok(n) => str::from_utf8(&buffer[..n]).unwrap_or(""),
+        Err(_) => "",
+    }
 }
 
 // The list that an argument names.
 // One that cannot be opened is told.
-fn replay_file(i: usize) {
-    let mut path = io::buffer();
-    let n = os::arg(i, &mut path);
-    let fd = os::open_read(&path[..n]);
-    if fd < 0 {
-        os::fail(&path[..n]);
-        return;
+fn replay_file(rt: &impl Runtime, i: usize) -> io::Result<()> {
+    let mut buffer = [0u8; 4096];
+    let path = argument(rt, i, &mut buffer);
+    match fs::open(rt, path) {
+        Ok(mut file) => replay_list(rt, &mut file),
+        Err(e) => eprintln!(rt; "{path}: {e}"),
     }
-    replay_list(fd);
-    libc::close(fd);
 }
 
 // The recorded jobs, then the damaged ones.
-fn main() {
-    replay_file(1);
-    replay_file(2);
+fn main(rt: HostRuntime) -> io::Result<()> {
+    replay_file(&rt, 1)?;
+    replay_file(&rt, 2)
 }

@@ -2,13 +2,15 @@
 // The list is docs/VECTORS.md's, part 3 and 4; its name is the first argument. Prints each record that failed, then how many were replayed.
 #![tactic(auto)]
 
-ghost use Rattle.std.specs.Prelude.{◌≤◌, ◌<◌, length};
+ghost use Rattle.std.specs.Prelude.{◌≤◌, ◌<◌, IfOk, length};
 
 use def_effects::{MutateVariant, MutationResult, Session, Span};
 use def_kinds::{AbstractValue, ValueKind};
 use lent_slices::{get32, set32, wide32};
 use lent_values::{Entry, put_value, value_at};
-use libc::STDOUT_FILENO;
+use std::io::Read;
+use std::rt::Env;
+use std::{fs, io};
 
 // Byte k of the file, or 0 past its end.
 fn byte(bytes: &[u8], k: usize) -> u8 {
@@ -904,60 +906,75 @@ fn replay_fresh(bytes: &[u8], at: &mut [u32]) {
 }
 
 // Writes the number of a record that failed.
-fn say_failed(k: u32) {
-    io::write_all(STDOUT_FILENO, b"failed: operation ");
-    io::print_decimal(STDOUT_FILENO, k as u64);
-    io::write_all(STDOUT_FILENO, b"\n");
+fn say_failed(rt: &impl Print, k: u32) -> io::Result<()> {
+    println!(rt; "failed: operation {k}")
 }
 
 // One record; whether its answer is the recorded one.
-fn passes(bytes: &[u8], at: &mut [u32], k: u32) -> bool {
+fn passes(rt: &impl Print, bytes: &[u8], at: &mut [u32], k: u32) -> io::Result<bool> {
     set32(at, 1, 0);
     replay_fresh(bytes, at);
     if get32(at, 1) == 0 {
-        return true;
+        return Ok(true);
     }
-    say_failed(k);
-    false
+    say_failed(rt, k)?;
+    Ok(false)
 }
 
 // All records; how many failed.
-fn replay_all(bytes: &[u8], at: &mut [u32], n: u32) -> u32 {
+fn replay_all(rt: &impl Print, bytes: &[u8], at: &mut [u32], n: u32) -> io::Result<u32> {
     let mut failed: u32 = 0;
     let mut k: u32 = 0;
     while k < n {
-        failed = more(failed, !passes(bytes, at, k));
+        failed = more(failed, !passes(rt, bytes, at, k)?);
         k += 1;
     }
-    failed
+    Ok(failed)
 }
 
 // Replays a list and says how it went.
-fn replay_list(bytes: &[u8]) {
+fn replay_list(rt: &impl Print, bytes: &[u8]) -> io::Result<()> {
     let mut at = [0u32; 2];
     let n = take(bytes, &mut at);
-    let failed = replay_all(bytes, &mut at, n);
-    io::print_decimal(STDOUT_FILENO, n as u64);
-    io::write_all(STDOUT_FILENO, b" operations replayed, ");
-    io::print_decimal(STDOUT_FILENO, failed as u64);
-    io::write_all(STDOUT_FILENO, b" failed\n");
+    let failed = replay_all(rt, bytes, &mut at, n)?;
+    println!(rt; "{n} operations replayed, {failed} failed")
+}
+
+// Reads until the buffer is full or the input ends, and answers how many bytes there were.
+fn read_full(input: &mut impl Read, buffer: &mut [u8]) -> io::Result<usize>
+    ensures { IfOk result (λ n. n ≤ length buffer.new) }
+{
+    let mut done = 0;
+    while done < buffer.len() {
+        let n = input.read(&mut buffer[done..])?;
+        if n == 0 {
+            break;
+        }
+        done += n;
+    }
+    Ok(done)
 }
 
 // Reads the list into 262,144 bytes and replays it.
-fn replay_file(fd: i32) {
+fn replay_file(rt: &impl Print, file: &mut impl Read) -> io::Result<()> {
     let mut bytes = [0u8; 262144];
-    let n = io::read_full(fd, &mut bytes);
-    replay_list(&bytes[..n]);
+    let n = read_full(file, &mut bytes)?;
+    replay_list(rt, &bytes[..n])
 }
 
-fn main() {
-    let mut path = io::buffer();
-    let n = os::arg(1, &mut path);
-    let fd = os::open_read(&path[..n]);
-    if fd < 0 {
-        os::fail(&path[..n]);
-        return;
+// Argument i, or an empty text where it is missing, too long or no text.
+fn argument<'a>(rt: &impl Env, i: usize, buffer: &'a mut [u8]) -> &'a str {
+    match rt.arg(i, buffer) {
+        Ok(n) => str::from_utf8(&buffer[..n]).unwrap_or(""),
+        Err(_) => "",
     }
-    replay_file(fd);
-    libc::close(fd);
+}
+
+fn main(rt: HostRuntime) -> io::Result<()> {
+    let mut buffer = [0u8; 4096];
+    let path = argument(&rt, 1, &mut buffer);
+    match fs::open(&rt, path) {
+        Ok(mut file) => replay_file(&rt, &mut file),
+        Err(e) => eprintln!(rt; "{path}: {e}"),
+    }
 }
