@@ -39,7 +39,7 @@ refuse_key_order/neighbours_of_one_key
 state_calls/reasons_dropped
 """.split())
 # Words that stand in edits only, or that the alignment gets wrong.
-TURNED = {"if_then_else_": "if◌then◌else◌", "getD": "get_or"}
+TURNED = {"if_then_else_": "when◌then◌else◌", "getD": "get_or"}
 # Words of the library that an edit names by their path.
 PATHS = {
     "mathlib.Core.Option.none": "Rattle.std.proofs.Math.Option.none",
@@ -204,6 +204,12 @@ def bring(al, before, done, old, new, names, current):
     return before_now, text, (left, right)
 
 
+def place_now(crate, path):
+    """Where a file of LANDED stands now: laws went from specs/Laws to proofs/Laws (move_laws.py)."""
+    moved = path.replace("specs/Laws/", "proofs/Laws/")
+    return moved if not os.path.exists(f"crates/{crate}/{path}") and os.path.exists(f"crates/{crate}/{moved}") else path
+
+
 def landed_edit(tree, crate, name):
     return read(os.path.join(tree, "crates", crate, "must-fail", name + ".edit"))
 
@@ -215,7 +221,7 @@ def port(tree, crate, name, alignments, names):
     for at_old, at_new, path, old, new in found:
         key = (crate, path)
         if key not in alignments:
-            now = os.path.join("crates", crate, path)
+            now = os.path.join("crates", crate, place_now(crate, path))
             if not os.path.exists(now):
                 raise Problem(f"no file {path}")
             alignments[key] = Aligned(read(os.path.join(tree, "crates", crate, path)), read(now))
@@ -235,7 +241,9 @@ def port(tree, crate, name, alignments, names):
         current[path] = current[path].replace(o, n)
         lines[at_old], lines[at_new] = "old: " + o, "new: " + n
     for i, line in enumerate(lines):
-        if not line.startswith(("file: ", "old: ", "new:")):
+        if line.startswith("file: "):
+            lines[i] = "file: " + place_now(crate, line[6:])
+        elif not line.startswith(("file: ", "old: ", "new:")):
             lines[i] = turn(line, names) if line else line
     return "\n".join(lines)
 
@@ -282,7 +290,7 @@ def main(argv):
     votes = collections.defaultdict(collections.Counter)
     for crate, name in every(tree):
         for _, _, path, _, _ in pairs(landed_edit(tree, crate, name))[0]:
-            now = os.path.join("crates", crate, path)
+            now = os.path.join("crates", crate, place_now(crate, path))
             if (crate, path) not in alignments and os.path.exists(now):
                 al = alignments[crate, path] = Aligned(read(os.path.join(tree, "crates", crate, path)), read(now))
                 for (x, y), n in al.names.items():
