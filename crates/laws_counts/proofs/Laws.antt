@@ -1,6 +1,9 @@
 pub mod Grows
 pub mod Keeps
 pub mod Steps
+pub mod Runs
+pub mod Most
+pub mod Entries
 pub mod Counts
 pub mod Unlimited
 pub mod Alike

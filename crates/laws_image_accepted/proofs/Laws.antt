@@ -3,8 +3,10 @@ pub mod Records
 pub mod Limits
 pub mod Places
 pub mod Lengths
+pub mod Counted
 pub mod State
 pub mod Context
 pub mod Instruction
+pub mod Classes
 pub mod Accepted
 pub mod Later

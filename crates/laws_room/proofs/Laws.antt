@@ -7,3 +7,4 @@ pub mod Pure
 pub mod Lent
 pub mod Both
 pub mod LentShort
+pub mod Padded

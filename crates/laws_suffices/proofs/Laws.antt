@@ -1,1 +1,2 @@
 pub mod Suffices
+pub mod Whole

@@ -1,8 +1,10 @@
 pub mod State
 pub mod Context
 pub mod LentLawful
+pub mod LentIsolation
 pub mod StateFaithful
 pub mod Frames
 pub mod Back
 pub mod ContextFaithful
+pub mod Held
 pub mod LentFaithful

@@ -28,9 +28,11 @@ use Rattle.call_outcome.proofs.Laws.Class.{class_0}
 use Rattle.call_outcome.proofs.Laws.Keys.{unused}
 use Rattle.laws_suffices.proofs.Laws.Suffices.{accepted_fits}
 use Rattle.def_faithful.proofs.Laws.Means.{Any, Rel}
-use Rattle.def_faithful.proofs.Laws.Steps.{Fine, call_means}
+use Rattle.def_faithful.proofs.Laws.Steps.{Fine}
+use Rattle.def_faithful.proofs.Laws.Runs.{call_means}
 use Rattle.lent_context.specs.Abstract.{abstract}
-use Rattle.lent_world.proofs.Laws.LentFaithful.{Holds, lent_faithful}
+use Rattle.lent_world.proofs.Laws.LentFaithful.{lent_faithful}
+use Rattle.lent_world.proofs.Laws.Held.{Holds}
 use Rattle.call_means.proofs.Laws.Accepting.{candidates_fine, lvalue_named}
 use Rattle.call_means.proofs.Laws.Padding.{missing, whole, whole_fit, short_run, whole_run}
 use Rattle.laws_room.proofs.Laws.Near.{ended, beside, besides}

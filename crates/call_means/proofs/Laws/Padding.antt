@@ -19,7 +19,7 @@ use Rattle.lent_world.proofs.Laws.ContextFaithful.{FitContext}
 use Rattle.laws_room.specs.Room.{needs}
 use Rattle.laws_room.proofs.Laws.Near.{ended, beside, besides}
 use Rattle.laws_room.proofs.Laws.Both.{Pads, word_alike, field_alike}
-use Rattle.laws_room.proofs.Laws.LentShort.{lent_short}
+use Rattle.laws_room.proofs.Laws.Padded.{lent_short}
 use Rattle.refuse_entries.specs.Words.{identifiers}
 use Rattle.refuse_order.proofs.Laws.Accepted.{in_order_is}
 use Rattle.call_outcome.proofs.Laws.Keys.{numbered}

@@ -13,7 +13,7 @@ use Rattle.laws_monad.specs.Answers.{answer}
 use Rattle.laws_monad.proofs.Laws.Answers.{answer_ok, answer_refused}
 use Rattle.lent_work.specs.declared.Run.{Run}
 use Rattle.lent_world.specs.World.{lent, world}
-use Rattle.lent_world.proofs.Laws.LentLawful.{LentEnded, after, lent_ends}
+use Rattle.lent_world.proofs.Laws.LentIsolation.{LentEnded, after, lent_ends}
 use Rattle.call_parts.specs.Instructions.{instruction_of}
 use Rattle.call_undo.specs.Saves.{saved_state, saved_context, restored_context}
 use Rattle.call_undo.proofs.Laws.Save.{values_restored, sets_restored, context_restored}

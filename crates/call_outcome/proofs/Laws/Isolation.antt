@@ -15,7 +15,7 @@ use Rattle.def_transfer.specs.Reach.{Ends}
 use Rattle.def_transfer.specs.Reach as Reach
 use Rattle.lent_layout.specs.Layout as Layout
 use Rattle.lent_world.specs.World.{lent}
-use Rattle.lent_world.proofs.Laws.LentLawful.{Sized, lent_isolation}
+use Rattle.lent_world.proofs.Laws.LentIsolation.{Sized, lent_isolation}
 use Rattle.refuse_entries.specs.Words.{identifiers}
 use Rattle.refuse_entries.proofs.Laws.Accepted.{accepted_lent}
 use Rattle.refuse_class.specs.Class.{lower}

@@ -21,7 +21,7 @@ use Rattle.laws_monad.proofs.Laws.Answers.{answer_ok, answer_refused}
 use Rattle.lent_work.specs.declared.Run.{Run}
 use Rattle.lent_layout.specs.Layout as Layout
 use Rattle.lent_world.specs.World.{lent, world}
-use Rattle.lent_world.proofs.Laws.LentLawful.{after}
+use Rattle.lent_world.proofs.Laws.LentIsolation.{after}
 use Rattle.refuse_entries.specs.Words.{identifiers}
 use Rattle.refuse_entries.proofs.Laws.Accepted.{accepted_lent}
 use Rattle.call_parts.specs.Instructions.{instruction_of}

@@ -41,7 +41,8 @@ use Rattle.lent_context.specs.Lent as Lent
 use Rattle.lent_context.specs.Lent.{effects_in}
 use Rattle.lent_context.proofs.Laws.Search.{effects_more, effects_none}
 use Rattle.laws_monad.specs.Answers.{answer}
-use Rattle.laws_monad.proofs.Laws.Answers.{bind_ok, bind_goes, bind_refused, then_goes, then_refused, if_true, if_false, each_goes, each_refused, each_ends, done_ok}
+use Rattle.laws_monad.proofs.Laws.Answers.{bind_ok, bind_goes, bind_refused, then_goes, then_refused, if_true, if_false, done_ok}
+use Rattle.laws_monad.proofs.Laws.Each.{each_goes, each_refused, each_ends}
 use Rattle.lent_world.specs.World.{lent, world}
 use Rattle.call_parts.specs.Instructions.{instruction_of, inside_places, copied_inside_from, copied_inside, kept_entries}
 use Rattle.def_transfer.specs.Instruction.{own_of}

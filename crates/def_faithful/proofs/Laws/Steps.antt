@@ -1,6 +1,6 @@
--- The text does the same over faithful tables as over plain ones: one effect, the step, the instruction, the call. Assumes nothing.
+-- The text does the same over faithful tables as over plain ones: one effect, the step, the parts of an instruction. Assumes nothing.
 use Prim.Native.Nat.{ℕ, zero, suc, ◌<◌}
-use Rattle.std.specs.Prelude.{refl, Bool, List}
+use Rattle.std.specs.Prelude.{Bool, List}
 use Rattle.std.proofs.Common.{subst}
 use Rattle.std.proofs.Math.Bool.{true, false}
 use Rattle.std.proofs.Math.Option.{Option, none, some}
@@ -14,17 +14,17 @@ use Rattle.def_effects.specs.declared.MutationResult.TheVariants as Result
 use Rattle.def_effects.specs.Places.{identifiers}
 use Rattle.def_effects.specs.Effects.{AliasingEffect, Freeze, Mutate, MutateConditionally, MutateTransitive, MutateTransitiveConditionally, Capture, Alias, MaybeAlias, Assign, Create, CreateFrom, ImmutableCapture, CreateFunction, MutateFrozen, MutateGlobal, Impure, Render}
 use Rattle.def_effects.specs.Keys.{EffectKey, effect_key, named_by, names}
-use Rattle.def_transfer.specs.Monad.{M, Done, and_then, ◌>>=◌, ◌>>◌}
+use Rattle.def_transfer.specs.Monad.{M, Done}
 use Rattle.def_transfer.specs.Tables.{Tables, World}
-use Rattle.def_transfer.specs.State.{from_identifier, change}
+use Rattle.def_transfer.specs.State.{from_identifier}
 use Rattle.def_transfer.specs.Context.{function_context}
 use Rattle.def_transfer.specs.Step.{flowing, report_modified, report_hoisted, report, mutating, freezing, creating, capturing_immutably, list_created, creating_from, assigning, creating_function, act, apply_effect}
-use Rattle.def_transfer.specs.Instruction.{Instruction, report_early, early_error, early_errors, define_lvalue, start_instruction, run, apply_signature}
+use Rattle.def_transfer.specs.Instruction.{report_early, early_error, early_errors, define_lvalue}
 use Rattle.def_transfer.specs.Pure.{pure}
 use Rattle.def_faithful.specs.Ranges.{Number, Short}
 use Rattle.def_faithful.proofs.Laws.Ranges.{own_number, fresh_number_is, none_reasoned}
 use Rattle.def_faithful.specs.Faithful.{Faithful}
-use Rattle.def_faithful.proofs.Laws.Means.{Any, Begins, Rel, Means, bind_means, then_means, bind_any, bind_fresh, bind_set, bind_value, done_means, refuse_means, if_means, each_any, each_place, each_all, atomically_means, set_of_means, peek_means, ask_means, change_means}
+use Rattle.def_faithful.proofs.Laws.Means.{Any, Means, bind_means, then_means, bind_any, bind_fresh, bind_set, bind_value, done_means, refuse_means, if_means, each_any, each_place, set_of_means, peek_means, ask_means}
 use Rattle.def_faithful.proofs.Laws.Touching.{parts, read_tracked, read_inside, read_transitive, read_name, freeze_means, walk_means, intern_diagnostic_means, any_ref_means, function_context_means, link_to_means, emit_means, begin_means, number_for_means, intern_means, create_means, any_written_means, update_context_means}
 
 -- what acceptance says of an effect, by its key alone: the identifiers that it names are in the list, and it has at most 16 captures
@@ -113,7 +113,7 @@ module _ {n : ℕ} {T : Tables} {F : Faithful n T} where
     act_means (Impure p d) a s = emit_means _ tt
     act_means (Render p) a s = emit_means _ tt
 
-  step_means : (d : ℕ) (e : AliasingEffect) → All (λ i. i < n) (names e) → Short (effect_key e) → Means F Any (apply_effect d e) (apply_effect d e)
+  pub step_means : (d : ℕ) (e : AliasingEffect) → All (λ i. i < n) (names e) → Short (effect_key e) → Means F Any (apply_effect d e) (apply_effect d e)
   unfolding apply_effect
   step_means zero e a s = refuse_means 99
   step_means (suc d) e a s = bind_means (intern_means e s) (λ x k. act_means (step_means d) x (subst (λ (z : EffectKey). All (λ i. i < n) (named_by z)) k a) (subst Short k s))
@@ -130,43 +130,11 @@ module _ {n : ℕ} {T : Tables} {F : Faithful n T} where
   unfolding early_error function_context
   early_error_means f p = search (parts, report_early_means) depth 12
 
-  early_errors_means : (o : Option ℕ) → Means F Any (early_errors o) (early_errors o)
+  pub early_errors_means : (o : Option ℕ) → Means F Any (early_errors o) (early_errors o)
   unfolding early_errors
   early_errors_means none = done_means
   early_errors_means (some f) = bind_any (ask_means _ _ (read_inside f)) (λ places. each_any places (early_error_means f))
 
-  define_lvalue_means : (i : ℕ) → i < n → Means F Any (define_lvalue i) (define_lvalue i)
+  pub define_lvalue_means : (i : ℕ) → i < n → Means F Any (define_lvalue i) (define_lvalue i)
   unfolding define_lvalue
   define_lvalue_means i l = let own : Number (from_identifier i) = own_number n i F.few l in search parts depth 12
-
-  run_means : (ins : Instruction) → All (λ e. Fine n (effect_key e)) ins.candidates → ins.lvalue.identifier < n → Means F Any (run ins) (run ins)
-  unfolding run
-  run_means ins a l =
-      then_means (early_errors_means ins.own) (then_means (each_all (λ e. Fine n (effect_key e)) ins.candidates a (λ e x. step_means 4 e x.named x.short))
-      (then_means (define_lvalue_means _ l) (change_means _ _ (λ r q h. record {
-        session = record { low = h.session.low; next = h.session.next; access = h.session.access; span = h.session.span; entries = h.work.entries };
-        fit = h.fit;
-        context = h.context;
-        unused = h.unused;
-        work = h.work;
-      }))))
-
-  -- faithful tables behave as plain ones
-  pub signature_means : (ins : Instruction) → All (λ e. Fine n (effect_key e)) ins.candidates → ins.lvalue.identifier < n → Means F Any (apply_signature ins) (apply_signature ins)
-  unfolding apply_signature start_instruction
-  signature_means ins a l =
-      then_means (change_means _ _ (λ r q h. record {
-        session = h.session;
-        fit = h.fit;
-        context = h.context;
-        unused = h.unused;
-        work = record { initialized = F.none_marked; listed = F.none_listed_is; freeze_entries = refl; entries = F.none_counted };
-      })) (atomically_means (run_means ins a l))
-
-  -- the call for an instruction, from such worlds
-  pub call_means : (ins : Instruction) → All (λ e. Fine n (effect_key e)) ins.candidates → ins.lvalue.identifier < n → (w : World T) (u : World pure) → Begins F w u → Rel F Any (apply_signature ins w) (apply_signature ins u)
-  unfolding apply_signature start_instruction change ◌>>◌ ◌>>=◌ and_then
-  call_means ins a l w u h = (atomically_means (run_means ins a l)).runs _ _ (record {
-    state = h.state;
-    rest = record { session = h.session; fit = h.fit; context = h.context; unused = h.unused; work = record { initialized = F.none_marked; listed = F.none_listed_is; freeze_entries = refl; entries = F.none_counted } };
-  })

@@ -19,7 +19,8 @@ use Rattle.lent_effects.specs.declared.AliasingEffect.{AliasingEffect as Head}
 use Rattle.lent_effects.specs.declared.AliasingEffect.TheVariants as Head
 use Rattle.lent_effects.specs.Records.{effect_with, captures_of, counted_places}
 use Rattle.laws_monad.specs.Answers.{answer}
-use Rattle.laws_monad.proofs.Laws.Answers.{bind_refused, bind_goes, then_goes, then_refused, if_true, if_false, each_goes, each_refused, each_ends, done_ok}
+use Rattle.laws_monad.proofs.Laws.Answers.{bind_refused, bind_goes, then_goes, then_refused, if_true, if_false, done_ok}
+use Rattle.laws_monad.proofs.Laws.Each.{each_goes, each_refused, each_ends}
 use Rattle.lent_world.specs.World.{lent}
 use Rattle.effect_acts.specs.declared.Act.{Act}
 use Rattle.effect_acts.specs.declared.Act.TheVariants.{Plain, Mutating, Flowing, Assigning, CreatingFrom, CreatingFunction}

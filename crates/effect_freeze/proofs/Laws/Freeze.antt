@@ -23,7 +23,8 @@ use Rattle.lent_work.specs.declared.Run.{Run}
 use Rattle.lent_effects.specs.declared.AliasingEffect.TheVariants as Head
 use Rattle.lent_effects.specs.Records.{effect_with}
 use Rattle.laws_monad.specs.Answers.{answer}
-use Rattle.laws_monad.proofs.Laws.Answers.{bind_ok, then_ok, if_true, if_false, each_goes, each_refused, each_ends, done_ok}
+use Rattle.laws_monad.proofs.Laws.Answers.{bind_ok, then_ok, if_true, if_false, done_ok}
+use Rattle.laws_monad.proofs.Laws.Each.{each_goes, each_refused, each_ends}
 use Rattle.lent_world.specs.World.{lent, world}
 use Rattle.effect_walk.specs.Walks.{Still, walking, Enters}
 use Rattle.effect_freeze.specs.Freezes.{with_entries}

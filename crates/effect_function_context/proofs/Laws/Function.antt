@@ -27,7 +27,8 @@ use Rattle.lent_effects.specs.Records.{captures_of, counted_places}
 use Rattle.lent_work.specs.declared.Run.{Run}
 use Rattle.lent_layout.specs.Layout as Layout
 use Rattle.lent_context.specs.Lent as Lent
-use Rattle.laws_monad.proofs.Laws.Answers.{if_true, if_false, each_ok}
+use Rattle.laws_monad.proofs.Laws.Answers.{if_true, if_false}
+use Rattle.laws_monad.proofs.Laws.Each.{each_ok}
 use Rattle.lent_world.specs.World.{world}
 use Rattle.effect_function_context.specs.Functions.{copied_places, copied_context}
 use Rattle.lent_layout.specs.Layout.{one_run}

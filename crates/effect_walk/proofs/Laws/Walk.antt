@@ -29,7 +29,8 @@ use Rattle.lent_tables.proofs.Laws.Word.{places_more, places_none}
 use Rattle.lent_layout.specs.Layout as Layout
 use Rattle.lent_context.specs.Lent.{link_of, context_of}
 use Rattle.laws_monad.specs.Answers.{answer}
-use Rattle.laws_monad.proofs.Laws.Answers.{bind_ok, then_ok, then_refused, if_le, if_gt, each_goes, each_refused, each_ends}
+use Rattle.laws_monad.proofs.Laws.Answers.{bind_ok, then_ok, then_refused, if_le, if_gt}
+use Rattle.laws_monad.proofs.Laws.Each.{each_goes, each_refused, each_ends}
 use Rattle.lent_world.specs.World.{lent, one_more}
 use Rattle.effect_walk.specs.Walks.{frozen, Still, walking, Enters}
 

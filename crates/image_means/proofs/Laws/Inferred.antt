@@ -39,11 +39,12 @@ use Rattle.image_decode.proofs.Laws.StateBack.{no_value, values_back, no_set, se
 use Rattle.lent_effects.proofs.Laws.Back.{capture_count, effect_back}
 use Rattle.image_decode.proofs.Laws.Candidate.{run_length}
 use Rattle.laws_image_accepted.proofs.Laws.Facts.{few_identifiers, few_candidates, few_captures, next_range, value_range, pair_range, few_functions, few_context, few_inside}
-use Rattle.laws_image_accepted.proofs.Laws.Lengths.{lent_values, lent_sets, lent_context, lent_candidates, lent_call, call_is, sets_length, sets_identifiers, candidates_count}
+use Rattle.laws_image_accepted.proofs.Laws.Lengths.{lent_values, lent_sets, lent_context, lent_candidates, lent_call, call_is, sets_length, sets_identifiers}
+use Rattle.laws_image_accepted.proofs.Laws.Counted.{candidates_count}
 use Rattle.laws_image_accepted.proofs.Laws.Accepted.{accepted_call}
 use Rattle.laws_image_accepted.proofs.Laws.Later.{words_small, words_accepted, ends_later}
 use Rattle.lent_world.specs.World.{lent}
-use Rattle.lent_world.proofs.Laws.LentLawful.{InRange}
+use Rattle.lent_world.proofs.Laws.LentIsolation.{InRange}
 use Rattle.lent_world.proofs.Laws.LentFaithful.{lent_faithful}
 use Rattle.laws_room.proofs.Laws.Near.{besides}
 use Rattle.laws_image_accepted.proofs.Laws.Context.{far_zero, none_interned, none_told, identifiers_after, functions_after}
@@ -61,7 +62,8 @@ use Rattle.image_outcome.specs.Inferring.{image_call, shown, inferred}
 use Rattle.image_text.specs.Texts.{lent_listing}
 use Rattle.def_faithful.specs.Ranges.{Entered, Pointing}
 use Rattle.def_faithful.proofs.Laws.Means.{Any, Rel}
-use Rattle.def_faithful.proofs.Laws.Steps.{Fine, call_means}
+use Rattle.def_faithful.proofs.Laws.Steps.{Fine}
+use Rattle.def_faithful.proofs.Laws.Runs.{call_means}
 use Rattle.def_effects.specs.Keys.{effect_key}
 use Rattle.def_effects.specs.declared.Session.{Session}
 use Rattle.def_faithful.proofs.Laws.Clipped.{zero_identifier, known, clip, Unknown, clipped}

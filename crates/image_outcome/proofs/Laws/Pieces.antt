@@ -16,7 +16,7 @@ use Rattle.def_image.specs.Refusals.{refusal_of}
 use Rattle.def_image.specs.Listing.{refusal_line, shown_lines}
 use Rattle.def_transfer.specs.Instruction.{apply_signature}
 use Rattle.call_outcome.specs.Calls.{Call, Outcome, call_class, lent_instruction, lent_world, refused_with, concluded, outcome}
-use Rattle.laws_suffices.proofs.Laws.Suffices.{nothing_lost}
+use Rattle.laws_suffices.proofs.Laws.Whole.{nothing_lost}
 use Rattle.image_job.specs.Reading.{job_of}
 use Rattle.image_text.specs.Texts.{lent_listing}
 use Rattle.image_pieces.specs.declared.Shown.{Shown}

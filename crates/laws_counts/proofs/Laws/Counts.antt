@@ -1,12 +1,12 @@
 -- No instruction lists more than 32 + 17 effects for each candidate, nor makes more than 4,096 entries for each Freeze: of any tables, of the
 -- lent ones and of the functions. Assumes nothing.
-use Rattle.std.specs.Prelude.{ℕ, suc, ◌+◌, ◌*◌, ◌-◌, ◌≤◌, ◌≡◌, refl, Bool, true, false, not, List, [], ◌∷◌, ◌++◌, length}
+use Rattle.std.specs.Prelude.{ℕ, suc, ◌+◌, ◌*◌, ◌≤◌, ◌≡◌, refl, List, [], ◌∷◌, ◌++◌, length}
 use native.Mathlib.Omega.{arith}
-use Rattle.std.proofs.Common.{sym, ap, subst}
-use lib.Dec.{eqb, ltb, nleb→lt}
-use Rattle.base_tests.specs.Tests.{ite, All}
+use Rattle.std.proofs.Common.{ap}
+use lib.Dec.{ltb}
+use Rattle.base_tests.specs.Tests.{All}
 use Rattle.def_effects.specs.Effects.{AliasingEffect}
-use Rattle.def_effects.specs.Keys.{EffectKey, effect_key}
+use Rattle.def_effects.specs.Keys.{effect_key}
 use Rattle.def_transfer.specs.Monad.{◌>>=◌, ◌>>◌, and_then}
 use Rattle.def_transfer.specs.Tables.{Tables, Work, World}
 use Rattle.def_transfer.specs.State.{change}
@@ -17,9 +17,12 @@ use Rattle.def_transfer.specs.Pure.{pure}
 use Rattle.def_transfer.proofs.Laws.Pure.{found_key}
 use Rattle.lent_world.specs.World.{lent, Listed, put_listed, one_more}
 use Rattle.lent_context.proofs.Laws.Ordered.{found_under}
-use Rattle.laws_counts.proofs.Laws.Grows.{total, after, Grows, bind_keeps, refuse_grows, if_grows, unless_grows, each_keeps}
+use Rattle.laws_counts.proofs.Laws.Grows.{after, Grows, bind_keeps, refuse_grows, if_grows, each_keeps}
 use Rattle.laws_counts.proofs.Laws.Keeps.{ask_grows, enter_grows, walk_grows}
-use Rattle.laws_counts.proofs.Laws.Steps.{weight, freezes, Measure, Finding, mutated, lists, walks_of, signature_grows}
+use Rattle.laws_counts.proofs.Laws.Steps.{Measure, Finding, mutated, lists, walks_of}
+use Rattle.laws_counts.proofs.Laws.Runs.{signature_grows}
+use Rattle.laws_counts.proofs.Laws.Most.{choice, candidates_most, walks_most}
+use Rattle.laws_counts.proofs.Laws.Entries.{room, entry_room}
 
 -- ---- what an instruction of the document's sizes comes to
 
@@ -28,29 +31,6 @@ pub record Fits (T : Tables) (ins : Instruction) (c : T.Context) : Type 0 where
   pub few : length ins.candidates ≤ 64
   pub captures : All (λ e. length (effect_key e).captures ≤ 16) ins.candidates
   pub inside : mutated T ins.own c ≤ 32
-
--- what holds of both holds of a choice
-choice : {A : Type 0} (P : A → Type 0) (b : Bool) {x y : A} → P x → P y → P (ite b x y)
-choice P true p q = p
-choice P false p q = q
-
--- a candidate lists 17 effects at the most
--- a CreateFunction of 16 captures does
-weight_most : (k : EffectKey) → length k.captures ≤ 16 → weight k ≤ 17
-weight_most k h = choice (λ n. n ≤ 17) (eqb k.code 10) (omega arith) (omega arith)
-
--- the candidates list 17 times their number at the most
-candidates_most : (l : List AliasingEffect) → All (λ e. length (effect_key e).captures ≤ 16) l → total (λ e. weight (effect_key e)) l ≤ 17 * length l
-unfolding total
-candidates_most [] a = omega arith
-candidates_most (e ∷ l) a = let h = weight_most (effect_key e) a.0 in let k = candidates_most l a.1 in omega arith
-
--- an effect makes one walk at the most
--- so an instruction makes no more than it has candidates
-walks_most : (l : List AliasingEffect) → total (λ e. freezes (effect_key e)) l ≤ length l
-unfolding total
-walks_most [] = omega arith
-walks_most (e ∷ l) = let k = walks_most l in let h = choice (λ n. n ≤ 1) (eqb (effect_key e).code 0) {x = 1} {y = 0} (omega arith) (omega arith) in omega arith
 
 -- ---- the effects listed, of any tables
 
@@ -89,22 +69,11 @@ module _ {T : Tables} (found : Finding T) (count : T.Listed → ℕ) (one_more_i
 -- ---- the entries of its walks, of any tables
 
 module _ {T : Tables} (found : Finding T) (one_more_is : (n : ℕ) → T.one_more n ≤ suc n) where
-  -- the entries made so far, and those that the Freeze under way may still make
-  -- what an entry adds to the first it takes from the second
-  abbrev room : Work T → ℕ
-  room k = k.entries + (4096 - k.freeze_entries)
-
-  -- "the walk of one Freeze would make its 4,097th entry": 11
-  -- so an entry that is counted leaves the sum as it was
-  entry_room : Grows room 0 (count_entry {T = T})
-  unfolding count_entry change
-  entry_room = unless_grows _ 11 _ (λ w e. let l = nleb→lt 4096 w.rest.work.freeze_entries (subst (λ (b : Bool). lib.Dec.T (not b)) (sym e) tt) in let m = one_more_is w.rest.work.entries in omega arith)
-
   -- one walk makes 4,096 entries at the most
   -- "each Freeze starts from zero"
   walk_entries : (vs : List ℕ) (reason : ℕ) → Grows (λ k. k.entries) 4096 (walk {T = T} vs reason)
   unfolding walk start_freeze change ◌>>◌ ◌>>=◌ and_then
-  walk_entries vs reason = record { grows = λ w. let h = (each_keeps {μ = room} {b = 0} vs (λ v. enter_grows 4097 reason v entry_room)).grows (fresh w) in omega arith }
+  walk_entries vs reason = record { grows = λ w. let h = (each_keeps {μ = room {T = T}} {b = 0} vs (λ v. enter_grows 4097 reason v (entry_room one_more_is))).grows (fresh w) in omega arith }
     where
       fresh : World T → World T
       fresh w = record {

@@ -1,10 +1,9 @@
 -- How much each effect, and an instruction, can add to a measure of the work: by what an effect listed and what a walk adds.
 -- Assumes nothing.
-use Prim.Native.Nat.{ℕ, zero, suc, ◌+◌, ◌*◌, ◌≤◌}
+use Prim.Native.Nat.{ℕ, suc, ◌+◌, ◌*◌}
 use native.Mathlib.Omega.{arith}
 use Rattle.std.specs.Prelude.{◌≡◌, Bool, eqb, leb, length}
-use Rattle.std.proofs.Math.Path.{refl, ap, subst}
-use Rattle.std.proofs.Common.{sym}
+use Rattle.std.proofs.Math.Path.{refl, ap}
 use Rattle.std.proofs.Math.Bool.{true, false}
 use mathlib.Core.List.{List, [], ◌∷◌}
 use Rattle.std.proofs.Math.Option.{Option, none, some}
@@ -18,16 +17,16 @@ use Rattle.def_effects.specs.declared.MutationResult.TheVariants as Result
 use Rattle.def_effects.specs.Places.{identifiers}
 use Rattle.def_effects.specs.Effects.{AliasingEffect, Freeze, Mutate, MutateConditionally, MutateTransitive, MutateTransitiveConditionally, Capture, Alias, MaybeAlias, Assign, Create, CreateFrom, ImmutableCapture, CreateFunction, MutateFrozen, MutateGlobal, Impure, Render}
 use Rattle.def_effects.specs.Keys.{EffectKey, effect_key}
-use Rattle.def_transfer.specs.Monad.{M, Done, ◌>>=◌, ◌>>◌, and_then, return, refuse, when◌then◌else◌, each}
+use Rattle.def_transfer.specs.Monad.{M, Done, ◌>>=◌, ◌>>◌, and_then, return, refuse, when◌then◌else◌}
 use Rattle.def_transfer.specs.Tables.{Tables, Work, World}
 use Rattle.def_transfer.specs.State.{ask, change}
 use Rattle.def_transfer.specs.Context.{put_effect, intern_new, intern_effect, emit, put_initialized, begin}
 use Rattle.def_transfer.specs.Walk.{walk}
-use Rattle.def_transfer.specs.Step.{Flow, Immutable, Same, Maybe, Nothing, by_flow, flowing, report_modified, report_hoisted, report, mutating, freezing, creating, capturing_immutably, list_created, creating_from, assigning, creating_function, act, apply_effect}
-use Rattle.def_transfer.specs.Instruction.{Instruction, report_early, early_error, early_errors, define_lvalue, start_instruction, keep_entries, run, apply_signature}
+use Rattle.def_transfer.specs.Step.{Flow, Immutable, Same, Maybe, Nothing, by_flow, flowing, report_modified, report_hoisted, report, mutating, freezing, creating, capturing_immutably, list_created, creating_from, assigning, creating_function, act}
+use Rattle.def_transfer.specs.Instruction.{Instruction}
 use Rattle.def_transfer.proofs.Laws.Derived.{refreshed_key}
-use Rattle.laws_counts.proofs.Laws.Grows.{total, after, Holds, Grows, weaken, and_after, bind_known, bind_keeps, then_grows, then_keeps, then_rest, refuse_grows, done_grows, if_grows, each_keeps, each_grows, atomically_grows}
-use Rattle.laws_counts.proofs.Laws.Keeps.{base, ask_grows, change_grows, set_of_grows, peek_grows, kind_with_span_grows, kind_grows, assign_grows, freeze_grows, intern_grows, number_for_grows, link_to_grows, intern_diagnostic_grows, is_initialized_grows, create_grows, any_written_grows, update_context_grows, mutate_grows, define_lvalue_grows}
+use Rattle.laws_counts.proofs.Laws.Grows.{total, Holds, Grows, weaken, bind_keeps, then_grows, then_keeps, then_rest, refuse_grows, done_grows, if_grows, each_keeps, each_grows}
+use Rattle.laws_counts.proofs.Laws.Keeps.{base, ask_grows, set_of_grows, kind_with_span_grows, kind_grows, assign_grows, freeze_grows, number_for_grows, link_to_grows, intern_diagnostic_grows, is_initialized_grows, create_grows, any_written_grows, update_context_grows, mutate_grows}
 
 -- ---- what an effect can list, and whether it can walk: functions of its key, since interning keeps the key and may change the rest
 
@@ -41,14 +40,14 @@ abbrev pub freezes : EffectKey → ℕ
 freezes k = ite (eqb k.code 0) 1 0
 
 -- members that weigh the same
-total_same : {A : Type 0} (x : ℕ) (l : List A) → total (λ a. x) l ≡ x * length l
+pub total_same : {A : Type 0} (x : ℕ) (l : List A) → total (λ a. x) l ≡ x * length l
 unfolding total
 total_same x [] = omega arith
 total_same x (a ∷ l) = let h = total_same x l in omega arith
 
 -- a key has as many captures as its effect
 -- they are the identifiers of the effect's
-identifiers_length : (l : List Place) → length (identifiers l) ≡ length l
+pub identifiers_length : (l : List Place) → length (identifiers l) ≡ length l
 identifiers_length [] = refl
 identifiers_length (p ∷ ps) = ap suc (identifiers_length ps)
 
@@ -170,7 +169,7 @@ module _ {T : Tables} (𝓜 : Measure T) where
         then_keeps (link_to_grows v f) (then_keeps (create_grows i v _) (each_grows (λ c. listing) cs (λ c. one _ refl refl)))))))))))
 
   -- one effect, whose derived effects cost what their keys say
-  act_grows : (again : AliasingEffect → M (World T) Done) (e : AliasingEffect) → ((z : AliasingEffect) → Grows of (cost (effect_key z)) (again z)) → Grows of (cost (effect_key e)) (act again e)
+  pub act_grows : (again : AliasingEffect → M (World T) Done) (e : AliasingEffect) → ((z : AliasingEffect) → Grows of (cost (effect_key z)) (again z)) → Grows of (cost (effect_key e)) (act again e)
   unfolding act
   act_grows again e h = go e
     where
@@ -219,7 +218,7 @@ module _ {T : Tables} (found : Finding T) (e : AliasingEffect) where
 
   -- "The first effect under a key of `effect_key` is used ever after"
   -- so that its key is that of the effect at hand
-  intern_known : (w : World T) → Holds (λ x. effect_key e ≡ effect_key x) (intern_effect e w)
+  pub intern_known : (w : World T) → Holds (λ x. effect_key e ≡ effect_key x) (intern_effect e w)
   unfolding intern_effect ask ◌>>=◌ and_then
   intern_known w = known (T.find_effect w.rest.context (effect_key e)) (found w.rest.context (effect_key e)) w
 
@@ -241,57 +240,3 @@ lists T ins c = mutated T ins.own c + total (λ e. weight (effect_key e)) ins.ca
 -- how many walks an instruction makes at the most
 abbrev pub walks_of : Instruction → ℕ
 walks_of ins = total (λ e. freezes (effect_key e)) ins.candidates
-
-module _ {T : Tables} (found : Finding T) (𝓜 : Measure T) where
-  open 𝓜 use {of, listing, walking, emits}
-
-  -- the step of an effect: at most what its key costs
-  pub step_grows : (d : ℕ) (e : AliasingEffect) → Grows of (cost 𝓜 (effect_key e)) (apply_effect {T = T} d e)
-  unfolding apply_effect
-  step_grows zero e = refuse_grows 99
-  step_grows (suc d) e = bind_known (intern_known found e) (intern_grows e) (λ x k. subst (λ (z : EffectKey). Grows of (cost 𝓜 z) (act (apply_effect d) x)) (sym k) (act_grows 𝓜 (apply_effect d) x (step_grows d)))
-
-  -- the costs of the candidates
-  total_cost : (l : List AliasingEffect) → total (λ e. cost 𝓜 (effect_key e)) l ≡ listing * total (λ e. weight (effect_key e)) l + walking * total (λ e. freezes (effect_key e)) l
-  unfolding total
-  total_cost [] = omega arith
-  total_cost (e ∷ l) = let h = total_cost l in omega arith
-
-  -- an early error of a place
-  report_early_grows : (p : Place) → Grows of listing (report_early {T = T} p)
-  unfolding report_early
-  report_early_grows p = bind_keeps (set_of_grows _) (λ o. bind_keeps (peek_grows _) (λ a. bind_keeps (ask_grows _) (λ name.
-      if_grows _ (bind_keeps (intern_diagnostic_grows _) (λ d. emits _)) done_grows)))
-
-  -- the same, if the place is of the own function's context
-  -- else nothing
-  early_error_grows : (f : ℕ) (p : Place) → Grows of listing (early_error {T = T} f p)
-  unfolding early_error
-  early_error_grows f p = bind_keeps (ask_grows _) (λ near. if_grows near (report_early_grows p) done_grows)
-
-  -- the early errors of an instruction: one for each place mutated inside, at the most
-  early_errors_grows : (o : Option ℕ) (w : World T) → of (after (early_errors o w)) ≤ of w.rest.work + listing * mutated T o w.rest.context
-  unfolding early_errors mutated ask ◌>>=◌ and_then
-  early_errors_grows none w = (done_grows {μ = of} {b = listing * 0}).grows w
-  early_errors_grows (some f) w = let q = total_same listing (T.mutated_inside w.rest.context f) in let h = (each_grows (λ p. listing) (T.mutated_inside w.rest.context f) (early_error_grows f)).grows w in omega arith
-
-  -- what comes after the early errors
-  -- the candidates; the lvalue and the session's entries add nothing
-  rest_grows : (ins : Instruction) → Grows of (total (λ e. cost 𝓜 (effect_key e)) ins.candidates) (each ins.candidates (apply_effect {T = T} 4) >> (define_lvalue ins.lvalue.identifier >> change keep_entries))
-  rest_grows ins = then_rest (each_grows _ ins.candidates (step_grows 4)) (then_keeps (define_lvalue_grows _) (change_grows _ (λ r. refl)))
-
-  -- the run of an instruction: what it lists and walks at the most
-  pub run_grows : (ins : Instruction) (w : World T) → of (after (run ins w)) ≤ of w.rest.work + (listing * lists T ins w.rest.context + walking * walks_of ins)
-  unfolding run ◌>>◌ ◌>>=◌
-  run_grows ins w =
-      let q = total_cost ins.candidates in
-      let h = and_after _ _ (early_errors ins.own w) (early_errors_grows ins.own w) (λ a. rest_grows ins) in
-      omega arith
-
-  -- the call for an instruction, refused or not: the measure at the end, from the work that it starts from
-  pub signature_grows : (ins : Instruction) (w : World T) → of (after (apply_signature ins w)) ≤ of (started T) + (listing * lists T ins w.rest.context + walking * walks_of ins)
-  unfolding apply_signature start_instruction change ◌>>◌ ◌>>=◌ and_then
-  signature_grows ins w = atomically_grows of (run ins) u _ (run_grows ins u)
-    where
-      u : World T
-      u = record { state = w.state; rest = record { session = w.rest.session; context = w.rest.context; work = started T } }

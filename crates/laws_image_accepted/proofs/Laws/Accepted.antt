@@ -1,46 +1,22 @@
 -- An accepted image makes an accepted call: where its words earn no refusal, the call for its instruction earns none of 1 to 5. Assumes nothing.
-use Rattle.std.specs.Prelude.{ℕ, ◌<◌, ◌≡◌, get_or}
-use Rattle.std.proofs.Common.{arith, ◌∙◌}
+use Rattle.std.specs.Prelude.{ℕ, ◌<◌, ◌≡◌}
+use Rattle.std.proofs.Common.{◌∙◌}
 use Rattle.std.proofs.Math.Path.{ap}
-use Rattle.lent_copies.specs.Copies.{zeros}
-use Rattle.lent_copies.proofs.Laws.Copy.{zeros_length}
-use Rattle.lent_layout.specs.Layout as Layout
-use Rattle.refuse_entries.specs.Words as Words
-use Rattle.refuse_instruction.specs.EffectClasses.{instruction_class}
-use Rattle.refuse_records.specs.Accepting.{context_class}
-use Rattle.image_decode.proofs.Laws.WordsBack.{function_count_back}
-use Rattle.def_image.specs.Layout.{Image, word, identifiers, functions, count_of, next, lvalue, own}
+use Rattle.def_image.specs.Layout.{Image, word}
 use Rattle.def_image.specs.Refusals.{refusal_of_words}
-use Rattle.def_image.specs.Decode.{place_at}
-use Rattle.call_outcome.specs.Calls.{candidate_count, call_class}
+use Rattle.call_outcome.specs.Calls.{call_class}
 use Rattle.image_outcome.specs.Inferring.{image_call}
 use Rattle.laws_image_accepted.proofs.Laws.Records.{lower_both, earns_not}
-use Rattle.laws_image_accepted.proofs.Laws.Lengths.{lent_sets, lent_context, lent_candidates, call_is, sets_identifiers, candidates_count, lengths_right}
+use Rattle.laws_image_accepted.proofs.Laws.Lengths.{call_is}
+use Rattle.laws_image_accepted.proofs.Laws.Counted.{lengths_right}
 use Rattle.laws_image_accepted.proofs.Laws.State.{state_right}
-use Rattle.laws_image_accepted.proofs.Laws.Context.{context_right}
-use Rattle.laws_image_accepted.proofs.Laws.Instruction.{instruction_right}
+use Rattle.laws_image_accepted.proofs.Laws.Classes.{context_none, instruction_none}
 
 module _ (im : Image) (small : (i : ℕ) → word im i < 4294967296) (ok : refusal_of_words im ≡ 0) where
-  -- the context says how many functions there are
-  functions_count : get_or (lent_context im) Layout.function_count 0 ≡ count_of im functions
-  functions_count = function_count_back im (zeros 238534) (let z = zeros_length 238534 in omega arith)
-
-  -- the context, as the call tests it
-  -- for the identifiers of the sets and the functions of the context
-  context_none : context_class (Words.identifiers (lent_sets im)) (get_or (lent_context im) Layout.function_count 0) (lent_context im) (next im) ≡ 0
-  context_none = (λ i. context_class (sets_identifiers im ok i) (functions_count i) (lent_context im) (next im)) ∙ context_right im small ok
-
-  -- the instruction, as the call tests it
-  -- with as many candidates as their words have records
-  instruction_none : instruction_class (Words.identifiers (lent_sets im)) (get_or (lent_context im) Layout.function_count 0) (lent_context im) (lent_candidates im) (candidate_count (lent_candidates im)) (place_at im (lvalue im)) (own im) ≡ 0
-  instruction_none =
-      (λ i. instruction_class (sets_identifiers im ok i) (functions_count i) (lent_context im) (lent_candidates im) (candidates_count im ok i) (place_at im (lvalue im)) (own im))
-      ∙ instruction_right im small ok (lent_context im)
-
   -- an accepted image makes an accepted call: "Order 1 to 5 over the whole input; then the first met as the steps run"
   -- so what `infer` refuses an accepted image with is 6 to 11; its words are of 32 bits
   pub accepted_call : call_class (image_call im) ≡ 0
   unfolding call_class
   accepted_call =
       ap call_class (call_is im)
-      ∙ lower_both _ _ (earns_not 1 _ (lengths_right im ok)) (lower_both _ _ (state_right im ok) (lower_both _ _ context_none instruction_none))
+      ∙ lower_both _ _ (earns_not 1 _ (lengths_right im ok)) (lower_both _ _ (state_right im ok) (lower_both _ _ (context_none im small ok) (instruction_none im small ok)))

@@ -6,7 +6,7 @@ use Rattle.def_transfer.specs.Monad.{Res, ok, refused, Done, restore}
 use Rattle.def_transfer.specs.Tables.{World}
 use Rattle.def_transfer.specs.Instruction.{run, apply_signature}
 use Rattle.lent_world.specs.World.{lent}
-use Rattle.lent_world.proofs.Laws.LentLawful.{InRange, lent_ends}
+use Rattle.lent_world.proofs.Laws.LentIsolation.{InRange, lent_ends}
 use Rattle.def_image.specs.Layout.{Image, word, wrong_length, words_of, identifiers, count_of}
 use Rattle.def_image.specs.Refusals.{refusal_of_words, refusal_of}
 use Rattle.call_outcome.specs.Calls.{Call, Outcome, call_class, lent_instruction, lent_world, concluded, outcome}

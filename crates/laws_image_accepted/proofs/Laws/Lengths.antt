@@ -1,17 +1,16 @@
 -- The call that an accepted image makes is lent lists of the right lengths: no refusal 1 but that of the state. Assumes nothing.
-use Prim.Native.Nat.{ℕ, zero, suc, ◌+◌, ◌*◌, ◌/◌, ◌%◌}
+use Prim.Native.Nat.{ℕ, zero, suc, ◌+◌, ◌*◌, ◌/◌}
 use native.Mathlib.Omega.{arith}
-use Rattle.std.specs.Prelude.{◌≡◌, Bool, ◌||◌, List, eqb, take}
-use Rattle.std.proofs.Common.{sym, ◌∙◌, eq-eqb}
+use Rattle.std.specs.Prelude.{◌≡◌, List, take}
+use Rattle.std.proofs.Common.{◌∙◌}
 use Rattle.std.proofs.Math.Path.{ap}
-use Rattle.std.proofs.Math.Bool.{false, not}
+use Rattle.std.proofs.Math.Bool.{false}
 use Rattle.std.proofs.Math.ListN.{length}
 use Rattle.std.proofs.Math.Seq.{length-take-le}
 use Rattle.lent_copies.specs.Copies.{zeros}
 use Rattle.lent_copies.proofs.Laws.Copy.{zeros_length}
 use Rattle.lent_sets.proofs.Laws.Row.{fit_set}
 use Rattle.lent_effects.proofs.Laws.EffectFrames.{effect_length}
-use Rattle.base_tests.proofs.Laws.Bool.{or_neither}
 use Rattle.refuse_entries.specs.Words as Words
 use Rattle.def_image.specs.Layout.{Image, identifiers, values, pairs, functions, candidates, count_of, lvalue, own}
 use Rattle.def_image.specs.Decode.{place_at}
@@ -20,8 +19,7 @@ use Rattle.image_decode.specs.Decoded.{after, decoded_value, decoded_values, dec
 use Rattle.image_decode.proofs.Laws.StateBack.{after_length, value_length}
 use Rattle.image_decode.proofs.Laws.ContextBack.{function_length, identifier_length, header_length}
 use Rattle.image_job.specs.Reading.{session_of, job_of, filled}
-use Rattle.call_outcome.specs.Calls.{Call, call, wrong_context, lengths_wrong, candidate_count}
-use Rattle.call_outcome.proofs.Laws.Class.{full_right}
+use Rattle.call_outcome.specs.Calls.{Call, call}
 use Rattle.image_outcome.specs.Inferring.{job_call, image_call}
 use Rattle.laws_image_accepted.proofs.Laws.Facts.{few_identifiers, few_candidates}
 
@@ -121,21 +119,3 @@ module _ (im : Image) where
     candidates_length =
         length-take-le (98 * count_of im candidates) (decoded_candidates im (count_of im candidates) (zeros 6272))
         (let l = records_length in let m = few_candidates im ok in omega arith)
-
-    -- so their words say how many candidates there are
-    pub candidates_count : candidate_count lent_candidates ≡ count_of im candidates
-    candidates_count = ap (λ (x : ℕ). x / 98) candidates_length ∙ (let z : 98 * count_of im candidates / 98 ≡ count_of im candidates = omega arith in z)
-
-    -- no list has the wrong length
-    -- "1 a lent slice or image has the wrong length"
-    pub lengths_right : lengths_wrong (length lent_sets) (wrong_context lent_context lent_candidates) (length lent_candidates) (length (zeros 109760)) (length (zeros (1024 + 16 * count_of im identifiers))) (length (zeros 25347)) ≡ false
-    unfolding lengths_wrong
-    lengths_right =
-        or_neither (wrong_context lent_context lent_candidates) _ (full_right lent_context lent_candidates context_length)
-        (right (length lent_candidates % 98) 0 _ (ap (λ (x : ℕ). x % 98) candidates_length ∙ (let z : 98 * count_of im candidates % 98 ≡ 0 = omega arith in z))
-        (right (length (zeros 109760)) 109760 _ (zeros_length 109760)
-        (right (length (zeros 25347)) 25347 _ (zeros_length 25347)
-        (ap not (eq-eqb (length (zeros (1024 + 16 * count_of im identifiers))) (1024 + length lent_sets) (zeros_length (1024 + 16 * count_of im identifiers) ∙ ap (λ (x : ℕ). 1024 + x) (sym sets_length)))))))
-      where
-        right : (a b : ℕ) (x : Bool) → a ≡ b → x ≡ false → (not (eqb a b) || x) ≡ false
-        right a b x e h = or_neither (not (eqb a b)) x (ap not (eq-eqb a b e)) h

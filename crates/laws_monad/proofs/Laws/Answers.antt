@@ -4,9 +4,8 @@ use Rattle.std.proofs.Math.Path.{◌≡◌, refl, ap}
 use Rattle.std.proofs.Common.{◌∙◌, arith, le-leb}
 use Rattle.std.specs.Prelude.{Bool, leb}
 use Rattle.std.proofs.Math.Bool.{true, false}
-use mathlib.Core.List.{List, [], ◌∷◌}
 use Rattle.std.proofs.lemmas.Bool.{lt-leb}
-use Rattle.def_transfer.specs.Monad.{Res, ok, refused, M, Done, and_then, ◌>>=◌, ◌>>◌, return, refuse, done, when◌then◌else◌, each}
+use Rattle.def_transfer.specs.Monad.{Res, ok, refused, M, and_then, ◌>>=◌, ◌>>◌, return, refuse, done, when◌then◌else◌}
 use Rattle.laws_monad.specs.Answers.{answer}
 
 module _ {W A : Type 0} where
@@ -88,21 +87,3 @@ module _ {W A : Type 0} where
 
   pub if_gt : (a b : ℕ) (m n : M W A) (w : W) (x : Res W A) → b < a → n w ≡ x → (when leb a b then m else n) w ≡ x
   if_gt a b m n w x h e = if_false _ m n w x (lt-leb a b h) e
-
--- a list, from its first element on
-module _ {W A : Type 0} where
-  pub each_refused : (f : A → M W Done) (x : A) (l xs : List A) (r : ℕ) (w u : W) → l ≡ x ∷ xs → f x w ≡ answer r tt u → ¬ (r ≡ 0) → each l f w ≡ answer r tt u
-  unfolding each
-  each_refused f x l xs r w u c e h = ap (λ (k : List A). each k f w) c ∙ then_refused (f x) (each xs f) r w u tt tt e h
-
-  pub each_goes : (f : A → M W Done) (x : A) (l xs : List A) (r : ℕ) (w u : W) → l ≡ x ∷ xs → f x w ≡ answer r tt u → r ≡ 0 → each l f w ≡ each xs f u
-  unfolding each
-  each_goes f x l xs r w u c e h = ap (λ (k : List A). each k f w) c ∙ then_goes (f x) (each xs f) r w u tt (each xs f u) e h refl
-
-  pub each_ok : (f : A → M W Done) (x : A) (l xs : List A) (w u : W) → l ≡ x ∷ xs → f x w ≡ ok tt u → each l f w ≡ each xs f u
-  unfolding each
-  each_ok f x l xs w u c e = ap (λ (k : List A). each k f w) c ∙ then_ok (f x) (each xs f) w u tt (each xs f u) e refl
-
-  pub each_ends : (f : A → M W Done) (l : List A) (w : W) → l ≡ [] → each l f w ≡ answer 0 tt w
-  unfolding each answer done return
-  each_ends f l w c = ap (λ (k : List A). each k f w) c

@@ -1,18 +1,15 @@
 -- Theorem 2 of the lent tables: a context with words for so many effects does what the same one does with more words, where there is room
 -- for what the candidates need. Assumes nothing.
-use Rattle.std.specs.Prelude.{ℕ, ◌+◌, ◌*◌, ◌≤◌, ◌≡◌, Bool, length, set}
+use Rattle.std.specs.Prelude.{ℕ, ◌+◌, ◌*◌, ◌≤◌, ◌≡◌, Bool, set}
 use Rattle.std.proofs.Common.{arith, ◌∙◌}
 use Rattle.std.proofs.Math.Path.{refl, sym, ap, ap₂, subst, fun_ext}
-use mathlib.Core.List.{List, ◌++◌}
+use mathlib.Core.List.{List}
 use Rattle.std.proofs.Math.Option.{none, some}
 use Rattle.base_tests.specs.Tests.{ite}
 use Rattle.lent_keys.specs.KeyRecords as Keys
 use Rattle.def_effects.specs.Effects.{AliasingEffect}
 use Rattle.def_effects.specs.Keys.{EffectKey, effect_key}
 use Rattle.def_transfer.specs.Diagnostics.{Diagnostic}
-use Rattle.def_transfer.specs.Tables.{World}
-use Rattle.def_transfer.specs.Instruction.{Instruction, apply_signature}
-use Rattle.def_transfer.specs.Pure.{Context, pure}
 use Rattle.lent_tables.specs.declared.Table.{Table}
 use Rattle.lent_tables.specs.Words.{index, end, field, put_field}
 use Rattle.lent_tables.proofs.Laws.Word.{record_ends, within_record, within_word}
@@ -24,16 +21,10 @@ use Rattle.base_search.specs.declared.Spot.TheVariants.{At, Before}
 use Rattle.base_search.specs.Search.{along}
 use Rattle.def_key_order.specs.KeyOrder.{compare_keys}
 use Rattle.lent_layout.specs.Layout as Layout
-use Rattle.lent_copies.specs.Copies.{zeros}
 use Rattle.lent_context.specs.Lent.{interned_count, interned_key, effect_spot, effect_at, place_of, find_effect, add_effect, is_keyed, key_here, key_count, key_spot, number_at, find_number, one_more, cached_at, put_key, put_link, make_read, read_places, instance_count, put_diagnostic, add_diagnostic}
 use Rattle.lent_context.specs.Abstract.{abstract}
-use Rattle.lent_context.proofs.Laws.Abstract.{key_is, link_is, places_is, inside_is, tracked_is, ref_is, hoisted_is, access_is, name_is, transitive_is, identities_is, identity_is, instance_is}
-use Rattle.lent_world.specs.World.{lent}
 use Rattle.lent_world.proofs.Laws.Frames.{keyed_same, here_same, interned_same, cached_same, links_same, functions_same, identifiers_same, transitive_same, diagnostics_same}
-use Rattle.laws_room.specs.Room.{size, needs}
-use Rattle.laws_room.proofs.Laws.Near.{Padded, ended, beside, besides, Close}
-use Rattle.laws_room.proofs.Laws.Steps.{signature_near}
-use Rattle.laws_room.proofs.Laws.Lent.{lent_measured}
+use Rattle.laws_room.specs.Room.{size}
 use Rattle.laws_room.proofs.Laws.Both.{Pads, word_alike, field_alike, set_alike, put_alike, effect_both, option_both, key_both, diagnostic_both, reads_both, insert_both}
 
 -- how many words a context has with room for so many effects
@@ -59,12 +50,12 @@ module _ (room n : ℕ) where
   Short = Pads (words_for room) n
 
   -- the counts are words
-  count_alike : {c d : List ℕ} → Short c d → interned_count d ≡ interned_count c
+  pub count_alike : {c d : List ℕ} → Short c d → interned_count d ≡ interned_count c
   unfolding interned_count
   count_alike p = word_alike p Layout.interned_count
 
   -- so is that of diagnostics
-  instances_alike : {c d : List ℕ} → Short c d → instance_count d ≡ instance_count c
+  pub instances_alike : {c d : List ℕ} → Short c d → instance_count d ≡ instance_count c
   unfolding instance_count
   instances_alike p = word_alike p Layout.diagnostic_count
 
@@ -86,7 +77,7 @@ module _ (room n : ℕ) where
           ∙ ap effect_key (effect_cong Layout.interned c d (field Layout.effect_order c j 0) (field_alike p Layout.interned (field Layout.effect_order c j 0)))
 
   -- and what stands there
-  found_alike : {c d : List ℕ} → Short c d → (k : EffectKey) → find_effect d k ≡ find_effect c k
+  pub found_alike : {c d : List ℕ} → Short c d → (k : EffectKey) → find_effect d k ≡ find_effect c k
   unfolding find_effect order_at
   found_alike {c} {d} p k = ap (effect_at d) (spot_alike p k) ∙ go (effect_spot c k)
     where
@@ -97,7 +88,7 @@ module _ (room n : ℕ) where
       go (Before q) = refl
 
   -- an effect, where there is a record for it
-  effect_pads : {c d : List ℕ} → Short c d → (e : AliasingEffect) → interned_count d + size (effect_key e) ≤ room → Short (add_effect c e) (add_effect d e)
+  pub effect_pads : {c d : List ℕ} → Short c d → (e : AliasingEffect) → interned_count d + size (effect_key e) ≤ room → Short (add_effect c e) (add_effect d e)
   unfolding add_effect index end
   effect_pads {c} {d} p e l =
       subst (λ (m : ℕ). Short (add_effect c e) (set (inserted Layout.effect_order (place_of (effect_spot d (effect_key e))) m m (put_effect Layout.interned d m e)) Layout.interned_count (m + 1))) (sym (count_alike p))
@@ -129,7 +120,7 @@ module _ (room n : ℕ) where
           ∙ here_same c d (field Layout.key_order c j 0) (field_alike p Layout.cached (field Layout.key_order c j 0))
 
   -- and the number that stands there
-  number_alike : {c d : List ℕ} → Short c d → (k : EffectKey) → find_number d k ≡ find_number c k
+  pub number_alike : {c d : List ℕ} → Short c d → (k : EffectKey) → find_number d k ≡ find_number c k
   unfolding find_number order_at
   number_alike {c} {d} p k = ap (number_at d) (key_spot_alike p k) ∙ go (key_spot c k)
     where
@@ -140,7 +131,7 @@ module _ (room n : ℕ) where
       go (Before q) = refl
 
   -- a key
-  key_pads : {c d : List ℕ} → Short c d → (v : ℕ) (k : EffectKey) → Short (put_key c v k) (put_key d v k)
+  pub key_pads : {c d : List ℕ} → Short c d → (v : ℕ) (k : EffectKey) → Short (put_key c v k) (put_key d v k)
   unfolding put_key cached_at end
   key_pads {c} {d} p v k =
       subst (λ (m : ℕ). Short (put_key c v k) (set (inserted Layout.key_order (place_of (key_spot d k)) v m (Keys.put_key Layout.cached d v k)) Layout.key_count (one_more m))) (sym (keys_alike p))
@@ -150,69 +141,20 @@ module _ (room n : ℕ) where
       (key_both Layout.cached v Short (before Layout.cached (omega arith) v) _ _ k p)) Layout.key_count (one_more (key_count c)) (omega arith)))
 
   -- a link
-  link_pads : {c d : List ℕ} → Short c d → (v f : ℕ) → Short (put_link c v f) (put_link d v f)
+  pub link_pads : {c d : List ℕ} → Short c d → (v f : ℕ) → Short (put_link c v f) (put_link d v f)
   unfolding put_link end
   link_pads p v f = option_both Layout.links v Short (before Layout.links (omega arith) v) _ _ 0 (some f) p
 
   -- context places made Read
-  read_pads : {c d : List ℕ} → Short c d → (f i : ℕ) → Short (make_read c f i) (make_read d f i)
+  pub read_pads : {c d : List ℕ} → Short c d → (f i : ℕ) → Short (make_read c f i) (make_read d f i)
   unfolding make_read end
   read_pads {c} {d} p f i =
       subst (λ (m : ℕ). Short (make_read c f i) (read_places f i 0 m d)) (sym (field_alike p Layout.functions f 1))
       (reads_both f i Short (λ a b q. field_alike q Layout.contexts f) (before Layout.contexts (omega arith) f) 0 _ c d p)
 
   -- a diagnostic
-  diagnostic_pads : {c d : List ℕ} → Short c d → (m : ℕ) (x : Diagnostic) → Short (add_diagnostic c m x) (add_diagnostic d m x)
+  pub diagnostic_pads : {c d : List ℕ} → Short c d → (m : ℕ) (x : Diagnostic) → Short (add_diagnostic c m x) (add_diagnostic d m x)
   unfolding add_diagnostic end
   diagnostic_pads {c} {d} p m x =
       subst (λ (k : ℕ). Short (add_diagnostic c m x) (set (put_diagnostic d k m x) Layout.diagnostic_count (k + 1))) (sym (instances_alike p))
       (set_alike (diagnostic_both (instance_count c) Short (before Layout.diagnostics (omega arith) (instance_count c)) c d m x p) Layout.diagnostic_count (instance_count c + 1) (omega arith))
-
-  -- ---- so the lent tables are padded
-
-  -- each read is the one of the plain tables
-  pub lent_padded : Padded lent
-  unfolding lent_measured
-  lent_padded = record {
-    measured = lent_measured;
-    room = room;
-    Pad = Short;
-    interned_count = count_alike;
-    find_effect = found_alike;
-    key_at = λ {c} {d} p v. key_is d v ∙ ap (λ (x : Context). pure.key_at x v) (pad_means p) ∙ sym (key_is c v);
-    find_number = number_alike;
-    link_of = λ {c} {d} p v. link_is d v ∙ ap (λ (x : Context). pure.link_of x v) (pad_means p) ∙ sym (link_is c v);
-    context_of = λ {c} {d} p f. places_is d f ∙ ap (λ (x : Context). pure.context_of x f) (pad_means p) ∙ sym (places_is c f);
-    mutated_inside = λ {c} {d} p f. inside_is d f ∙ ap (λ (x : Context). pure.mutated_inside x f) (pad_means p) ∙ sym (inside_is c f);
-    has_tracked_side_effect = λ {c} {d} p f. tracked_is d f ∙ ap (λ (x : Context). pure.has_tracked_side_effect x f) (pad_means p) ∙ sym (tracked_is c f);
-    is_ref = λ {c} {d} p i. ref_is d i ∙ ap (λ (x : Context). pure.is_ref x i) (pad_means p) ∙ sym (ref_is c i);
-    is_hoisted = λ {c} {d} p i. hoisted_is d i ∙ ap (λ (x : Context). pure.is_hoisted x i) (pad_means p) ∙ sym (hoisted_is c i);
-    access_span = λ {c} {d} p i. access_is d i ∙ ap (λ (x : Context). pure.access_span x i) (pad_means p) ∙ sym (access_is c i);
-    name_of = λ {c} {d} p i. name_is d i ∙ ap (λ (x : Context). pure.name_of x i) (pad_means p) ∙ sym (name_is c i);
-    is_transitive = λ {c} {d} p. transitive_is d ∙ ap pure.is_transitive (pad_means p) ∙ sym (transitive_is c);
-    identity_count = λ {c} {d} p. identities_is d ∙ ap pure.identity_count (pad_means p) ∙ sym (identities_is c);
-    instance_count = instances_alike;
-    find_identity = λ {c} {d} p x. identity_is d x ∙ ap (λ (y : Context). pure.find_identity y x) (pad_means p) ∙ sym (identity_is c x);
-    find_instance = λ {c} {d} p m x. instance_is d m x ∙ ap (λ (y : Context). pure.find_instance y m x) (pad_means p) ∙ sym (instance_is c m x);
-    add_effect = effect_pads;
-    put_key = key_pads;
-    put_link = link_pads;
-    make_read = read_pads;
-    add_diagnostic = diagnostic_pads;
-  }
-
-  -- a context with records for what the candidates need is as good as one with n words more: the same answer or the same refusal, and
-  -- the same world but for n zeros at the end of its context
-  pub lent_short : (ins : Instruction) (w : World lent) → length w.rest.context ≡ words_for room → interned_count w.rest.context + needs ins.candidates ≤ room → apply_signature ins (beside (w.rest.context ++ zeros n) w) ≡ besides (ended (apply_signature ins w) ++ zeros n) (apply_signature ins w)
-  unfolding lent_padded lent_measured
-  lent_short ins w l h = x.same ∙ ap (λ (d : List ℕ). besides d (apply_signature ins w)) x.pad.more
-    where
-      p : Short w.rest.context (w.rest.context ++ zeros n)
-      p = record { long = l; more = refl }
-
-      x : Close lent_padded (needs ins.candidates) (w.rest.context ++ zeros n) (apply_signature ins w) (apply_signature ins (beside (w.rest.context ++ zeros n) w))
-      x = (signature_near ins).near w (w.rest.context ++ zeros n) p (let k = count_alike p in omega arith)
-
--- with room for 2,048 effects it has the words that it has today
-pub words_today : words_for 2048 ≡ Layout.long
-words_today = refl

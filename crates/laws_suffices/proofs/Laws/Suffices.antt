@@ -6,7 +6,7 @@ use Rattle.std.proofs.Common.{sym, ap, ◌∙◌, ⊎_elim}
 use Rattle.std.proofs.Math.ListN.{length}
 use borrow.Author.Tests.{ltb-false, leb-true}
 use Rattle.base_tests.proofs.Laws.Bool.{not-false, or_no_second}
-use Rattle.base_tests.proofs.Laws.Choice.{ite_eq, ite_ne, ite_yes, ite_no}
+use Rattle.base_tests.proofs.Laws.Choice.{ite_ne, ite_yes, ite_no}
 use Rattle.base_tests.specs.Tests.{All}
 use Rattle.base_tests.proofs.Laws.Order.{lt_or_ge, same_or_not}
 use Rattle.def_effects.specs.declared.Place.{Place}
@@ -22,9 +22,7 @@ use Rattle.lent_effects.proofs.Laws.Head.{code_past, code_apply, code_known}
 use Rattle.lent_keys.proofs.Laws.Number.{numbers_count, places_numbers}
 use Rattle.lent_layout.specs.Layout as Layout
 use Rattle.lent_context.specs.Lent.{effects_in, mutated_inside}
-use Rattle.def_transfer.specs.Monad.{Res, ok, refused, Done}
-use Rattle.def_transfer.specs.Tables.{World}
-use Rattle.def_transfer.specs.Instruction.{apply_signature, own_of}
+use Rattle.def_transfer.specs.Instruction.{own_of}
 use Rattle.lent_world.specs.World.{lent}
 use Rattle.refuse_entries.specs.Words.{identifiers}
 use Rattle.refuse_class.proofs.Laws.Class.{lower_0}
@@ -33,11 +31,9 @@ use Rattle.refuse_instruction.specs.EffectClasses.{uses, used_parts, count_class
 use Rattle.refuse_tables.specs.TableClasses.{places_class, function_class}
 use Rattle.refuse_records.specs.Accepting.{counts_wrong, functions_class, tables_class, context_class}
 use Rattle.call_parts.specs.Instructions.{instruction_of}
-use Rattle.laws_counts.proofs.Laws.Grows.{after}
 use Rattle.laws_counts.proofs.Laws.Steps.{mutated}
 use Rattle.laws_counts.proofs.Laws.Counts.{Fits}
-use Rattle.laws_counts.proofs.Laws.Lossless.{Lossless, lossless}
-use Rattle.call_outcome.specs.Calls.{Call, Outcome, candidate_count, call_class, lent_instruction, lent_world, refused_with, concluded, outcome}
+use Rattle.call_outcome.specs.Calls.{Call, candidate_count, call_class, lent_instruction}
 use Rattle.call_outcome.proofs.Laws.Class.{class_0}
 use Rattle.lent_layout.specs.Layout.{candidate_table}
 
@@ -189,24 +185,3 @@ pub accepted_fits : (c : Call) → call_class c ≡ 0 → Fits lent (lent_instru
 accepted_fits c e =
     let a = class_0 c.values c.sets c.flag c.context c.session c.candidates c.lvalue c.own c.output c.scratch64 c.scratch32 e in
     instruction_fits (identifiers c.sets) (get_or c.context Layout.function_count 0) c.context c.candidates (candidate_count c.candidates) c.lvalue c.own a.3 c.session.next a.2
-
--- "The output list has 1,120 records (32 + 64 × 17, so it suffices)": of a call that no class refuses nothing is lost
--- the session's entries are a word of 32 bits
-pub call_lossless : (c : Call) → call_class c ≡ 0 → c.session.entries ≤ 4294967295 → Lossless (lent_instruction c) (lent_world c)
-call_lossless c e h = lossless (lent_instruction c) (lent_world c) (accepted_fits c e) h
-
--- what a call answers counts no more effects than its transfer listed
--- a call that the transfer refuses answers with none
-ends_listed : (c : Call) (r : Res (World lent) Done) → (concluded c r).applied.count ≤ (after r).listed.count
-ends_listed c (ok a w) = omega arith
-ends_listed c (refused n w) = omega arith
-
--- such a call answers with at most 1,120 effects, so each has its record in the output list
-pub nothing_lost : (c : Call) → call_class c ≡ 0 → c.session.entries ≤ 4294967295 → (outcome c).applied.count ≤ 1120
-unfolding outcome
-nothing_lost c e h =
-    let k : (outcome c).applied.count ≡ (concluded c (apply_signature (lent_instruction c) (lent_world c))).applied.count = ap (λ (x : Outcome). x.applied.count) (ite_eq (call_class c) 0 _ (refused_with (call_class c) c) e) in
-    let g = ends_listed c (apply_signature (lent_instruction c) (lent_world c)) in
-    let l = (call_lossless c e h).listed in
-    let m = (call_lossless c e h).suffices in
-    omega arith

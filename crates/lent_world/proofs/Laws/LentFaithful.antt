@@ -1,12 +1,10 @@
 -- The lent tables are faithful. Assumes nothing.
-use Rattle.std.specs.Prelude.{ℕ, zero, suc, ◌+◌, ◌*◌, ◌/◌, ◌%◌, ◌^◌, ◌≤◌, ◌<◌, max, ◌≡◌, refl, Bool, true, false, ◌||◌, List, [], ◌∷◌, ◌++◌, eqb, length, get_or, set}
+use Rattle.std.specs.Prelude.{ℕ, zero, suc, ◌*◌, ◌/◌, ◌%◌, ◌^◌, ◌≤◌, ◌<◌, max, ◌≡◌, refl, Bool, true, false, ◌||◌, List, [], ◌∷◌, eqb, length, get_or, set}
 use Rattle.std.proofs.Common.{pow-suc, mul-div_cancel, zero-lt-suc, arith, sym, ap, ap₂, ◌∙◌, subst, ⊎_elim, length-set, get_or-set_same, get_or-set_other, eq-eqb, ne_eqb}
 use Rattle.std.proofs.Math.Nat.{mul-mod_left}
 use Rattle.std.specs.Int.Bits.{bit_or}
 use Rattle.base_tests.specs.Tests.{ite}
 use Rattle.base_tests.proofs.Laws.Choice.{ite_lt}
-use Rattle.def_effects.specs.Effects.{AliasingEffect}
-use Rattle.def_effects.specs.Keys.{effect_key}
 use Rattle.def_transfer.specs.Instruction.{has}
 use Rattle.lent_values.proofs.Laws.Cell as CellLaws
 use Rattle.lent_sets.specs.Rows.{bit}
@@ -14,27 +12,22 @@ use Rattle.base_tests.proofs.Laws.Order.{same_or_not}
 use Rattle.lent_sets.proofs.Laws.Bit.{bit_low, bit_suc, bit_one, bit_or_is}
 use Rattle.lent_sets.proofs.Laws.Row as RowLaws
 use Rattle.lent_copies.specs.Copies.{zeros}
-use Rattle.lent_copies.proofs.Laws.Copy.{zeros_length, zero_word}
-use Rattle.lent_tables.specs.Words.{index}
-use Rattle.lent_effects.specs.Records.{put_effect}
-use Rattle.lent_effects.proofs.Laws.EffectFrames.{effect_length, effect_after}
+use Rattle.lent_copies.proofs.Laws.Copy.{zero_word}
 use Rattle.lent_work.specs.declared.Marks.{Marks}
 use Rattle.lent_work.specs.Marks.{no_marks, is_marked, marked}
 use Rattle.lent_layout.specs.Layout as Layout
 use Rattle.lent_context.specs.Lent as Lent
-use Rattle.lent_context.specs.Lent.{effects_in}
-use Rattle.lent_world.specs.World.{lent, Listed, put_listed, one_more}
+use Rattle.lent_world.specs.World.{lent, one_more}
 use Rattle.lent_work.specs.Access.{access_of}
-use Rattle.def_faithful.specs.Ranges.{Short}
 use Rattle.def_faithful.specs.Faithful.{Faithful}
 use Rattle.lent_world.proofs.Laws.StateFaithful.{value_word, value_put, set_is, set_put}
 use Rattle.lent_context.specs.Abstract.{abstract}
-use Rattle.lent_world.proofs.Laws.Back.{effect_appended, effects_length, diagnostics_length}
+use Rattle.lent_world.proofs.Laws.Back.{effects_length, diagnostics_length}
 use Rattle.lent_world.proofs.Laws.ContextFaithful.{FitContext, effect_fit, effect_add, key_fit, key_put, link_fit, link_put, read_fit, read_means, diagnostic_fit, diagnostic_add}
 use Rattle.lent_context.proofs.Laws.Abstract.{key_is, link_is, places_is, inside_is, tracked_is, ref_is, hoisted_is, access_is, name_is, transitive_is, identities_is, identity_is, instance_is}
 use Rattle.lent_context.proofs.Laws.Ordered.{effect_is}
 use Rattle.lent_context.proofs.Laws.Numbered.{number_is}
-use Rattle.lent_layout.specs.Layout.{output}
+use Rattle.lent_world.proofs.Laws.Held.{Holds, none_held, append_length, one_held}
 
 -- ---- marks
 
@@ -112,41 +105,6 @@ mark_put m l i p h = subst (λ (x : Marks). Marked x (i ∷ l)) (sym is) (record
 
     in_range : (x : Marks) (j : ℕ) → j < 512 → is_marked x j ≡ eqb (bit (get_or x.words (j / 64) 0) (j % 64)) 1
     in_range x j q = ite_lt j 512 (eqb (get_or x.words (j / 64) 0 / 2 ^ (j % 64) % 2) 1) false q
-
--- ---- the output list
-
--- the words of an output list hold a list of effects, in order, and zero behind them
-pub record Holds (l : Listed) (es : List AliasingEffect) : Type 0 where
-  pub long : length l.words ≡ 109760
-  pub count : l.count ≡ length es
-  pub effects : effects_in output l.words 0 (length es) ≡ es
-  pub behind : (k : ℕ) → length es * 98 ≤ k → get_or l.words k 0 ≡ 0
-
-pub none_held : Holds lent.none_listed []
-unfolding effects_in
-none_held = record { long = zeros_length 109760; count = refl; effects = refl; behind = λ k l. zero_word 109760 k }
-
-pub append_length : (es : List AliasingEffect) (e : AliasingEffect) → length (es ++ (e ∷ [])) ≡ suc (length es)
-append_length [] e = refl
-append_length (x ∷ es) e = ap suc (append_length es e)
-
-pub one_held : (l : Listed) (es : List AliasingEffect) (e : AliasingEffect) → length es < 1120 → Short (effect_key e) → Holds l es → Holds (put_listed l e) (es ++ (e ∷ []))
-unfolding put_listed index
-one_held l es e room s h =
-    let c = h.count in
-    let m : ℕ = length es in
-    let g = h.long in
-    let a : length (es ++ (e ∷ [])) ≡ suc m = append_length es e in
-    subst (λ (x : Listed). Holds x (es ++ (e ∷ []))) (sym (ite_lt l.count 4294967295 _ l (omega arith) ∙ ap (λ (n : ℕ). record { words = put_effect output l.words n e; count = suc n }) c)) (record {
-      long = effect_length output l.words m e ∙ g;
-      count = sym a;
-      effects = ap (effects_in output (put_effect output l.words m e) 0) a
-          ∙ effect_appended output l.words (put_effect output l.words m e) m e refl room (let z : 0 + m * 98 + 98 ≤ length l.words = omega arith in z) s (λ j v. refl) ∙ ap (λ (x : List AliasingEffect). x ++ (e ∷ [])) h.effects;
-      behind = λ k q. after m k (let z : suc m * 98 ≤ k = omega arith in z) ∙ h.behind k (let z : m * 98 ≤ k = omega arith in z);
-    })
-  where
-    after : (m k : ℕ) → suc m * 98 ≤ k → get_or (put_effect output l.words m e) k 0 ≡ get_or l.words k 0
-    after m k q = effect_after output l.words m e k (omega arith)
 
 -- ---- all of them
 

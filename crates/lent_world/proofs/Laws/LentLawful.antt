@@ -1,19 +1,12 @@
--- The lent tables are lawful, so demand 3 holds of the definition over lent lists; and what no instruction writes stays. Assumes nothing.
-use Rattle.std.specs.Prelude.{ℕ, ◌+◌, ◌*◌, ◌≤◌, ◌<◌, ◌≡◌, refl, ◌&&◌, ◌⊎◌, List, length, get_or, set}
+-- What no instruction writes of the lent tables stays. Assumes nothing.
+use Rattle.std.specs.Prelude.{ℕ, ◌+◌, ◌*◌, ◌≤◌, ◌<◌, ◌≡◌, refl, ◌⊎◌, List, length, get_or, set}
 use Rattle.std.proofs.Common.{sym, ap, ◌∙◌, inl, inr, ⊎_elim, arith, length-set, get_or-set_same, get_or-set_other}
 use Rattle.std.proofs.Math.Option.{some}
-use lib.Dec.{ltb}
 use Rattle.std.proofs.Math.ListN.{get_or-eq_default}
 use Rattle.std.proofs.Math.Seq.{set_out}
 use Rattle.def_effects.specs.Effects.{AliasingEffect}
 use Rattle.def_effects.specs.Keys.{EffectKey, effect_key}
 use Rattle.def_transfer.specs.Diagnostics.{Diagnostic}
-use Rattle.def_transfer.specs.Monad.{Res, ok, refused, Done}
-use Rattle.def_transfer.specs.Tables.{World}
-use Rattle.def_transfer.specs.Instruction.{Instruction, run, apply_signature}
-use Rattle.def_transfer.specs.Reach.{Reach, Agree, Alike}
-use Rattle.def_transfer.specs.Lawful.{Lawful}
-use Rattle.def_transfer.proofs.Laws.Isolation.{isolation, run_ends}
 use Rattle.base_tests.proofs.Laws.Order.{lt_or_ge}
 use Rattle.lent_tables.specs.Words.{index, end}
 use Rattle.lent_tables.proofs.Laws.Word.{put_length, put_outside}
@@ -23,12 +16,8 @@ use Rattle.lent_layout.specs.Layout as Layout
 use Rattle.lent_context.specs.Lent.{interned_count, effect_spot, place_of, add_effect, key_count, key_spot, one_more, cached_at, put_key, put_link, make_read, instance_count, put_diagnostic, add_diagnostic}
 use Rattle.lent_keys.specs.KeyRecords as Keys
 use Rattle.lent_keys.proofs.Laws.KeyFrames.{key_length, key_outside, option_length, option_outside}
-use Rattle.lent_world.specs.World.{lent}
-use Rattle.lent_world.proofs.Laws.State.{FitValues, fit_value, value_cong, value_other, FitSets, fit_set, set_cong, set_other, set_has}
-use Rattle.lent_world.proofs.Laws.Context.{diagnostic_keeps, effect_same, diagnostic_same, read_same, key_put, key_links, key_contexts, link_put, link_keys, link_contexts}
+use Rattle.lent_world.proofs.Laws.Context.{diagnostic_keeps}
 use Rattle.lent_context.proofs.Laws.ReadMade.{read_keeps}
-use Rattle.lent_context.proofs.Laws.Ordered.{found_under}
-use Rattle.lent_context.proofs.Laws.Numbered.{number_found}
 use Rattle.lent_order.specs.Order.{inserted}
 use Rattle.lent_order.proofs.Laws.Order.{insert_length, insert_outside}
 
@@ -179,82 +168,3 @@ unfolding put_link end
 link_kept c₀ c v f p =
     kept_apart c₀ c (put_link c v f) (option_length Layout.links c v 0 (some f))
     (λ m o. option_outside Layout.links c v 0 (some f) m (outside 17605 18629 m (omega arith) (omega arith) o)) p
-
--- ---- the lent tables are lawful
-
--- of n identifiers, and of contexts made of one that holds the table of links
--- a context that ends within it would take the first word of a link and not the second
-pub lent_lawful : (n : ℕ) (c₀ : List ℕ) → 18629 ≤ length c₀ → Lawful lent
-unfolding end
-lent_lawful n c₀ l = record {
-  FitValues = FitValues;
-  fit_value = fit_value;
-  value_cong = value_cong;
-  value_other = value_other;
-  FitSets = FitSets n;
-  fit_set = fit_set n;
-  set_cong = set_cong n;
-  set_other = set_other;
-  set_has = set_has;
-  effect_found = found_under;
-  number_found = number_found;
-  Kept = KeptFrom c₀;
-  effect_same = effect_same;
-  diagnostic_same = diagnostic_same;
-  read_same = read_same;
-  key_put = key_put;
-  key_links = key_links;
-  key_contexts = key_contexts;
-  link_put = λ c v f x g p. link_put c v f x g (let e = p.long in let z : 18629 ≤ length c = omega arith in z);
-  link_keys = link_keys;
-  link_contexts = link_contexts;
-  effect_kept = effect_kept c₀;
-  diagnostic_kept = diagnostic_kept c₀;
-  read_kept = read_kept c₀;
-  key_kept = key_kept c₀;
-  link_kept = link_kept c₀;
-}
-
--- a world of lent lists of the right lengths, of n identifiers
--- any other length is refused before the step begins
-pub record Sized (n : ℕ) (w : World lent) : Type 0 where
-  pub values : length w.state.values ≡ 1024
-  pub sets : length w.state.sets ≡ 16 * n
-  pub context : 18629 ≤ length w.rest.context
-
--- demand 3 of the definition over lent lists
--- two worlds with equal session and context whose states agree on the instruction's reach: both calls do the same, and touch nothing outside
-pub lent_isolation : (n : ℕ) (ins : Instruction) (w u : World lent) → Sized n w → Sized n u → w.rest.session ≡ u.rest.session → w.rest.context ≡ u.rest.context
-    → Agree lent (Reach lent ins w.rest.session w.rest.context w.state) w.state u.state
-    → Alike lent (Reach lent ins w.rest.session w.rest.context w.state) w.state u.state (apply_signature ins w) (apply_signature ins u)
-unfolding lent_lawful
-lent_isolation n ins w u p q e c a =
-    isolation (lent_lawful n w.rest.context p.context) ins w u e c
-    (record { values = p.values; sets = p.sets }) (record { values = q.values; sets = q.sets }) (kept_start w.rest.context) a
-
--- refused with 6 to 11, or not at all
-abbrev pub InRange : Res (World lent) Done → Type 0
-InRange (ok a w) = Unit {0}
-InRange (refused m w) = lib.Dec.T (ltb 5 m && ltb m 12)
-
--- the world that a computation ends in, refused or not
--- what a contract says of a function's exit
-abbrev pub after : Res (World lent) Done → World lent
-after (ok a w) = w
-after (refused m w) = w
-
--- what the run of an instruction ends with: refused with 6 to 11 or not at all, lists of the same lengths, and a context made of the one it began with
-pub record LentEnded (n : ℕ) (c₀ : List ℕ) (x : Res (World lent) Done) : Type 0 where
-  pub range : InRange x
-  pub values : length (after x).state.values ≡ 1024
-  pub sets : length (after x).state.sets ≡ 16 * n
-  pub kept : KeptFrom c₀ (after x).rest.context
-
--- so ends every instruction, from every world of lent lists
-pub lent_ends : (n : ℕ) (ins : Instruction) (w : World lent) → Sized n w → LentEnded n w.rest.context (run ins w)
-unfolding lent_lawful
-lent_ends n ins w p = go (run ins w) (run_ends (lent_lawful n w.rest.context p.context) ins w (record { values = p.values; sets = p.sets }) (kept_start w.rest.context))
-  where
-    go : (x : Res (World lent) Done) → Rattle.def_transfer.proofs.Laws.Isolation.Ended (lent_lawful n w.rest.context p.context) x → LentEnded n w.rest.context x
-    go (ok a u) h = record { range = tt; values = h.fit.values; sets = h.fit.sets; kept = h.kept }
-    go (refused m u) h = record { range = h.range; values = h.fit.values; sets = h.fit.sets; kept = h.kept }
