@@ -43,6 +43,7 @@ pub struct CountAnswer {
 
 // The lower class of a state's and of the arguments'.
 // Order 1 to 5 over the whole input.
+#[tactic(auto, using(crate::proofs::Laws::Call::worst_1, crate::proofs::Laws::Call::worst_3, crate::proofs::Laws::Call::worst_out, crate::proofs::Laws::Call::worst_4, crate::proofs::Laws::Call::worst_last, crate::proofs::Laws::Call::worst_none))]
 pub fn worst(r: u32, out: bool, unfit: bool) -> u32
     ensures { result ≡ worst r out unfit }
 {

@@ -60,6 +60,13 @@ module _ (r : ℕ) (out unfit : Bool) where
   pub worst_unfit : (r ≡ 1 → ⊥) → (r ≡ 3 → ⊥) → out ≡ false → (r ≡ 4 → ⊥) → (b : Bool) → unfit ≡ b → ite b 4 0 ≡ worst r out unfit
   worst_unfit h i e f b g = ap (λ (x : Bool). ite x 4 0) (sym (or_second (eqb r 4) unfit (ne_eqb r 4 f) ∙ g)) ∙ past_3 h i e
 
+  -- the same of each answer to the last test
+  pub worst_last : (r ≡ 1 → ⊥) → (r ≡ 3 → ⊥) → out ≡ false → (r ≡ 4 → ⊥) → unfit ≡ true → 4 ≡ worst r out unfit
+  worst_last h i e f g = worst_unfit h i e f true g
+
+  pub worst_none : (r ≡ 1 → ⊥) → (r ≡ 3 → ⊥) → out ≡ false → (r ≡ 4 → ⊥) → unfit ≡ false → 0 ≡ worst r out unfit
+  worst_none h i e f g = worst_unfit h i e f false g
+
   -- no class at all: neither the state's nor the arguments'
   pub worst_0 : worst r out unfit ≡ 0 → (r ≡ 1 → ⊥) × (r ≡ 3 → ⊥) × (r ≡ 4 → ⊥) × (out ≡ false) × (unfit ≡ false)
   unfolding worst
