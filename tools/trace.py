@@ -13,7 +13,7 @@ A citation is one of these, in backticks:
 
 A name that a file only imports counts as wrong there. Code, and any path that begins with crates/, tools/, docs/, oracle/, vectors/
 or examples/, is checked without backticks too; a path with NAME in it stands for any crate, one with `*` must match something, and one
-into a crate's out/ is made by rt. docs/NAMES.md and docs/PORT*.md have old names and docs/CHANGES.md those of its day, so they are left out.
+into a crate's out/ is made by rt. docs/NAMES.md, docs/PORT*.md and docs/DESIGN-PASS.md have old names and docs/CHANGES.md those of its day, so they are left out.
 """
 
 import argparse
@@ -28,7 +28,7 @@ sys.path.insert(0, os.path.join(ROOT, "tools"))
 
 import deps  # noqa: E402
 
-LEFT_OUT = re.compile(r"(NAMES|CHANGES|PORT[\w-]*)\.md$")
+LEFT_OUT = re.compile(r"(NAMES|CHANGES|DESIGN-PASS|PORT[\w-]*)\.md$")
 FOLDERS = "crates|tools|docs|oracle|vectors|examples"
 # What --believe asks for: the plain definition, what lent words mean, and promises; each with the file of definitions that it names first.
 PROMISES = [

@@ -1,8 +1,7 @@
 -- "A points-to set is a row of bits, walked from its lowest set bit": a set is one number, bit v for value v.
 -- Assumes nothing: these are definitions.
-use Rattle.std.specs.Prelude.{ℕ, zero, suc, ◌/◌, ◌%◌, ◌^◌, List, [], ◌∷◌}
+use Rattle.std.specs.Prelude.{ℕ, zero, suc, ◌/◌, ◌%◌, ◌^◌, List, [], ◌∷◌, Option, None, Some}
 use Rattle.std.specs.Int.Bits.{bit_or}
-use Rattle.std.proofs.Math.Option.{Option, none, some}
 
 -- b in front where the digit is set
 abbrev pub under : ℕ → ℕ → List ℕ → List ℕ
@@ -28,10 +27,10 @@ union m n = bit_or m n
 
 -- the values of a place, ascending; an undefined place has none (`values_for`)
 abbrev pub values_of : Option ℕ → List ℕ
-values_of none = []
-values_of (some s) = members s
+values_of None = []
+values_of (Some s) = members s
 
 -- the bits of a set, none for one that is not there
 abbrev pub bits_of : Option ℕ → ℕ
-bits_of none = 0
-bits_of (some s) = s
+bits_of None = 0
+bits_of (Some s) = s

@@ -1,6 +1,5 @@
 -- A choice by a test; tests of all numbers below one, and of the members of a list. Assumes nothing: these are definitions.
-use Rattle.std.specs.Prelude.{Bool, true, false, ◌||◌, ℕ, zero, suc, List, [], ◌∷◌}
-use Rattle.std.proofs.Math.Option.{Option, none, some}
+use Rattle.std.specs.Prelude.{Bool, true, false, ◌||◌, ℕ, zero, suc, List, [], ◌∷◌, Option, None, Some}
 
 -- a where the test holds, else b
 -- a definition branches by it where the code has an `if`
@@ -28,5 +27,5 @@ All P (x ∷ xs) = P x × All P xs
 
 -- whether there is one
 abbrev pub is_some : {A : Type 0} → Option A → Bool
-is_some none = false
-is_some (some a) = true
+is_some None = false
+is_some (Some a) = true

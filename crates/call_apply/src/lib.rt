@@ -3,12 +3,14 @@
 #![tactic(auto)]
 
 ghost use Rattle.call_means.specs.Promise.{lent_call, left_by, Meets};
+ghost use Rattle.call_outcome.specs.Calls.{told};
 
 use call_attempt::attempt;
 use call_class::call_class;
 use call_outcome::Applied;
 use def_effects::{Place, Session};
-use lent_copies::{clear_scratch, clear32};
+use def_refusals::Refusal;
+use lent_copies::clear_scratch;
 
 // The call for one instruction. Any lists with any numbers in them may be lent.
 // Its promise: what it answers and leaves is the definition's `outcome` of what it was lent, refusals 1 to 11 included (demands 1 and 2);
@@ -26,36 +28,30 @@ pub fn apply_signature(
     output: &mut [u32],
     scratch64: &mut [u64],
     scratch32: &mut [u32],
-) -> Applied
+) -> Result<Applied, Refusal>
     ensures { Meets
         (lent_call values.old sets.old flag context.old session candidates.now lvalue own output.old scratch64.old scratch32.old)
-        (left_by result values.new sets.new context.new output.new scratch64.new scratch32.new) }
+        (left_by (told session flag result) values.new sets.new context.new output.new scratch64.new scratch32.new) }
 {
-    let class = call_class(
+    let verdict = call_class(
         values, sets, flag, context, session, candidates, lvalue, own, output, scratch64, scratch32,
     );
-    clear32(output);
-    if class != 0 {
+    output.fill(0);
+    if let Err(refusal) = verdict {
         clear_scratch(scratch64, scratch32);
-        return Applied {
-            refusal: class,
-            count: 0,
-            entries: 0,
-            session,
-            flag,
-        };
+        return Err(refusal);
     }
     let ran = attempt(
         values, sets, flag, context, session, candidates, lvalue, own, output, scratch64, scratch32,
     );
     clear_scratch(scratch64, scratch32);
-    let run = ran.run;
-    let after = run.session;
-    Applied {
-        refusal: ran.refusal,
-        count: run.listed,
-        entries: run.entries,
-        session: after,
-        flag: run.flag,
+    match ran {
+        Ok(run) => Ok(Applied {
+            count: run.listed,
+            entries: run.entries,
+            session: run.session,
+            flag: run.flag,
+        }),
+        Err(refusal) => Err(refusal),
     }
 }

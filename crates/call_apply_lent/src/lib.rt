@@ -2,35 +2,20 @@
 // All work is below; here the session is read, and written back.
 #![tactic(auto)]
 
-ghost use Rattle.std.specs.Prelude.{◌≡◌};
-ghost use Rattle.call_apply_lent.specs.Answers.{answer_of, applied_with};
+ghost use Rattle.call_apply_lent.specs.Answers.{told_beside};
 ghost use Rattle.call_means.specs.Promise.{lent_call, left_by, Meets};
 
 use call_apply::apply_signature;
-use call_outcome::Applied;
 use def_effects::{Place, Session};
+use def_refusals::Refusal;
 
-// What the call answers beside the session: 0 or the number with which it is refused, how many effects the output list holds,
-// the entries of all Freezes of the instruction, the state's function-expression flag.
+// What the call answers beside the session: how many effects the output list holds, the entries of all Freezes of the instruction,
+// the state's function-expression flag.
 #[derive(Clone, Copy)]
 pub struct Answer {
-    pub refusal: u32,
     pub count: u32,
     pub entries: u32,
     pub flag: bool,
-}
-
-// An answer without its session.
-// The session goes back to where it was lent from.
-pub fn without_session(a: Applied) -> Answer
-    ensures { result ≡ answer_of a }
-{
-    Answer {
-        refusal: a.refusal,
-        count: a.count,
-        entries: a.entries,
-        flag: a.flag,
-    }
 }
 
 // The call for one instruction, its session lent by `&mut`: "changed by few thin functions above covered ones".
@@ -47,16 +32,20 @@ pub fn apply(
     output: &mut [u32],
     scratch64: &mut [u64],
     scratch32: &mut [u32],
-) -> Answer
+) -> Result<Answer, Refusal>
     ensures { Meets
         (lent_call values.old sets.old flag context.old session.old candidates.now lvalue own output.old scratch64.old
         scratch32.old)
-        (left_by (applied_with result session.new) values.new sets.new context.new output.new scratch64.new scratch32.new) }
+        (left_by (told_beside session.new flag result) values.new sets.new context.new output.new scratch64.new scratch32.new) }
 {
     let out = apply_signature(
         values, sets, flag, context, *session, candidates, lvalue, own, output, scratch64,
         scratch32,
-    );
+    )?;
     *session = out.session;
-    without_session(out)
+    Ok(Answer {
+        count: out.count,
+        entries: out.entries,
+        flag: out.flag,
+    })
 }

@@ -6,7 +6,8 @@ ghost use Rattle.def_transfer.specs.Instruction as Instruction;
 ghost use Rattle.laws_monad.specs.Answers.{answer};
 ghost use Rattle.call_parts.specs.Instructions.{instruction_of};
 ghost use Rattle.call_outcome.specs.Calls.{candidate_count, start_run};
-ghost use Rattle.call_outcome.specs.Attempts.{at_most, Ready};
+ghost use Rattle.call_outcome.specs.Attempts.{at_most, run_or, Ready};
+ghost use Rattle.def_refusals.specs.Verdicts.{class_of};
 ghost use Rattle.lent_world.specs.Promise.{after, before};
 
 use call_run::run_instruction;
@@ -17,24 +18,24 @@ use lent_layout::EFFECT_WORDS;
 use lent_work::{Marks, Ran, Run};
 
 // How many words a list has, but no more than 8,192.
+#[tactic(auto, using(call_outcome::proofs::Laws::Class::most_past, call_outcome::proofs::Laws::Class::most_within))]
 fn set_words(sets: &[u64]) -> u32
     ensures { result ≡ at_most 8192 (length sets.now) }
 {
     if sets.len() > 8192 {
-        return 8192;
+        8192
+    } else {
+        sets.len() as u32
     }
-    sets.len() as u32
 }
 
 // How many records a list of candidates has, but no more than 64.
+#[tactic(auto, using(call_outcome::proofs::Laws::Class::most_past, call_outcome::proofs::Laws::Class::most_within))]
 fn candidate_count(candidates: &[u32]) -> u32
     ensures { result ≡ at_most 64 (candidate_count candidates.now) }
 {
     let n = candidates.len() / EFFECT_WORDS;
-    if n > 64 {
-        return 64;
-    }
-    n as u32
+    if n > 64 { 64 } else { n as u32 }
 }
 
 // What an instruction has by value as it begins.
@@ -71,28 +72,20 @@ pub fn attempt(
         → Instruction.apply_signature
         (instruction_of candidates.now (candidate_count candidates.now) lvalue own)
         (before values.old sets.old context.old output.old (start_run session flag))
-        ≡ answer result.refusal tt (after values.new sets.new context.new output.new result.run) }
+        ≡ answer (class_of result) tt
+        (after values.new sets.new context.new output.new (run_or (start_run session flag) result)) }
 {
     let n = set_words(sets);
     let start = start_run(session, flag);
     save(values, sets, n, context, scratch64, scratch32);
-    let ran = run_instruction(
-        values,
-        sets,
-        context,
-        output,
-        start,
-        candidates,
-        candidate_count(candidates),
-        lvalue,
-        own,
-    );
-    if ran.refusal == 0 {
-        return ran;
-    }
-    undo(values, sets, n, context, output, scratch64, scratch32);
-    Ran {
-        refusal: ran.refusal,
-        run: start,
+    let count = candidate_count(candidates);
+    match run_instruction(
+        values, sets, context, output, start, candidates, count, lvalue, own,
+    ) {
+        Ok(run) => Ok(run),
+        Err(refusal) => {
+            undo(values, sets, n, context, output, scratch64, scratch32);
+            Err(refusal)
+        }
     }
 }

@@ -12,7 +12,6 @@ use effect_apply::apply_effect;
 use lent_effect_read::effect_in;
 use lent_effects::copy_captures;
 use lent_layout::{CANDIDATES, RUN_WORDS};
-use lent_slices::wide32;
 use lent_work::{Ran, Run};
 
 // Candidate k goes through the step; its captures are copied to a slice first.
@@ -28,11 +27,11 @@ pub fn candidate(
 ) -> Ran
     ensures { Does (Step.apply_effect 4 (effect_in candidate_table candidates.now k))
         (before values.old sets.old context.old output.old run)
-        (after values.new sets.new context.new output.new result.run) result }
+        (after values.new sets.new context.new output.new) result }
 {
-    let e = effect_in(CANDIDATES, candidates, wide32(k));
+    let e = effect_in(CANDIDATES, candidates, k as usize);
     let mut captures = [0u32; RUN_WORDS];
-    copy_captures(CANDIDATES, candidates, wide32(k), &mut captures);
+    copy_captures(CANDIDATES, candidates, k as usize, &mut captures);
     apply_effect(values, sets, context, output, run, 4, e, &captures)
 }
 
@@ -49,20 +48,11 @@ pub fn candidates_in_order(
 ) -> Ran
     ensures { Does (each (Lent.effects_in candidate_table candidates.now 0 count) (Step.apply_effect 4))
         (before values.old sets.old context.old output.old run)
-        (after values.new sets.new context.new output.new result.run) result }
+        (after values.new sets.new context.new output.new) result }
 {
     let mut now = run;
-    let mut k: u32 = 0;
-    while k < count {
-        let s = candidate(values, sets, context, output, now, candidates, k);
-        if s.refusal != 0 {
-            return s;
-        }
-        now = s.run;
-        k += 1;
+    for k in 0..count {
+        now = candidate(values, sets, context, output, now, candidates, k)?;
     }
-    Ran {
-        refusal: 0,
-        run: now,
-    }
+    Ok(now)
 }

@@ -33,35 +33,23 @@ pub fn report_early(
 ) -> Ran
     ensures { Does (Instruction.report_early p)
         (before values.now sets.now context.old output.old run)
-        (after values.now sets.now context.new output.new result.run) result }
+        (after values.now sets.now context.new output.new) result }
 {
     if !is_defined(sets, p.identifier) {
-        return Ran { refusal: 0, run };
+        return Ok(run);
     }
     let a = kind_of(values, sets, p.identifier);
-    let k = a.kind;
-    if !k.is_frozen() {
-        return Ran { refusal: 0, run };
+    if !a.kind.is_frozen() {
+        return Ok(run);
     }
     let name = name_of(context, p.identifier);
-    let g = intern_diagnostic(context, modified_diagnostic(p, name, a));
-    if g.refusal != 0 {
-        return Ran {
-            refusal: g.refusal,
-            run,
-        };
-    }
-    let error = g.diagnostic;
-    let listed = emit(
+    let error = intern_diagnostic(context, modified_diagnostic(p, name, a))?;
+    Ok(emit(
         output,
         run,
         AliasingEffect::MutateFrozen { place: p, error },
         captures,
-    );
-    Ran {
-        refusal: 0,
-        run: listed,
-    }
+    ))
 }
 
 // So a place of the own function, if it is of that function's context.
@@ -77,10 +65,10 @@ pub fn early_error(
 ) -> Ran
     ensures { Does (Instruction.early_error f p)
         (before values.now sets.now context.old output.old run)
-        (after values.now sets.now context.new output.new result.run) result }
+        (after values.now sets.now context.new output.new) result }
 {
     if !is_near(context, f, p.identifier) {
-        return Ran { refusal: 0, run };
+        return Ok(run);
     }
     report_early(values, sets, context, output, run, p, captures)
 }
@@ -98,24 +86,15 @@ pub fn early_all(
 ) -> Ran
     ensures { Does (each (inside_places places.now) (Instruction.early_error f))
         (before values.now sets.now context.old output.old run)
-        (after values.now sets.now context.new output.new result.run) result }
+        (after values.now sets.now context.new output.new) result }
 {
     let n = field(INSIDE, places, 0, 0);
     let mut now = run;
-    let mut k: u32 = 0;
-    while k < n {
+    for k in 0..n {
         let p = place_in(INSIDE, places, 0, 1, k);
-        let s = early_error(values, sets, context, output, now, f, p, places);
-        if s.refusal != 0 {
-            return s;
-        }
-        now = s.run;
-        k += 1;
+        now = early_error(values, sets, context, output, now, f, p, places)?;
     }
-    Ran {
-        refusal: 0,
-        run: now,
-    }
+    Ok(now)
 }
 
 // The early errors of the own function: 0 for none, else 1 + the function.
@@ -130,10 +109,10 @@ pub fn early_errors(
 ) -> Ran
     ensures { Does (Instruction.early_errors (own_of own))
         (before values.now sets.now context.old output.old run)
-        (after values.now sets.now context.new output.new result.run) result }
+        (after values.now sets.now context.new output.new) result }
 {
     if own == 0 {
-        return Ran { refusal: 0, run };
+        return Ok(run);
     }
     let f = own - 1;
     let mut places = [0u32; INSIDE_WORDS];

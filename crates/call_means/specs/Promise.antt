@@ -2,8 +2,7 @@
 use Rattle.std.specs.Prelude.{ℕ, ◌≡◌, Bool, List}
 use Rattle.def_effects.specs.declared.Place.{Place}
 use Rattle.def_effects.specs.declared.Session.{Session}
-use Rattle.call_outcome.specs.declared.Applied.{Applied}
-use Rattle.call_outcome.specs.Calls.{Call, Outcome, call, given, outcome}
+use Rattle.call_outcome.specs.Calls.{Answered, Call, Outcome, call, given, outcome}
 use Rattle.call_outcome.specs.Isolation.{Isolation}
 use Rattle.call_means.specs.Meaning.{MeansPlain}
 
@@ -13,7 +12,7 @@ lent_call values sets flag context session candidates lvalue own output scratch6
     call values sets flag context session candidates lvalue own output scratch64 scratch32
 
 -- what it answers, and the lists as it leaves them
-abbrev pub left_by : Applied → List ℕ → List ℕ → List ℕ → List ℕ → List ℕ → List ℕ → Outcome
+abbrev pub left_by : Answered → List ℕ → List ℕ → List ℕ → List ℕ → List ℕ → List ℕ → Outcome
 left_by r values sets context output scratch64 scratch32 =
     given r values sets context output scratch64 scratch32
 

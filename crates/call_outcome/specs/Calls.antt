@@ -1,6 +1,6 @@
 -- The call for one instruction: what it is lent and given, which class refuses it, and what comes of it (document 01, 'Refused calls').
 -- Assumes nothing: these are definitions.
-use Rattle.std.specs.Prelude.{ℕ, ◌+◌, ◌-◌, ◌*◌, ◌/◌, ◌%◌, Bool, not, ◌||◌, List, eqb, ltb, length, get_or}
+use Rattle.std.specs.Prelude.{ℕ, ◌+◌, ◌-◌, ◌*◌, ◌/◌, ◌%◌, Bool, not, ◌||◌, List, eqb, ltb, length, get_or, Result, Ok, Err}
 use Rattle.base_tests.specs.Tests.{ite}
 use Rattle.lent_copies.specs.Copies.{zeros}
 use Rattle.def_effects.specs.declared.Place.{Place}
@@ -21,6 +21,8 @@ use Rattle.call_parts.specs.Instructions.{instruction_of}
 use Rattle.lent_context.specs.Lent.{interned_count, effects_in}
 use Rattle.laws_room.specs.Room.{needs}
 use Rattle.call_outcome.specs.Attempts.{at_most}
+use Rattle.def_refusals.specs.declared.Refusal.{Refusal}
+use Rattle.def_refusals.specs.Verdicts.{number_of}
 use Rattle.call_outcome.specs.declared.Applied.{Applied}
 
 -- ---- what a call is lent and given
@@ -56,9 +58,23 @@ call vs ss flag cs session xs lvalue own os s64 s32 = record {
   scratch32 = s32;
 }
 
+-- what a call answers: 0 or the number with which it is refused, how many effects the output list holds, the entries of all Freezes of the instruction,
+-- the session, and the state's function-expression flag
+pub record Answered : Type 0 where
+  pub refusal : ℕ
+  pub count : ℕ
+  pub entries : ℕ
+  pub session : Session
+  pub flag : Bool
+
+-- the same of what the code answers: "with a number come zero effects and count", and session and flag are as they were lent
+abbrev pub told : Session → Bool → Result Applied Refusal → Answered
+told session flag (Ok a) = record { refusal = 0; count = a.count; entries = a.entries; session = a.session; flag = a.flag }
+told session flag (Err refusal) = record { refusal = number_of refusal; count = 0; entries = 0; session = session; flag = flag }
+
 -- what a call answers, and what it leaves in all that it is lent
 pub record Outcome : Type 0 where
-  pub applied : Applied
+  pub applied : Answered
   pub values : List ℕ
   pub sets : List ℕ
   pub context : List ℕ
@@ -67,7 +83,7 @@ pub record Outcome : Type 0 where
   pub scratch32 : List ℕ
 
 -- the same, in the order of the function's parameters
-abbrev pub given : Applied → List ℕ → List ℕ → List ℕ → List ℕ → List ℕ → List ℕ → Outcome
+abbrev pub given : Answered → List ℕ → List ℕ → List ℕ → List ℕ → List ℕ → List ℕ → Outcome
 given a vs ss cs os s64 s32 = record { applied = a; values = vs; sets = ss; context = cs; output = os; scratch64 = s64; scratch32 = s32 }
 
 -- ---- 1 to 5

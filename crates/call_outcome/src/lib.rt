@@ -3,11 +3,10 @@
 
 use def_effects::Session;
 
-// What the call answers: 0 or the number with which it is refused, how many effects the output list holds, the entries of all Freezes of the instruction,
+// What the call answers where it is not refused: how many effects the output list holds, the entries of all Freezes of the instruction,
 // the session, and the state's function-expression flag.
 #[derive(Clone, Copy)]
 pub struct Applied {
-    pub refusal: u32,
     pub count: u32,
     pub entries: u32,
     pub session: Session,

@@ -5,7 +5,7 @@
 ghost use Rattle.std.specs.Prelude.{◌≡◌, List, ℕ};
 ghost use Rattle.def_effects.specs.Places.{identifiers};
 ghost use Rattle.def_transfer.specs.Instruction as Instruction;
-ghost use Rattle.laws_monad.specs.Answers.{answer};
+ghost use Rattle.def_transfer.specs.Monad.{ok};
 ghost use Rattle.lent_context.specs.Lent as Lent;
 ghost use Rattle.lent_work.specs.declared.Run.{Run as ARun};
 ghost use Rattle.lent_world.specs.World.{world};
@@ -19,7 +19,7 @@ use lent_functions::{context_identifier, inside_count};
 use lent_layout::FUNCTIONS;
 use lent_set_writes::define;
 use lent_sets::is_defined;
-use lent_slices::{set32, wide32};
+use lent_slices::set;
 use lent_tables::field;
 use lent_values::put_value;
 use lent_work::Run;
@@ -30,12 +30,10 @@ pub fn is_near(context: &[u32], f: u32, i: u32) -> bool
     ensures { result ≡ Instruction.has i (identifiers (Lent.context_of context.now f)) }
 {
     let n = context_count(context, f);
-    let mut k: u32 = 0;
-    while k < n {
+    for k in 0..n {
         if i == context_identifier(context, f, k) {
             return true;
         }
-        k += 1;
     }
     false
 }
@@ -45,11 +43,9 @@ pub fn is_near(context: &[u32], f: u32, i: u32) -> bool
 pub fn copy_inside(context: &[u32], f: u32, out: &mut [u32])
     ensures { out.new ≡ copied_inside context.now f out.old }
 {
-    set32(out, 0, inside_count(context, f));
-    let mut k: usize = 0;
-    while k < 160 {
-        set32(out, 1 + k, field(FUNCTIONS, context, wide32(f), 3 + k));
-        k += 1;
+    set(out, 0, inside_count(context, f));
+    for k in 0usize..160 {
+        set(out, 1 + k, field(FUNCTIONS, context, f as usize, 3 + k));
     }
 }
 
@@ -58,7 +54,7 @@ pub fn copy_inside(context: &[u32], f: u32, out: &mut [u32])
 pub fn define_lvalue(values: &mut [u64], sets: &mut [u64], i: u32)
     ensures { (cs os : List ℕ) (run : ARun)
         → Instruction.define_lvalue i (world values.old sets.old cs os run)
-        ≡ answer 0 tt (world values.new sets.new cs os run) }
+        ≡ ok tt (world values.new sets.new cs os run) }
 {
     if is_defined(sets, i) {
         return;
@@ -67,7 +63,7 @@ pub fn define_lvalue(values: &mut [u64], sets: &mut [u64], i: u32)
         kind: ValueKind::Mutable,
         reason: 2048,
     };
-    put_value(values, 512 + wide32(i), value);
+    put_value(values, 512 + (i as usize), value);
     if i < 512 {
         define(sets, i, 512 + i);
         return;
@@ -80,13 +76,9 @@ pub fn define_lvalue(values: &mut [u64], sets: &mut [u64], i: u32)
 pub fn keep_entries(run: Run) -> Run
     ensures { result ≡ kept_entries run }
 {
-    let session = run.session;
-    let span = session.span;
     let after = Session {
-        next: session.next,
-        access: session.access,
-        span,
         entries: run.entries,
+        ..run.session
     };
     with_session(run, after)
 }

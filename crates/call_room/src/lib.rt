@@ -14,29 +14,17 @@ ghost use Rattle.call_outcome.specs.Calls.{room_for, context_wrong};
 use lent_effects::code_in;
 use lent_layout::{CANDIDATES, CONTEXT_WORDS, EFFECT_WORDS, EFFECTS_FROM};
 use lent_links::interned_count;
-use lent_slices::wide32;
 use lent_tables::field;
 
 // How many effects one of a code can derive, and they in turn; captures apart.
 fn derived(code: u32) -> u64
     ensures { result ≡ derives code }
 {
-    if code == 0 {
-        return 0;
+    match code {
+        1..=4 | 7 | 8 | 10 => 1,
+        5 | 6 => 2,
+        _ => 0,
     }
-    if code < 5 {
-        return 1;
-    }
-    if code < 7 {
-        return 2;
-    }
-    if code < 9 {
-        return 1;
-    }
-    if code == 10 {
-        return 1;
-    }
-    0
 }
 
 // How many captures candidate i has, by its code.
@@ -45,9 +33,10 @@ fn captures_of(xs: &[u32], i: usize, code: u32) -> u32
     ensures { result ≡ ite (eqb code 13) (Words.field Layout.candidate_table xs.now i 17) 0 }
 {
     if code == 13 {
-        return field(CANDIDATES, xs, i, 17);
+        field(CANDIDATES, xs, i, 17)
+    } else {
+        0
     }
-    0
 }
 
 // How many effects the step of candidate i can intern.
@@ -65,17 +54,7 @@ fn need_of(xs: &[u32], i: usize) -> u64
 fn capped(total: u32, more: u64) -> u32
     ensures { result ≡ at_most 2048 (total + more) }
 {
-    if total >= 2048 {
-        return 2048;
-    }
-    if more >= 2048 {
-        return 2048;
-    }
-    let sum = total as u64 + more;
-    if sum > 2048 {
-        return 2048;
-    }
-    sum as u32
+    (total as u64).saturating_add(more).min(2048) as u32
 }
 
 // For how many interned effects the context has to have room.
@@ -84,24 +63,19 @@ pub fn room_for(context: &[u32], candidates: &[u32]) -> u32
 {
     let n = candidates.len() / EFFECT_WORDS;
     let mut total = capped(interned_count(context), 0);
-    let mut k: usize = 0;
-    while k < n {
+    for k in 0..n {
         total = capped(total, need_of(candidates, k));
-        k += 1;
     }
     total
 }
 
 // Whether a context has the wrong length, by the room that it has to have.
+#[tactic(auto, unfolding(call_outcome::specs::Calls::context_wrong))]
 pub fn context_wrong(context: &[u32], room: u32) -> bool
     ensures { result ≡ context_wrong room (length context.now) }
 {
-    let least = EFFECTS_FROM + wide32(room) * EFFECT_WORDS;
-    if context.len() < least {
-        return true;
-    }
-    if context.len() > CONTEXT_WORDS {
-        return true;
-    }
-    (context.len() - EFFECTS_FROM) % EFFECT_WORDS != 0
+    let least = EFFECTS_FROM + (room as usize) * EFFECT_WORDS;
+    context.len() < least
+        || context.len() > CONTEXT_WORDS
+        || (context.len() - EFFECTS_FROM) % EFFECT_WORDS != 0
 }

@@ -29,19 +29,10 @@ pub fn run_instruction(
 ) -> Ran
     ensures { Does (Instruction.run (instruction_of candidates.now count lvalue own))
         (before values.old sets.old context.old output.old run)
-        (after values.new sets.new context.new output.new result.run) result }
+        (after values.new sets.new context.new output.new) result }
 {
-    let early = early_errors(values, sets, context, output, run, own);
-    if early.refusal != 0 {
-        return early;
-    }
-    let ran = candidates_in_order(values, sets, context, output, early.run, candidates, count);
-    if ran.refusal != 0 {
-        return ran;
-    }
+    let early = early_errors(values, sets, context, output, run, own)?;
+    let ran = candidates_in_order(values, sets, context, output, early, candidates, count)?;
     define_lvalue(values, sets, lvalue.identifier);
-    Ran {
-        refusal: 0,
-        run: keep_entries(ran.run),
-    }
+    Ok(keep_entries(ran))
 }

@@ -5,7 +5,7 @@ ghost use Rattle.std.specs.Prelude.{◌≡◌, ◌≤◌, length};
 ghost use Rattle.call_undo.specs.Saves.{saved_state, saved_context};
 ghost use Rattle.lent_layout.specs.Layout as Layout;
 
-use lent_copies::{copy32, copy64};
+use lent_copies::copy;
 use lent_layout::{EFFECTS_FROM, INTERNED_COUNT, SAVED, SAVED_FROM, SAVED_WORDS};
 
 // Values and n words of sets are copied to scratch, one after the other.
@@ -13,8 +13,8 @@ use lent_layout::{EFFECTS_FROM, INTERNED_COUNT, SAVED, SAVED_FROM, SAVED_WORDS};
 pub fn save_state(values: &[u64], sets: &[u64], n: u32, scratch: &mut [u64])
     ensures { scratch.new ≡ saved_state values.now sets.now n scratch.old }
 {
-    copy64(values, 0, scratch, 0, 1024);
-    copy64(sets, 0, scratch, 1024, n);
+    copy(values, 0, scratch, 0, 1024, 0);
+    copy(sets, 0, scratch, 1024, n, 0);
 }
 
 // The words that are saved of a context, where both lists have them all: no test at each word.
@@ -23,10 +23,8 @@ fn copy_saved(context: &[u32], scratch: &mut [u32])
     requires { ((Layout.interned).base ≤ length context.now) × (Layout.saved_words ≤ length scratch.old) }
     ensures { scratch.new ≡ saved_context context.now scratch.old }
 {
-    let mut k: usize = 0;
-    while k < SAVED_WORDS {
+    for k in 0..SAVED_WORDS {
         scratch[k] = context[INTERNED_COUNT + k];
-        k += 1;
     }
 }
 
@@ -36,11 +34,11 @@ pub fn save_context(context: &[u32], scratch: &mut [u32])
     ensures { scratch.new ≡ saved_context context.now scratch.old }
 {
     if context.len() < EFFECTS_FROM {
-        copy32(context, SAVED_FROM, scratch, 0, SAVED);
+        copy(context, SAVED_FROM, scratch, 0, SAVED, 0);
         return;
     }
     if scratch.len() < SAVED_WORDS {
-        copy32(context, SAVED_FROM, scratch, 0, SAVED);
+        copy(context, SAVED_FROM, scratch, 0, SAVED, 0);
         return;
     }
     copy_saved(context, scratch);

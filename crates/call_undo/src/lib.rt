@@ -7,10 +7,10 @@ ghost use Rattle.lent_copies.specs.Copies.{copied};
 ghost use Rattle.call_undo.specs.Saves.{forgotten, restored_context};
 ghost use Rattle.lent_copies.specs.Cleared.{Cleared};
 
-use lent_copies::{clear32, copy32, copy64};
+use lent_copies::copy;
 use lent_layout::{EFFECT_WORDS, EFFECTS_FROM, SAVED, SAVED_FROM};
 use lent_links::interned_count;
-use lent_slices::{get32, set32, wide32};
+use lent_slices::{get_or, set};
 
 // Values and n words of sets are copied back.
 // "After a refusal state .. are as before."
@@ -18,8 +18,8 @@ pub fn restore_state(values: &mut [u64], sets: &mut [u64], n: u32, scratch: &[u6
     ensures { (values.new ≡ copied scratch.now 0 0 1024 values.old)
         × (sets.new ≡ copied scratch.now 1024 0 n sets.old) }
 {
-    copy64(scratch, 0, values, 0, 1024);
-    copy64(scratch, 1024, sets, 0, n);
+    copy(scratch, 0, values, 0, 1024, 0);
+    copy(scratch, 1024, sets, 0, n, 0);
 }
 
 // Interned effects from record `from` to before record `to` become zero.
@@ -30,12 +30,10 @@ pub fn forget_effects(context: &mut [u32], from: u32, to: u32)
     if to <= from {
         return;
     }
-    let at = EFFECTS_FROM + wide32(from) * EFFECT_WORDS;
-    let n = wide32(to - from) * EFFECT_WORDS;
-    let mut k: usize = 0;
-    while k < n {
-        set32(context, at + k, 0);
-        k += 1;
+    let at = EFFECTS_FROM + (from as usize) * EFFECT_WORDS;
+    let n = (to - from) as usize * EFFECT_WORDS;
+    for k in 0..n {
+        set(context, at + k, 0);
     }
 }
 
@@ -44,16 +42,17 @@ pub fn forget_effects(context: &mut [u32], from: u32, to: u32)
 pub fn restore_context(context: &mut [u32], scratch: &[u32])
     ensures { context.new ≡ restored_context scratch.now context.old }
 {
-    let before = get32(scratch, 0);
+    let before = get_or(scratch, 0, 0);
     let after = interned_count(context);
     forget_effects(context, before, after);
-    copy32(scratch, 0, context, SAVED_FROM, SAVED);
+    copy(scratch, 0, context, SAVED_FROM, SAVED, 0);
 }
 
 // ---- both
 
 // State and context are put back, and the output list becomes zero.
 // After an instruction was refused.
+#[tactic(auto, unfolding(lent_copies::specs::Copies::zeros))]
 pub fn undo(
     values: &mut [u64],
     sets: &mut [u64],
@@ -70,5 +69,5 @@ pub fn undo(
 {
     restore_state(values, sets, n, scratch64);
     restore_context(context, scratch32);
-    clear32(output);
+    output.fill(0);
 }

@@ -1,6 +1,5 @@
 -- The key of an effect: `effect_key` of the Rust. Assumes nothing: these are definitions.
-use Rattle.std.specs.Prelude.{ℕ, Bool, true, false, ◌&&◌, List, [], ◌∷◌, ◌++◌, eqb}
-use Rattle.std.proofs.Math.Option.{Option, none, some}
+use Rattle.std.specs.Prelude.{ℕ, Bool, true, false, ◌&&◌, List, [], ◌∷◌, ◌++◌, eqb, Option, None, Some}
 use Rattle.def_kinds.specs.Kinds as Kinds
 use Rattle.def_effects.specs.declared.Place.{Place}
 use Rattle.def_effects.specs.Places.{identifiers}
@@ -26,10 +25,10 @@ abbrev pub AssignCopy : ℕ
 AssignCopy = 19
 
 abbrev pub one : ℕ → Place → ℕ → ℕ → EffectKey
-one c p r d = record { code = c; from = some p.identifier; into = none; kind = 0; reason = r; function = none; identity = d; captures = [] }
+one c p r d = record { code = c; from = Some p.identifier; into = None; kind = 0; reason = r; function = None; identity = d; captures = [] }
 
 abbrev pub two : ℕ → Place → Place → EffectKey
-two c f i = record { code = c; from = some f.identifier; into = some i.identifier; kind = 0; reason = 0; function = none; identity = 0; captures = [] }
+two c f i = record { code = c; from = Some f.identifier; into = Some i.identifier; kind = 0; reason = 0; function = None; identity = 0; captures = [] }
 
 -- Not in the key: Mutate's reason, and the diagnostic of Impure.
 abbrev pub effect_key : AliasingEffect → EffectKey
@@ -42,18 +41,18 @@ effect_key (Capture f i) = two 5 f i
 effect_key (Alias f i) = two 6 f i
 effect_key (MaybeAlias f i) = two 7 f i
 effect_key (Assign f i) = two 8 f i
-effect_key (Create i k r) = record { code = 9; from = none; into = some i.identifier; kind = Kinds.code_of k; reason = r; function = none; identity = 0; captures = [] }
+effect_key (Create i k r) = record { code = 9; from = None; into = Some i.identifier; kind = Kinds.code_of k; reason = r; function = None; identity = 0; captures = [] }
 effect_key (CreateFrom f i) = two 10 f i
 effect_key (ImmutableCapture f i) = two 11 f i
-effect_key (CreateFunction cs f i) = record { code = 13; from = none; into = some i.identifier; kind = 0; reason = 0; function = some f; identity = 0; captures = identifiers cs }
+effect_key (CreateFunction cs f i) = record { code = 13; from = None; into = Some i.identifier; kind = 0; reason = 0; function = Some f; identity = 0; captures = identifiers cs }
 effect_key (MutateFrozen p d) = one 14 p 0 d.identity
 effect_key (MutateGlobal p d) = one 15 p 0 d.identity
 effect_key (Impure p d) = one 16 p 0 0
 effect_key (Render p) = one 17 p 0 0
 
 abbrev pub listed : Option ℕ → List ℕ
-listed none = []
-listed (some n) = n ∷ []
+listed None = []
+listed (Some n) = n ∷ []
 
 -- the identifiers that an effect names, and the function that it creates: both are part of its key
 abbrev pub named_by : EffectKey → List ℕ
@@ -68,10 +67,10 @@ creates e = listed (effect_key e).function
 -- ---- equal keys
 
 unfoldable pub eq_option : Option ℕ → Option ℕ → Bool
-eq_option none none = true
-eq_option none (some b) = false
-eq_option (some a) none = false
-eq_option (some a) (some b) = eqb a b
+eq_option None None = true
+eq_option None (Some b) = false
+eq_option (Some a) None = false
+eq_option (Some a) (Some b) = eqb a b
 
 unfoldable pub eq_list : List ℕ → List ℕ → Bool
 eq_list [] [] = true

@@ -1,7 +1,6 @@
 -- What it is for tables to be faithful: each read after each write, as the plain tables `pure` have it. Assumes nothing: these are definitions.
 -- n is the number of identifiers in the list. Ranges stand only where a table of words needs them: at writes, and at the identifier of an access.
-use Rattle.std.specs.Prelude.{ℕ, suc, ◌≤◌, ◌<◌, ◌≡◌, List, [], ◌∷◌, ◌++◌}
-use Rattle.std.proofs.Math.Option.{none, some}
+use Rattle.std.specs.Prelude.{ℕ, suc, ◌≤◌, ◌<◌, ◌≡◌, List, [], ◌∷◌, ◌++◌, None, Some}
 use Rattle.def_kinds.specs.declared.AbstractValue.{AbstractValue}
 use Rattle.def_effects.specs.Effects.{AliasingEffect}
 use Rattle.def_effects.specs.Keys.{EffectKey, effect_key}
@@ -20,12 +19,12 @@ pub record Faithful (n : ℕ) (T : Tables) : Type 1 where
   pub FitValues : T.Values → Type 0
   pub value_fit : (t : T.Values) (v : ℕ) (a : AbstractValue) → FitValues t → Number v → Reasoned a → FitValues (T.put_value t v a)
   pub value_word : (t : T.Values) (v : ℕ) → FitValues t → Entered (T.value_of t v)
-  pub value_put : (t : T.Values) (v : ℕ) (a : AbstractValue) → FitValues t → Number v → Reasoned a → (x : ℕ) → T.value_of (T.put_value t v a) x ≡ at (T.value_of t) v (some a) x
+  pub value_put : (t : T.Values) (v : ℕ) (a : AbstractValue) → FitValues t → Number v → Reasoned a → (x : ℕ) → T.value_of (T.put_value t v a) x ≡ at (T.value_of t) v (Some a) x
   -- sets: tables of the right size, whose rows are sets of value numbers
   pub FitSets : T.Sets → Type 0
   pub set_fit : (t : T.Sets) (i s : ℕ) → FitSets t → i < n → IsSet s → FitSets (T.put_set t i s)
   pub set_is : (t : T.Sets) (i : ℕ) → FitSets t → Pointing (T.set_of t i)
-  pub set_put : (t : T.Sets) (i s : ℕ) → FitSets t → i < n → IsSet s → (j : ℕ) → T.set_of (T.put_set t i s) j ≡ at (T.set_of t) i (some s) j
+  pub set_put : (t : T.Sets) (i s : ℕ) → FitSets t → i < n → IsSet s → (j : ℕ) → T.set_of (T.put_set t i s) j ≡ at (T.set_of t) i (Some s) j
   -- the context: what its tables mean, as plain tables
   pub FitContext : T.Context → Type 0
   pub meaning : T.Context → Pure.Context
@@ -48,16 +47,16 @@ pub record Faithful (n : ℕ) (T : Tables) : Type 1 where
   pub identity_is : (c : T.Context) (d : Diagnostic) → FitContext c → T.find_identity c d ≡ pure.find_identity (meaning c) d
   pub instance_is : (c : T.Context) (m : ℕ) (d : Diagnostic) → FitContext c → T.find_instance c m d ≡ pure.find_instance (meaning c) m d
   -- every write means the plain one, and leaves the tables fit
-  pub effect_fit : (c : T.Context) (e : AliasingEffect) → FitContext c → T.interned_count c < 2048 → Short (effect_key e) → T.find_effect c (effect_key e) ≡ none → FitContext (T.add_effect c e)
-  pub effect_add : (c : T.Context) (e : AliasingEffect) → FitContext c → T.interned_count c < 2048 → Short (effect_key e) → T.find_effect c (effect_key e) ≡ none → meaning (T.add_effect c e) ≡ pure.add_effect (meaning c) e
-  pub key_fit : (c : T.Context) (v : ℕ) (k : EffectKey) → FitContext c → Fresh v → Short k → T.key_at c v ≡ none → T.find_number c k ≡ none → FitContext (T.put_key c v k)
-  pub key_put : (c : T.Context) (v : ℕ) (k : EffectKey) → FitContext c → Fresh v → Short k → T.key_at c v ≡ none → T.find_number c k ≡ none → meaning (T.put_key c v k) ≡ pure.put_key (meaning c) v k
+  pub effect_fit : (c : T.Context) (e : AliasingEffect) → FitContext c → T.interned_count c < 2048 → Short (effect_key e) → T.find_effect c (effect_key e) ≡ None → FitContext (T.add_effect c e)
+  pub effect_add : (c : T.Context) (e : AliasingEffect) → FitContext c → T.interned_count c < 2048 → Short (effect_key e) → T.find_effect c (effect_key e) ≡ None → meaning (T.add_effect c e) ≡ pure.add_effect (meaning c) e
+  pub key_fit : (c : T.Context) (v : ℕ) (k : EffectKey) → FitContext c → Fresh v → Short k → T.key_at c v ≡ None → T.find_number c k ≡ None → FitContext (T.put_key c v k)
+  pub key_put : (c : T.Context) (v : ℕ) (k : EffectKey) → FitContext c → Fresh v → Short k → T.key_at c v ≡ None → T.find_number c k ≡ None → meaning (T.put_key c v k) ≡ pure.put_key (meaning c) v k
   pub link_fit : (c : T.Context) (v f : ℕ) → FitContext c → Fresh v → FitContext (T.put_link c v f)
   pub link_put : (c : T.Context) (v f : ℕ) → FitContext c → Fresh v → meaning (T.put_link c v f) ≡ pure.put_link (meaning c) v f
   pub read_fit : (c : T.Context) (f i : ℕ) → FitContext c → FitContext (T.make_read c f i)
   pub read_made : (c : T.Context) (f i : ℕ) → FitContext c → meaning (T.make_read c f i) ≡ pure.make_read (meaning c) f i
-  pub diagnostic_fit : (c : T.Context) (m : ℕ) (d : Diagnostic) → FitContext c → T.instance_count c < 256 → T.find_instance c m d ≡ none → FitContext (T.add_diagnostic c m d)
-  pub diagnostic_add : (c : T.Context) (m : ℕ) (d : Diagnostic) → FitContext c → T.instance_count c < 256 → T.find_instance c m d ≡ none → meaning (T.add_diagnostic c m d) ≡ pure.add_diagnostic (meaning c) m d
+  pub diagnostic_fit : (c : T.Context) (m : ℕ) (d : Diagnostic) → FitContext c → T.instance_count c < 256 → T.find_instance c m d ≡ None → FitContext (T.add_diagnostic c m d)
+  pub diagnostic_add : (c : T.Context) (m : ℕ) (d : Diagnostic) → FitContext c → T.instance_count c < 256 → T.find_instance c m d ≡ None → meaning (T.add_diagnostic c m d) ≡ pure.add_diagnostic (meaning c) m d
   -- places initialized in the instruction: a mark for each identifier, or their list
   pub Marked : T.Initialized → List ℕ → Type 0
   pub none_marked : Marked T.none_initialized []

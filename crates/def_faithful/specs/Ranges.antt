@@ -1,6 +1,5 @@
 -- The ranges of document 01 that a table of words needs: value numbers, fresh numbers, sets, reasons, captures. These are definitions.
-use Rattle.std.specs.Prelude.{ℕ, ◌%◌, ◌^◌, ◌≤◌, ◌<◌, ◌≡◌, length}
-use Rattle.std.proofs.Math.Option.{Option, none, some}
+use Rattle.std.specs.Prelude.{ℕ, ◌%◌, ◌^◌, ◌≤◌, ◌<◌, ◌≡◌, length, Option, None, Some}
 use lib.Dec.{leb}
 use Rattle.def_kinds.specs.declared.AbstractValue.{AbstractValue}
 use Rattle.def_effects.specs.Keys.{EffectKey}
@@ -25,8 +24,8 @@ pub record IsSet (s : ℕ) : Type 0 where
 
 -- what is read of a table of sets
 abbrev pub Pointing : Option ℕ → Type 0
-Pointing none = Unit {0}
-Pointing (some s) = IsSet s
+Pointing None = Unit {0}
+Pointing (Some s) = IsSet s
 
 -- reasons are a word of 32 bits
 -- `single` makes no others, and joins keep it
@@ -35,8 +34,8 @@ pub record Reasoned (a : AbstractValue) : Type 0 where
 
 -- what is read of a table of values
 abbrev pub Entered : Option AbstractValue → Type 0
-Entered none = Unit {0}
-Entered (some a) = Reasoned a
+Entered None = Unit {0}
+Entered (Some a) = Reasoned a
 
 -- "at most 16 captures"
 -- of a key, so that the effect that interning hands out has it too

@@ -1,6 +1,5 @@
 -- What an accepted image says: the state, the context and the session to start with, and the instruction. Assumes nothing: these are definitions.
-use Rattle.std.specs.Prelude.{ℕ, zero, suc, Bool, true, false, not, List, [], ◌∷◌, eqb, get_or}
-use Rattle.std.proofs.Math.Option.{Option, none, some}
+use Rattle.std.specs.Prelude.{ℕ, zero, suc, Bool, true, false, not, List, [], ◌∷◌, eqb, get_or, Option, None, Some}
 use Rattle.base_sets.specs.Members.{singleton, union, bits_of}
 use Rattle.def_kinds.specs.declared.AbstractValue.{AbstractValue}
 use Rattle.def_kinds.specs.Kinds.{kind_at}
@@ -39,7 +38,7 @@ no_identifier = record { ref = false; hoisted = false; access = no_span; name = 
 
 -- the sets with a value added to that of identifier i
 unfoldable pub with_pair : (ℕ → Option ℕ) → ℕ → ℕ → ℕ → Option ℕ
-with_pair sets i v = at sets i (some (union (bits_of (sets i)) (member_of v)))
+with_pair sets i v = at sets i (Some (union (bits_of (sets i)) (member_of v)))
 
 module _ (im : Image) where
   unfoldable pub place_at : ℕ → Place
@@ -53,12 +52,12 @@ module _ (im : Image) where
 
   -- the entries of the first n values
   unfoldable pub value_table : ℕ → ℕ → Option AbstractValue
-  value_table zero = λ v. none
-  value_table (suc n) = at (value_table n) (value_number im n) (some (mk (kind_at (value_kind im n)) (value_reasons im n)))
+  value_table zero = λ v. None
+  value_table (suc n) = at (value_table n) (value_number im n) (Some (mk (kind_at (value_kind im n)) (value_reasons im n)))
 
   -- the sets of the first n pairs
   unfoldable pub set_table : ℕ → ℕ → Option ℕ
-  set_table zero = λ i. none
+  set_table zero = λ i. None
   set_table (suc n) = with_pair (set_table n) (pair_identifier im n) (pair_value im n)
 
   -- ---- the context
@@ -81,8 +80,8 @@ module _ (im : Image) where
       session = record { next = next im; access = 0; span = no_span; entries = 0 };
       context = record {
         interned = [];
-        cached = λ n. none;
-        links = λ v. none;
+        cached = λ n. None;
+        links = λ v. None;
         functions = entry_of no_function (list_from (count_of im functions) 0 function_at);
         identifiers = entry_of no_identifier (list_from (count_of im identifiers) 0 identifier_at);
         transitive = transitive;

@@ -1,6 +1,5 @@
 -- Abstract values: a kind and a set of reasons, their join and its order (document 01, modules 1 and 2). Assumes nothing: these are definitions.
-use Rattle.std.specs.Prelude.{ℕ, Bool, ◌&&◌, eqb}
-use Rattle.std.proofs.Math.Option.{Option, none, some}
+use Rattle.std.specs.Prelude.{ℕ, Bool, ◌&&◌, eqb, Option, None, Some}
 use Rattle.def_kinds.specs.declared.ValueKind.{ValueKind}
 use Rattle.def_kinds.specs.declared.ValueKind.TheVariants.{Mutable}
 use Rattle.def_kinds.specs.declared.AbstractValue.{AbstractValue}
@@ -15,8 +14,8 @@ abbrev pub default : AbstractValue
 default = mk Mutable (single Other)
 
 abbrev pub or_default : Option AbstractValue → AbstractValue
-or_default none = default
-or_default (some a) = a
+or_default None = default
+or_default (Some a) = a
 
 -- "kinds by the table below, reasons by union"
 unfoldable pub join : AbstractValue → AbstractValue → AbstractValue

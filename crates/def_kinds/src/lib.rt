@@ -8,7 +8,7 @@ ghost use Rattle.def_kinds.specs.Reasons.{is_reason, are_reasons, has_reason, si
 ghost use Rattle.def_kinds.specs.Values.{join, contains, above};
 
 // Whether a value may be written: the Rust's ValueKind, in its order.
-#[derive(Clone, Copy)]
+#[derive(Clone, Copy, Debug, PartialEq, Eq)]
 pub enum ValueKind {
     Mutable,
     Frozen,
@@ -24,18 +24,15 @@ const REASONS: u32 = 12;
 // The first word that is no set of reasons: 2 to the power REASONS.
 const REASON_SETS: u64 = 4096;
 
-// The joins of a kind with each of the six, in order: a row of document 01's table for each kind.
-const MUTABLE_WITH: [u8; 6] = [0, 3, 0, 3, 0, 5];
-
-const FROZEN_WITH: [u8; 6] = [3, 1, 1, 3, 1, 3];
-
-const PRIMITIVE_WITH: [u8; 6] = [0, 1, 2, 3, 4, 5];
-
-const MAYBE_FROZEN_WITH: [u8; 6] = [3, 3, 3, 3, 3, 3];
-
-const GLOBAL_WITH: [u8; 6] = [0, 1, 4, 3, 4, 5];
-
-const CONTEXT_WITH: [u8; 6] = [5, 3, 5, 3, 5, 5];
+// The joins of a kind with each of the six: document 01's table, a row for each kind and a column for each.
+const JOINS: [[u8; 6]; 6] = [
+    [0, 3, 0, 3, 0, 5],
+    [3, 1, 1, 3, 1, 3],
+    [0, 1, 2, 3, 4, 5],
+    [3, 3, 3, 3, 3, 3],
+    [0, 1, 4, 3, 4, 5],
+    [5, 3, 5, 3, 5, 5],
+];
 
 impl ValueKind {
     // Document 01's number of a kind.
@@ -43,14 +40,7 @@ impl ValueKind {
     pub fn code(self) -> usize
         ensures { result ≡ code_of self }
     {
-        match self {
-            ValueKind::Mutable => 0,
-            ValueKind::Frozen => 1,
-            ValueKind::Primitive => 2,
-            ValueKind::MaybeFrozen => 3,
-            ValueKind::Global => 4,
-            ValueKind::Context => 5,
-        }
+        self as usize
     }
 
     // The kind of a number, read back from a table.
@@ -72,15 +62,7 @@ impl ValueKind {
     pub fn join(self, other: ValueKind) -> ValueKind
         ensures { result ≡ join_kind self other }
     {
-        let i = other.code();
-        match self {
-            ValueKind::Mutable => ValueKind::of_code(MUTABLE_WITH[i]),
-            ValueKind::Frozen => ValueKind::of_code(FROZEN_WITH[i]),
-            ValueKind::Primitive => ValueKind::of_code(PRIMITIVE_WITH[i]),
-            ValueKind::MaybeFrozen => ValueKind::of_code(MAYBE_FROZEN_WITH[i]),
-            ValueKind::Global => ValueKind::of_code(GLOBAL_WITH[i]),
-            ValueKind::Context => ValueKind::of_code(CONTEXT_WITH[i]),
-        }
+        ValueKind::of_code(JOINS[self.code()][other.code()])
     }
 
     // Whether a place of that kind can be frozen.
@@ -88,14 +70,10 @@ impl ValueKind {
     pub fn is_freezable(self) -> bool
         ensures { result ≡ freezable self }
     {
-        match self {
-            ValueKind::Mutable => true,
-            ValueKind::Frozen => false,
-            ValueKind::Primitive => false,
-            ValueKind::MaybeFrozen => true,
-            ValueKind::Global => false,
-            ValueKind::Context => true,
-        }
+        matches!(
+            self,
+            ValueKind::Mutable | ValueKind::MaybeFrozen | ValueKind::Context
+        )
     }
 
     // Whether a place of that kind may be written.
@@ -103,28 +81,14 @@ impl ValueKind {
     pub fn is_writable(self) -> bool
         ensures { result ≡ writable self }
     {
-        match self {
-            ValueKind::Mutable => true,
-            ValueKind::Frozen => false,
-            ValueKind::Primitive => false,
-            ValueKind::MaybeFrozen => false,
-            ValueKind::Global => false,
-            ValueKind::Context => true,
-        }
+        matches!(self, ValueKind::Mutable | ValueKind::Context)
     }
 
     // Whether a copy of such a value shares nothing with it.
     pub fn is_copied(self) -> bool
         ensures { result ≡ copied self }
     {
-        match self {
-            ValueKind::Mutable => false,
-            ValueKind::Frozen => false,
-            ValueKind::Primitive => true,
-            ValueKind::MaybeFrozen => false,
-            ValueKind::Global => true,
-            ValueKind::Context => false,
-        }
+        matches!(self, ValueKind::Primitive | ValueKind::Global)
     }
 
     // Whether it is Frozen, and surely so.
@@ -132,14 +96,7 @@ impl ValueKind {
     pub fn is_frozen(self) -> bool
         ensures { result ≡ is_frozen self }
     {
-        match self {
-            ValueKind::Mutable => false,
-            ValueKind::Frozen => true,
-            ValueKind::Primitive => false,
-            ValueKind::MaybeFrozen => false,
-            ValueKind::Global => false,
-            ValueKind::Context => false,
-        }
+        matches!(self, ValueKind::Frozen)
     }
 }
 
@@ -172,11 +129,11 @@ pub fn are_reasons(s: u32) -> bool
 pub fn has_reason(s: u32, n: u32) -> bool
     ensures { result ≡ has_reason s n }
 {
-    if n < 32 { (s >> n) % 2 == 1 } else { false }
+    n < 32 && (s >> n) % 2 == 1
 }
 
 // What is known of a value: its kind, and the set of reasons for it.
-#[derive(Clone, Copy)]
+#[derive(Clone, Copy, Debug, PartialEq, Eq)]
 pub struct AbstractValue {
     pub kind: ValueKind,
     pub reason: u32,
@@ -187,10 +144,8 @@ impl AbstractValue {
     pub fn join(self, other: AbstractValue) -> AbstractValue
         ensures { result ≡ join self other }
     {
-        let a = self.kind;
-        let b = other.kind;
         AbstractValue {
-            kind: a.join(b),
+            kind: self.kind.join(other.kind),
             reason: self.reason | other.reason,
         }
     }
@@ -207,13 +162,6 @@ impl AbstractValue {
     pub fn above(self, other: AbstractValue) -> bool
         ensures { result ≡ above self other }
     {
-        let a = self.kind;
-        let b = other.kind;
-        let k = a.join(b);
-        if k.code() == a.code() {
-            self.contains(other)
-        } else {
-            false
-        }
+        self.kind.join(other.kind).code() == self.kind.code() && self.contains(other)
     }
 }

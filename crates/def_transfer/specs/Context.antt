@@ -1,7 +1,6 @@
 -- The context's tables: interned effects, cached numbers, links, diagnostics; and what the instruction did so far.
 -- Assumes nothing: these are definitions.
-use Rattle.std.specs.Prelude.{ℕ, suc, Bool, List, [], leb}
-use Rattle.std.proofs.Math.Option.{Option, none, some}
+use Rattle.std.specs.Prelude.{ℕ, suc, Bool, List, [], leb, Option, None, Some}
 use Rattle.def_effects.specs.declared.Place.{Place}
 use Rattle.def_effects.specs.declared.AliasingDiagnostic.{AliasingDiagnostic}
 use Rattle.def_effects.specs.declared.Session.{Session}
@@ -69,8 +68,8 @@ module _ {T : Tables} where
 
   -- "a 2,049th key to intern": 8
   unfoldable pub intern_new : AliasingEffect → Option AliasingEffect → M (World T) AliasingEffect
-  intern_new e (some x) = return (refreshed e x)
-  intern_new e none = do
+  intern_new e (Some x) = return (refreshed e x)
+  intern_new e None = do
     n ← ask (λ r. T.interned_count r.context)
     when leb 2048 n then refuse 8 else (put_effect e >> return e)
 
@@ -95,8 +94,8 @@ module _ {T : Tables} where
   cache k n = change (on_context λ c. T.put_key c n k)
 
   unfoldable pub or_fresh : EffectKey → Option ℕ → M (World T) ℕ
-  or_fresh k (some n) = return n
-  or_fresh k none = do
+  or_fresh k (Some n) = return n
+  or_fresh k None = do
     n ← fresh_number
     cache k n
     return n
@@ -117,7 +116,7 @@ module _ {T : Tables} where
 
   -- the context places of a value's function, none where it has none
   unfoldable pub linked_context : ℕ → Rest T → List Place
-  linked_context v r = elim (T.link_of r.context v) [ none ↦ [] | some f ↦ function_context f r ]
+  linked_context v r = elim (T.link_of r.context v) [ None ↦ [] | Some f ↦ function_context f r ]
 
   -- "turns a Capture context place of its function into Read": each place of that identifier, in the function's own copy
   unfoldable pub make_read : ℕ → ℕ → M (World T) Done
@@ -130,14 +129,14 @@ module _ {T : Tables} where
 
   -- "a 257th diagnostic or instance": 10
   unfoldable pub new_identity : Option ℕ → M (World T) ℕ
-  new_identity (some n) = return n
-  new_identity none = do
+  new_identity (Some n) = return n
+  new_identity None = do
     n ← ask (λ r. T.identity_count r.context)
     when leb 256 n then refuse 10 else return n
 
   unfoldable pub new_instance : ℕ → Diagnostic → Option ℕ → M (World T) ℕ
-  new_instance identity d (some n) = return n
-  new_instance identity d none = do
+  new_instance identity d (Some n) = return n
+  new_instance identity d None = do
     n ← ask (λ r. T.instance_count r.context)
     when leb 256 n then refuse 10 else (put_diagnostic identity d >> return n)
 

@@ -1,7 +1,6 @@
 -- The transfer of an instruction (`apply_signature`): the early errors of its own function, its candidates in order, the lvalue.
 -- Assumes nothing: these are definitions.
-use Rattle.std.specs.Prelude.{ℕ, zero, suc, Bool, false, ◌&&◌, ◌||◌, List, [], ◌∷◌, eqb}
-use Rattle.std.proofs.Math.Option.{Option, none, some}
+use Rattle.std.specs.Prelude.{ℕ, zero, suc, Bool, false, ◌&&◌, ◌||◌, List, [], ◌∷◌, eqb, Option, None, Some}
 use Rattle.def_kinds.specs.Kinds.{is_frozen}
 use Rattle.def_effects.specs.declared.Place.{Place}
 use Rattle.def_effects.specs.Places.{identifiers}
@@ -43,8 +42,8 @@ module _ {T : Tables} where
     when near then report_early p else done
 
   unfoldable pub early_errors : Option ℕ → M (World T) Done
-  early_errors none = done
-  early_errors (some f) = do
+  early_errors None = done
+  early_errors (Some f) = do
     places ← ask (λ r. T.mutated_inside r.context f)
     each places (early_error f)
 
@@ -77,5 +76,5 @@ module _ {T : Tables} where
 
 -- "own function + 1 or 0"
 abbrev pub own_of : ℕ → Option ℕ
-own_of zero = none
-own_of (suc f) = some f
+own_of zero = None
+own_of (suc f) = Some f

@@ -1,7 +1,6 @@
 -- Tables as functions and lists, where things compute quickly: the cases, the comparison with the Rust and the orders are about these.
 -- Assumes nothing: these are definitions.
-use Rattle.std.specs.Prelude.{ℕ, zero, suc, max, Bool, true, false, ◌&&◌, List, [], ◌∷◌, ◌++◌, eqb, length}
-use Rattle.std.proofs.Math.Option.{Option, none, some}
+use Rattle.std.specs.Prelude.{ℕ, zero, suc, max, Bool, true, false, ◌&&◌, List, [], ◌∷◌, ◌++◌, eqb, length, Option, None, Some}
 use Rattle.def_kinds.specs.declared.AbstractValue.{AbstractValue}
 use Rattle.def_effects.specs.declared.Span.{Span}
 use Rattle.def_effects.specs.declared.Place.{Place}
@@ -19,19 +18,19 @@ at f i x j = elim (eqb i j) [ true ↦ x | false ↦ f j ]
 -- ---- interned effects: in the order in which they came
 
 unfoldable pub find_effect : List AliasingEffect → EffectKey → Option AliasingEffect
-find_effect [] k = none
-find_effect (e ∷ es) k = elim (eq_key k (effect_key e)) [ true ↦ some e | false ↦ find_effect es k ]
+find_effect [] k = None
+find_effect (e ∷ es) k = elim (eq_key k (effect_key e)) [ true ↦ Some e | false ↦ find_effect es k ]
 
 -- ---- cached numbers: each fresh number with its key or none; the lowest that has a key
 
 unfoldable pub is_key : EffectKey → Option EffectKey → Bool
-is_key k none = false
-is_key k (some j) = eq_key k j
+is_key k None = false
+is_key k (Some j) = eq_key k j
 
 -- the lowest of n numbers from v on that is cached under a key
 unfoldable pub first_cached : ℕ → ℕ → (ℕ → Option EffectKey) → EffectKey → Option ℕ
-first_cached zero v c k = none
-first_cached (suc n) v c k = elim (is_key k (c v)) [ true ↦ some v | false ↦ first_cached n (suc v) c k ]
+first_cached zero v c k = None
+first_cached (suc n) v c k = elim (is_key k (c v)) [ true ↦ Some v | false ↦ first_cached n (suc v) c k ]
 
 -- ---- functions
 
@@ -69,13 +68,13 @@ identities [] = 0
 identities (d ∷ ds) = max (suc d.identity) (identities ds)
 
 unfoldable pub find_identity : List Interned → Diagnostic → Option ℕ
-find_identity [] d = none
-find_identity (x ∷ xs) d = elim (same_identity d x.diagnostic) [ true ↦ some x.identity | false ↦ find_identity xs d ]
+find_identity [] d = None
+find_identity (x ∷ xs) d = elim (same_identity d x.diagnostic) [ true ↦ Some x.identity | false ↦ find_identity xs d ]
 
 -- the place of a record with that identity and those labels, counted from i
 unfoldable pub find_instance : ℕ → List Interned → ℕ → Diagnostic → Option ℕ
-find_instance i [] n d = none
-find_instance i (x ∷ xs) n d = elim (eqb n x.identity && same_labels d x.diagnostic) [ true ↦ some i | false ↦ find_instance (suc i) xs n d ]
+find_instance i [] n d = None
+find_instance i (x ∷ xs) n d = elim (eqb n x.identity && same_labels d x.diagnostic) [ true ↦ Some i | false ↦ find_instance (suc i) xs n d ]
 
 -- ---- the context
 
@@ -107,19 +106,19 @@ abbrev pub pure : Tables
 pure = record {
   Values = ℕ → Option AbstractValue;
   value_of = λ t v. t v;
-  put_value = λ t v a. at t v (some a);
+  put_value = λ t v a. at t v (Some a);
   Sets = ℕ → Option ℕ;
   set_of = λ t i. t i;
-  put_set = λ t i s. at t i (some s);
+  put_set = λ t i s. at t i (Some s);
   Context = Context;
   interned_count = λ c. length c.interned;
   find_effect = λ c. find_effect c.interned;
   add_effect = λ c e. with_interned (c.interned ++ (e ∷ [])) c;
   key_at = λ c n. c.cached n;
   find_number = λ c. first_cached 511 1 c.cached;
-  put_key = λ c n k. with_cached (at c.cached n (some k)) c;
+  put_key = λ c n k. with_cached (at c.cached n (Some k)) c;
   link_of = λ c v. c.links v;
-  put_link = λ c v f. with_links (at c.links v (some f)) c;
+  put_link = λ c v f. with_links (at c.links v (Some f)) c;
   context_of = λ c f. (c.functions f).context;
   mutated_inside = λ c f. (c.functions f).inside;
   has_tracked_side_effect = λ c f. (c.functions f).tracked;

@@ -1,8 +1,7 @@
 -- The reach of an instruction, what it is for two states to agree on it, and how two runs end (document 01, 'Reach of an instruction').
 -- Assumes nothing: these are definitions.
-use Rattle.std.specs.Prelude.{ℕ, ◌≤◌, ◌<◌, ◌≡◌}
+use Rattle.std.specs.Prelude.{ℕ, ◌≤◌, ◌<◌, ◌≡◌, Option, Some}
 use mathlib.Core.List.{Memᴰ}
-use Rattle.std.proofs.Math.Option.{Option, some}
 use Rattle.base_sets.specs.Members.{members}
 use Rattle.def_kinds.specs.declared.AbstractValue.{AbstractValue}
 use Rattle.def_effects.specs.declared.Session.{Session}
@@ -30,7 +29,7 @@ pub data Named (ins : Instruction) : ℕ → Type 0 where
 -- "functions that candidates or the instruction create"
 pub data Created (ins : Instruction) : ℕ → Type 0 where
   by_candidate : {e : AliasingEffect} {f : ℕ} → Memᴰ e ins.candidates → Memᴰ f (creates e) → Created ins f
-  by_itself : {f : ℕ} → ins.own ≡ some f → Created ins f
+  by_itself : {f : ℕ} → ins.own ≡ Some f → Created ins f
 
 module _ (T : Tables) where
   abbrev pub entry : State T → Node → Entry
@@ -44,12 +43,12 @@ module _ (T : Tables) where
     lvalue : Reach ins session context s (id ins.lvalue.identifier)
     in_created : {f j : ℕ} → Created ins f → Memᴰ j (identifiers (T.context_of context f)) → Reach ins session context s (id j)
     -- "of each identifier i in it, however it came in, its values and 512 + i"
-    its_values : {i v l : ℕ} → Reach ins session context s (id i) → T.set_of s.sets i ≡ some l → Memᴰ v (members l) → Reach ins session context s (val v)
+    its_values : {i v l : ℕ} → Reach ins session context s (id i) → T.set_of s.sets i ≡ Some l → Memᴰ v (members l) → Reach ins session context s (val v)
     its_own : {i : ℕ} → Reach ins session context s (id i) → Reach ins session context s (val (from_identifier i))
     -- "of each value in it with a function, that function's context identifiers"
-    its_context : {v f j : ℕ} → Reach ins session context s (val v) → T.link_of context v ≡ some f → Memᴰ j (identifiers (T.context_of context f)) → Reach ins session context s (id j)
+    its_context : {v f j : ℕ} → Reach ins session context s (val v) → T.link_of context v ≡ Some f → Memᴰ j (identifiers (T.context_of context f)) → Reach ins session context s (id j)
     -- "numbers cached under a key whose destination a candidate names"
-    cached : {i n : ℕ} {k : EffectKey} → T.key_at context n ≡ some k → k.into ≡ some i → Named ins i → Reach ins session context s (val n)
+    cached : {i n : ℕ} {k : EffectKey} → T.key_at context n ≡ Some k → k.into ≡ Some i → Named ins i → Reach ins session context s (val n)
     -- "all fresh numbers from the session's next number up, handed out before or not"
     fresh : {n : ℕ} → session.next ≤ n → n < 512 → Reach ins session context s (val n)
 

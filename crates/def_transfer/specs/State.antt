@@ -1,6 +1,5 @@
 -- The operations of `InferenceState` on one state, and the first undefined access of the session. Assumes nothing: these are definitions.
-use Rattle.std.specs.Prelude.{ℕ, ◌+◌, Bool, true, false, ◌&&◌, List, [], ◌∷◌, eqb}
-use Rattle.std.proofs.Math.Option.{Option, none, some}
+use Rattle.std.specs.Prelude.{ℕ, ◌+◌, Bool, true, false, ◌&&◌, List, [], ◌∷◌, eqb, Option, None, Some}
 use Rattle.base_orders.specs.Options.{join_option}
 use Rattle.base_sets.specs.Members.{singleton, union, values_of, bits_of}
 use Rattle.def_kinds.specs.declared.ValueKind.TheVariants.{Frozen}
@@ -35,7 +34,7 @@ join_values value (v ∷ vs) a = join_values value vs (join_option join a (value
 
 -- "A place's kind joins the values of its set that have an entry; with none, Mutable {Other}. An undefined place gives the same"
 unfoldable pub kind_of : (ℕ → Option AbstractValue) → Option ℕ → AbstractValue
-kind_of value o = or_default (join_values value (values_of o) none)
+kind_of value o = or_default (join_values value (values_of o) None)
 
 module _ {T : Tables} where
   -- ---- what touches the state: five computations, and no other
@@ -111,12 +110,12 @@ module _ {T : Tables} where
 
   -- a value where none stands yet: the entry is kept
   unfoldable pub or_insert : ℕ → Option AbstractValue → M (World T) Done
-  or_insert v none = initialize v default
-  or_insert v (some a) = done
+  or_insert v None = initialize v default
+  or_insert v (Some a) = done
 
   unfoldable pub assign_set : ℕ → ℕ → Option ℕ → M (World T) Done
-  assign_set into from (some s) = point into s
-  assign_set into from none = do
+  assign_set into from (Some s) = point into s
+  assign_set into from None = do
     o ← value_of (from_identifier from)
     or_insert (from_identifier from) o
     define into (from_identifier from)
@@ -127,9 +126,9 @@ module _ {T : Tables} where
     assign_set into from o
 
   unfoldable pub append_sets : ℕ → Option ℕ → Option ℕ → M (World T) Done
-  append_sets place none new = done
-  append_sets place (some s) none = done
-  append_sets place (some s) (some t) = point place (union s t)
+  append_sets place None new = done
+  append_sets place (Some s) None = done
+  append_sets place (Some s) (Some t) = point place (union s t)
 
   unfoldable pub append_alias : ℕ → ℕ → M (World T) Done
   append_alias place value = do
@@ -146,7 +145,7 @@ module _ {T : Tables} where
   to_freeze i = do
     o ← set_of i
     a ← peek i
-    when is_some o && freezable a.kind then return o else return none
+    when is_some o && freezable a.kind then return o else return None
 
   unfoldable pub freeze : ℕ → ℕ → M (World T) Bool
   freeze i reason = do

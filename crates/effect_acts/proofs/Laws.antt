@@ -1,2 +1,1 @@
 pub mod Act
-pub mod Sequel

@@ -1,15 +1,14 @@
 -- What the step goes by, and what comes after the part of a step that is done. Assumes nothing: these are definitions.
-use Rattle.std.specs.Prelude.{ℕ, true, false, List}
+use Rattle.std.specs.Prelude.{true, false, List}
 use Rattle.def_effects.specs.declared.Place.{Place}
 use Rattle.def_effects.specs.declared.MutateVariant.TheVariants as Variant
 use Rattle.def_effects.specs.Effects.{AliasingEffect}
-use Rattle.def_transfer.specs.Monad.{Res, M, Done, and_then, done}
+use Rattle.def_transfer.specs.Monad.{M, Done, done}
 use Rattle.def_transfer.specs.Tables.{World}
 use Rattle.def_transfer.specs.Context.{emit}
 use Rattle.lent_effects.specs.declared.AliasingEffect.{AliasingEffect as Head}
 use Rattle.lent_effects.specs.declared.AliasingEffect.TheVariants as Head
 use Rattle.lent_effects.specs.Records.{effect_with}
-use Rattle.laws_monad.specs.Answers.{answer}
 use Rattle.lent_world.specs.World.{lent}
 use Rattle.effect_acts.specs.declared.Act.{Act}
 use Rattle.effect_acts.specs.declared.Act.TheVariants.{Plain, Mutating, Flowing, Assigning, CreatingFrom, CreatingFunction}
@@ -43,7 +42,3 @@ unfoldable pub follow : (AliasingEffect → M (World lent) Done) → AliasingEff
 follow again e cs Nothing = done
 follow again e cs Itself = emit e
 follow again e cs (Derived x) = again (effect_with x cs)
-
--- an answer of the code, and what follows where it goes on
-abbrev pub sequel : ℕ → World lent → M (World lent) Done → Res (World lent) Done
-sequel r w m = and_then {A = Done} {B = Done} (answer {A = Done} r tt w) (λ _. m)

@@ -46,11 +46,9 @@ pub enum Next {
     Derived(AliasingEffect),
 }
 
-// Where a part of a step has come to: 0 or a refusal, what the instruction has by value, and what comes next.
-// After a refusal nothing comes next.
+// What a part of a step has come to: what the instruction has by value, and what comes next.
 #[derive(Clone, Copy)]
 pub struct Acted {
-    pub refusal: u32,
     pub run: Run,
     pub next: Next,
 }
@@ -61,10 +59,6 @@ pub fn act_of(e: AliasingEffect) -> Act
     ensures { result ≡ act_of e }
 {
     match e {
-        AliasingEffect::Freeze {
-            place: _,
-            reason: _,
-        } => Act::Plain,
         AliasingEffect::Mutate { place, reason: _ } => Act::Mutating {
             variant: MutateVariant::Mutate,
             place,
@@ -100,20 +94,11 @@ pub fn act_of(e: AliasingEffect) -> Act
             into,
         },
         AliasingEffect::Assign { from, into } => Act::Assigning { from, into },
-        AliasingEffect::Create {
-            into: _,
-            kind: _,
-            reason: _,
-        } => Act::Plain,
         AliasingEffect::CreateFrom { from, into } => Act::CreatingFrom { from, into },
-        AliasingEffect::ImmutableCapture { from: _, into: _ } => Act::Plain,
         AliasingEffect::CreateFunction { function, into } => Act::CreatingFunction {
             function,
             into,
         },
-        AliasingEffect::MutateFrozen { place: _, error: _ } => Act::Plain,
-        AliasingEffect::MutateGlobal { place: _, error: _ } => Act::Plain,
-        AliasingEffect::Impure { place: _, error: _ } => Act::Plain,
-        AliasingEffect::Render { place: _ } => Act::Plain,
+        _ => Act::Plain,
     }
 }

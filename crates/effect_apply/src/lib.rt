@@ -12,6 +12,7 @@ ghost use Rattle.effect_flow.specs.Flows.{flows};
 ghost use Rattle.lent_world.specs.Promise.{after, before, Does};
 
 use def_effects::{MutateVariant, Place};
+use def_refusals::Refusal;
 use effect_acts::{Act, Next, act_of};
 use effect_assign::{assign_rest, begin_assign, number_and_create};
 use effect_captures::choose_captures;
@@ -23,7 +24,6 @@ use effect_mutate::mutation;
 use effect_parts::emit;
 use effect_plain::plain;
 use lent_effects::AliasingEffect;
-use lent_keys::Found;
 use lent_layout::{ONE_RUN, RUN_WORDS};
 use lent_tables::{field, place_in};
 use lent_work::{Ran, Run};
@@ -45,17 +45,11 @@ pub fn follow(
     ensures { Does (Acts.follow (Step.apply_effect depth) (effect_with e (captures_of captures.now))
         (captures_of captures.now) next)
         (before values.old sets.old context.old output.old run)
-        (after values.new sets.new context.new output.new result.run) result }
+        (after values.new sets.new context.new output.new) result }
 {
     match next {
-        Next::Nothing => Ran { refusal: 0, run },
-        Next::Itself => {
-            let listed = emit(output, run, e, captures);
-            Ran {
-                refusal: 0,
-                run: listed,
-            }
-        }
+        Next::Nothing => Ok(run),
+        Next::Itself => Ok(emit(output, run, e, captures)),
         Next::Derived(x) => apply_effect(values, sets, context, output, run, depth, x, captures),
     }
 }
@@ -80,19 +74,11 @@ pub fn capturing(
     ensures { Does (flows (Step.apply_effect depth) alias maybe (effect_with e (captures_of captures.now)) from
         into)
         (before values.old sets.old context.old output.old run)
-        (after values.new sets.new context.new output.new result.run) result }
+        (after values.new sets.new context.new output.new) result }
 {
-    let g = flow(values, sets, run, alias, maybe, from, into);
-    let after = g.run;
-    if g.refusal != 0 {
-        return Ran {
-            refusal: g.refusal,
-            run: after,
-        };
-    }
-    let next = g.next;
+    let g = flow(values, sets, run, alias, maybe, from, into)?;
     follow(
-        values, sets, context, output, after, depth, e, captures, next,
+        values, sets, context, output, g.run, depth, e, captures, g.next,
     )
 }
 
@@ -114,19 +100,11 @@ pub fn mutating(
     ensures { Does (Step.mutating (Step.apply_effect depth) variant (effect_with e (captures_of captures.now))
         place)
         (before values.old sets.old context.old output.old run)
-        (after values.new sets.new context.new output.new result.run) result }
+        (after values.new sets.new context.new output.new) result }
 {
-    let g = mutation(values, sets, context, run, variant, place);
-    let after = g.run;
-    if g.refusal != 0 {
-        return Ran {
-            refusal: g.refusal,
-            run: after,
-        };
-    }
-    let next = g.next;
+    let g = mutation(values, sets, context, run, variant, place)?;
     follow(
-        values, sets, context, output, after, depth, e, captures, next,
+        values, sets, context, output, g.run, depth, e, captures, g.next,
     )
 }
 
@@ -146,27 +124,19 @@ pub fn creating_from(
 ) -> Ran
     ensures { Does (Step.creating_from (Step.apply_effect depth) from into)
         (before values.old sets.old context.old output.old run)
-        (after values.new sets.new context.new output.new result.run) result }
+        (after values.new sets.new context.new output.new) result }
 {
-    let g = create_from(values, sets, context, output, run, from, into, captures);
-    let after = g.run;
-    if g.refusal != 0 {
-        return Ran {
-            refusal: g.refusal,
-            run: after,
-        };
-    }
-    let next = g.next;
+    let g = create_from(values, sets, context, output, run, from, into, captures)?;
     follow(
         values,
         sets,
         context,
         output,
-        after,
+        g.run,
         depth,
         AliasingEffect::CreateFrom { from, into },
         captures,
-        next,
+        g.next,
     )
 }
 
@@ -186,40 +156,25 @@ pub fn assigning(
 ) -> Ran
     ensures { Does (Step.assigning (Step.apply_effect depth) from into)
         (before values.old sets.old context.old output.old run)
-        (after values.new sets.new context.new output.new result.run) result }
+        (after values.new sets.new context.new output.new) result }
 {
-    let b = begin_assign(values, sets, run, from, into);
-    let begun = b.run;
-    if b.refusal != 0 {
-        return Ran {
-            refusal: b.refusal,
-            run: begun,
-        };
-    }
+    let b = begin_assign(values, sets, run, from, into)?;
     let a = b.value;
-    let k = a.kind;
-    if k.is_frozen() {
-        let s = apply_effect(
+    if a.kind.is_frozen() {
+        let after = apply_effect(
             values,
             sets,
             context,
             output,
-            begun,
+            b.run,
             depth,
             AliasingEffect::ImmutableCapture { from, into },
             captures,
-        );
-        let after = s.run;
-        if s.refusal != 0 {
-            return Ran {
-                refusal: s.refusal,
-                run: after,
-            };
-        }
+        )?;
         return number_and_create(values, sets, context, after, 18, from, into, a, captures);
     }
     assign_rest(
-        values, sets, context, output, begun, from, into, a, captures,
+        values, sets, context, output, b.run, from, into, a, captures,
     )
 }
 
@@ -238,14 +193,13 @@ pub fn capture_all(
 ) -> Ran
     ensures { Does (each (captures_of captures.now) (λ c. Step.apply_effect depth (Capture c into)))
         (before values.old sets.old context.old output.old run)
-        (after values.new sets.new context.new output.new result.run) result }
+        (after values.new sets.new context.new output.new) result }
 {
     let n = field(ONE_RUN, captures, 0, 0);
     let mut now = run;
-    let mut k: u32 = 0;
-    while k < n {
+    for k in 0..n {
         let from = place_in(ONE_RUN, captures, 0, 1, k);
-        let s = apply_effect(
+        now = apply_effect(
             values,
             sets,
             context,
@@ -254,17 +208,9 @@ pub fn capture_all(
             depth,
             AliasingEffect::Capture { from, into },
             captures,
-        );
-        if s.refusal != 0 {
-            return s;
-        }
-        now = s.run;
-        k += 1;
+        )?;
     }
-    Ran {
-        refusal: 0,
-        run: now,
-    }
+    Ok(now)
 }
 
 // CreateFunction: its captures are derived. They are those of the interned effect, and are copied first, since the table changes.
@@ -283,16 +229,9 @@ pub fn creating_function(
 ) -> Ran
     ensures { Does (Step.creating_function (Step.apply_effect depth) (captures_of taken.now) function into)
         (before values.old sets.old context.old output.old run)
-        (after values.new sets.new context.new output.new result.run) result }
+        (after values.new sets.new context.new output.new) result }
 {
-    let m = make_function(values, sets, context, output, run, function, into, taken);
-    let made = m.run;
-    if m.refusal != 0 {
-        return Ran {
-            refusal: m.refusal,
-            run: made,
-        };
-    }
+    let made = make_function(values, sets, context, output, run, function, into, taken)?;
     capture_all(values, sets, context, output, made, depth, into, taken)
 }
 
@@ -308,13 +247,13 @@ pub fn creating_chosen(
     depth: u32,
     function: u32,
     into: Place,
-    found: Found,
+    found: Option<u32>,
     captures: &[u32],
 ) -> Ran
     ensures { Does (Step.creating_function (Step.apply_effect depth)
         (chosen context.old found (captures_of captures.now)) function into)
         (before values.old sets.old context.old output.old run)
-        (after values.new sets.new context.new output.new result.run) result }
+        (after values.new sets.new context.new output.new) result }
 {
     let mut taken = [0u32; RUN_WORDS];
     choose_captures(context, found, captures, &mut taken);
@@ -338,22 +277,14 @@ pub fn apply_effect(
 ) -> Ran
     ensures { Does (Step.apply_effect depth (effect_with e (captures_of captures.now)))
         (before values.old sets.old context.old output.old run)
-        (after values.new sets.new context.new output.new result.run) result }
+        (after values.new sets.new context.new output.new) result }
 {
     if depth == 0 {
-        return Ran { refusal: 99, run };
+        return Err(Refusal::Depth);
     }
-    let g = intern_effect(context, e, captures);
-    let x = g.effect;
-    let found = g.found;
-    if g.refusal != 0 {
-        return Ran {
-            refusal: g.refusal,
-            run,
-        };
-    }
-    let a = act_of(x);
-    match a {
+    let interned = intern_effect(context, e, captures)?;
+    let x = interned.effect;
+    match act_of(x) {
         Act::Plain => plain(values, sets, context, output, run, x, captures),
         Act::Mutating { variant, place } => mutating(
             values,
@@ -417,7 +348,7 @@ pub fn apply_effect(
             depth - 1,
             function,
             into,
-            found,
+            interned.found,
             captures,
         ),
     }

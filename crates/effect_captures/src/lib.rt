@@ -9,22 +9,15 @@ ghost use Rattle.lent_layout.specs.Layout.{one_run};
 
 use def_kinds::ValueKind;
 use lent_effects::copy_captures;
-use lent_keys::Found;
 use lent_layout::{INTERNED, ONE_RUN, RUN_WORDS};
-use lent_slices::{set32, wide32};
+use lent_slices::set;
 use lent_tables::field;
 
 // The kind of a new function: Mutable if it captures what can be written, has a tracked side effect or a ref in its context, else Frozen.
 pub fn function_kind(written: bool, tracked: bool, refs: bool) -> ValueKind
     ensures { result ≡ function_kind written tracked refs }
 {
-    if written {
-        return ValueKind::Mutable;
-    }
-    if tracked {
-        return ValueKind::Mutable;
-    }
-    if refs {
+    if written || tracked || refs {
         return ValueKind::Mutable;
     }
     ValueKind::Frozen
@@ -35,25 +28,19 @@ pub fn function_kind(written: bool, tracked: bool, refs: bool) -> ValueKind
 fn copy_run(captures: &[u32], out: &mut [u32])
     ensures { length out.old ≡ one_run.width → captures_of out.new ≡ captures_of captures.now }
 {
-    let mut k: usize = 0;
-    while k < RUN_WORDS {
-        set32(out, k, field(ONE_RUN, captures, 0, k));
-        k += 1;
+    for k in 0..RUN_WORDS {
+        set(out, k, field(ONE_RUN, captures, 0, k));
     }
 }
 
 // The captures of the effect that stands for another are copied to a slice of 81 words: those of its record where it was found, else those given.
 // The table changes while they are gone through.
-pub fn choose_captures(context: &[u32], found: Found, captures: &[u32], out: &mut [u32])
+pub fn choose_captures(context: &[u32], found: Option<u32>, captures: &[u32], out: &mut [u32])
     ensures { length out.old ≡ one_run.width
         → captures_of out.new ≡ chosen context.now found (captures_of captures.now) }
 {
     match found {
-        Found::At(j) => {
-            copy_captures(INTERNED, context, wide32(j), out);
-            return;
-        }
-        Found::Nowhere => {}
+        Some(j) => copy_captures(INTERNED, context, j as usize, out),
+        None => copy_run(captures, out),
     }
-    copy_run(captures, out);
 }

@@ -8,13 +8,14 @@ ghost use Rattle.def_effects.specs.Effects.{AliasingEffect as Effect, CreateFrom
 ghost use Rattle.def_transfer.specs.Monad.{M, Done};
 ghost use Rattle.def_transfer.specs.Tables.{World};
 ghost use Rattle.def_transfer.specs.Step as Step;
-ghost use Rattle.lent_world.specs.World.{lent, world};
-ghost use Rattle.effect_acts.specs.Acts.{follow, sequel};
+ghost use Rattle.lent_world.specs.World.{lent};
+ghost use Rattle.effect_acts.specs.Acts.{follow};
 ghost use Rattle.effect_create.specs.Creations.{numbered};
-ghost use Rattle.lent_world.specs.Promise.{after, before, Does};
+ghost use Rattle.lent_world.specs.Promise.{after, before, Comes, Does};
 
 use def_effects::Place;
 use def_kinds::{AbstractValue, ValueKind, has_reason, single};
+use def_refusals::Refusal;
 use effect_acts::{Acted, Next};
 use effect_number::get_or_create_value_id;
 use effect_parts::{begin, create, emit, kind};
@@ -27,12 +28,10 @@ use lent_work::{Ran, Run};
 pub fn primary_reason(s: u32) -> u32
     ensures { result ≡ Reasons.primary_reason s }
 {
-    let mut n: u32 = 0;
-    while n < 11 {
+    for n in 0u32..11 {
         if has_reason(s, n) {
             return n;
         }
-        n += 1;
     }
     11
 }
@@ -53,45 +52,21 @@ pub fn creating(
     ensures { (again : Effect → M (World lent) Done)
         → Does (Step.creating again into k reason)
         (before values.old sets.old context.old output.old run)
-        (after values.new sets.new context.new output.new result.run) result }
+        (after values.new sets.new context.new output.new) result }
 {
-    let b = begin(run, into.identifier);
-    let begun = b.run;
-    if b.refusal != 0 {
-        return Ran {
-            refusal: b.refusal,
-            run: begun,
-        };
-    }
+    let begun = begin(run, into.identifier)?;
     let e = AliasingEffect::Create {
         into,
         kind: k,
         reason,
     };
-    let g = get_or_create_value_id(context, begun, key_of(e), captures);
-    let numbered = g.run;
-    if g.refusal != 0 {
-        return Ran {
-            refusal: g.refusal,
-            run: numbered,
-        };
-    }
-    let bits = single(reason);
-    create(
-        values,
-        sets,
-        into,
-        g.number,
-        AbstractValue {
-            kind: k,
-            reason: bits,
-        },
-    );
-    let listed = emit(output, numbered, e, captures);
-    Ran {
-        refusal: 0,
-        run: listed,
-    }
+    let numbered = get_or_create_value_id(context, begun, key_of(e), captures)?;
+    let value = AbstractValue {
+        kind: k,
+        reason: single(reason),
+    };
+    create(values, sets, into, numbered.number, value);
+    Ok(emit(output, numbered.run, e, captures))
 }
 
 // What a CreateFrom lists, by the source's kind: a Create of what is copied or frozen, else the effect itself; what is frozen derives an ImmutableCapture.
@@ -105,48 +80,28 @@ pub fn list_created(
     captures: &[u32],
 ) -> Acted
     ensures { (again : Effect → M (World lent) Done) (ps : List APlace) (vs ss cs : List ℕ)
-        → Step.list_created again from into a (world vs ss cs output.old run)
-        ≡ sequel result.refusal (world vs ss cs output.new result.run)
-        (follow again (CreateFrom from into) ps result.next) }
+        → Step.list_created again from into a (before vs ss cs output.old run)
+        ≡ follow again (CreateFrom from into) ps result.next (after vs ss cs output.new result.run) }
 {
-    let k = a.kind;
     let reason = primary_reason(a.reason);
-    if k.is_copied() {
-        let listed = emit(
-            output,
-            run,
-            AliasingEffect::Create {
-                into,
-                kind: k,
-                reason,
-            },
-            captures,
-        );
+    let created = AliasingEffect::Create {
+        into,
+        kind: a.kind,
+        reason,
+    };
+    if a.kind.is_copied() {
         return Acted {
-            refusal: 0,
-            run: listed,
+            run: emit(output, run, created, captures),
             next: Next::Nothing,
         };
     }
-    if k.is_frozen() {
-        let listed = emit(
-            output,
-            run,
-            AliasingEffect::Create {
-                into,
-                kind: k,
-                reason,
-            },
-            captures,
-        );
+    if a.kind.is_frozen() {
         return Acted {
-            refusal: 0,
-            run: listed,
+            run: emit(output, run, created, captures),
             next: Next::Derived(AliasingEffect::ImmutableCapture { from, into }),
         };
     }
     Acted {
-        refusal: 0,
         run,
         next: Next::Itself,
     }
@@ -163,33 +118,17 @@ pub fn create_from(
     from: Place,
     into: Place,
     captures: &[u32],
-) -> Acted
+) -> Result<Acted, Refusal>
     ensures { (again : Effect → M (World lent) Done) (ps : List APlace)
-        → Step.creating_from again from into (before values.old sets.old context.old output.old run)
-        ≡ sequel result.refusal (after values.new sets.new context.new output.new result.run)
-        (follow again (CreateFrom from into) ps result.next) }
+        → Comes (Step.creating_from again from into (before values.old sets.old context.old output.old run))
+        (after values.new sets.new context.new output.new)
+        (λ a. follow again (CreateFrom from into) ps a.next
+        (after values.new sets.new context.new output.new a.run)) result }
 {
-    let b = begin(run, into.identifier);
-    let begun = b.run;
-    if b.refusal != 0 {
-        return Acted {
-            refusal: b.refusal,
-            run: begun,
-            next: Next::Nothing,
-        };
-    }
+    let begun = begin(run, into.identifier)?;
     let seen = kind(values, sets, begun, from.identifier);
-    let looked = seen.run;
-    let a = seen.value;
-    let g = get_or_create_value_id(context, looked, two_key(10, from, into), captures);
-    let numbered = g.run;
-    if g.refusal != 0 {
-        return Acted {
-            refusal: g.refusal,
-            run: numbered,
-            next: Next::Nothing,
-        };
-    }
-    create(values, sets, into, g.number, a);
-    list_created(output, numbered, from, into, a, captures)
+    let key = two_key(10, from, into);
+    let numbered = get_or_create_value_id(context, seen.run, key, captures)?;
+    create(values, sets, into, numbered.number, seen.value);
+    Ok(list_created(output, numbered.run, from, into, seen.value, captures))
 }

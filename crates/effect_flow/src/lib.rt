@@ -8,12 +8,14 @@ ghost use Rattle.def_transfer.specs.Monad.{M, Done};
 ghost use Rattle.def_transfer.specs.Tables.{World};
 ghost use Rattle.def_transfer.specs.Context.{emit};
 ghost use Rattle.def_transfer.specs.Step.{by_flow, flow_of, destination_of, source_of};
-ghost use Rattle.lent_world.specs.World.{lent, world};
-ghost use Rattle.effect_acts.specs.Acts.{follow, sequel};
+ghost use Rattle.lent_world.specs.World.{lent};
+ghost use Rattle.effect_acts.specs.Acts.{follow};
+ghost use Rattle.lent_world.specs.Promise.{after, before, Comes};
 ghost use Rattle.effect_flow.specs.Flows.{flows, refuses};
 
 use def_effects::Place;
 use def_kinds::ValueKind;
+use def_refusals::Refusal;
 use effect_acts::{Acted, Next};
 use effect_parts::kind_with_span;
 use lent_effects::AliasingEffect;
@@ -82,13 +84,7 @@ pub fn flow_next(
 fn refuses_flow(alias: bool, marks: Marks, i: u32) -> bool
     ensures { result ≡ refuses alias marks i }
 {
-    if !alias {
-        return false;
-    }
-    if is_marked(marks, i) {
-        return false;
-    }
-    true
+    alias && !is_marked(marks, i)
 }
 
 // A flow between two places: the destination's kind, then the source's, each with its span; what comes next.
@@ -101,34 +97,20 @@ pub fn flow(
     maybe: bool,
     from: Place,
     into: Place,
-) -> Acted
+) -> Result<Acted, Refusal>
     ensures { (again : Effect → M (World lent) Done) (e : Effect) (cs : List APlace) (xs os : List ℕ)
-        → flows again alias maybe e from into (world values.now sets.now xs os run)
-        ≡ sequel result.refusal (world values.now sets.now xs os result.run)
-        (follow again e cs result.next) }
+        → Comes (flows again alias maybe e from into (before values.now sets.now xs os run))
+        (after values.now sets.now xs os)
+        (λ a. follow again e cs a.next (after values.now sets.now xs os a.run)) result }
 {
-    let marks = run.marks;
-    if refuses_flow(alias, marks, into.identifier) {
-        return Acted {
-            refusal: 7,
-            run,
-            next: Next::Nothing,
-        };
+    if refuses_flow(alias, run.marks, into.identifier) {
+        return Err(Refusal::NotBegun);
     }
-    let into_span = into.span;
-    let from_span = from.span;
-    let first = kind_with_span(values, sets, run, into.identifier, into_span);
-    let seen = first.run;
-    let second = kind_with_span(values, sets, seen, from.identifier, from_span);
-    let i = first.value;
-    let f = second.value;
-    let i_kind = i.kind;
-    let f_kind = f.kind;
-    let next = flow_next(maybe, i_kind, f_kind, from, into);
-    let after = second.run;
-    Acted {
-        refusal: 0,
-        run: after,
+    let first = kind_with_span(values, sets, run, into.identifier, into.span);
+    let second = kind_with_span(values, sets, first.run, from.identifier, from.span);
+    let next = flow_next(maybe, first.value.kind, second.value.kind, from, into);
+    Ok(Acted {
+        run: second.run,
         next,
-    }
+    })
 }

@@ -8,9 +8,8 @@ ghost use Rattle.def_transfer.specs.Tables.{World};
 ghost use Rattle.base_sets.specs.Members.{values_of};
 ghost use Rattle.def_transfer.specs.Step as Step;
 ghost use Rattle.def_transfer.specs.Walk as Walk;
-ghost use Rattle.laws_monad.specs.Answers.{answer};
 ghost use Rattle.lent_sets.specs.Rows.{set_at};
-ghost use Rattle.lent_world.specs.World.{lent, world};
+ghost use Rattle.lent_world.specs.World.{lent};
 ghost use Rattle.effect_freeze.specs.Freezes.{with_entries};
 ghost use Rattle.lent_world.specs.Promise.{after, before, Does};
 
@@ -29,15 +28,10 @@ use state_freeze::freeze;
 pub fn with_entries(run: Run, freeze: u32, entries: u32) -> Run
     ensures { result ≡ with_entries freeze entries run }
 {
-    let session = run.session;
-    let marks = run.marks;
     Run {
-        session,
-        flag: run.flag,
-        marks,
-        listed: run.listed,
         freeze,
         entries,
+        ..run
     }
 }
 
@@ -45,35 +39,23 @@ pub fn with_entries(run: Run, freeze: u32, entries: u32) -> Run
 // "It enters each value of the frozen place."
 pub fn walk(values: &mut [u64], sets: &[u64], context: &[u32], run: Run, i: u32, reason: u32) -> Ran
     ensures { (os : List ℕ)
-        → Walk.walk (values_of (set_at sets.now i)) reason
-        (world values.old sets.now context.now os run)
-        ≡ answer result.refusal tt (world values.new sets.now context.now os result.run) }
+        → Does (Walk.walk (values_of (set_at sets.now i)) reason)
+        (before values.old sets.now context.now os run)
+        (after values.new sets.now context.now os) result }
 {
     let mut made: u32 = 0;
     let mut all = run.entries;
     if !is_defined(sets, i) {
-        return Ran {
-            refusal: 0,
-            run: with_entries(run, made, all),
-        };
+        return Ok(with_entries(run, made, all));
     }
     let mut m = next_member(sets, i, 1);
     while m < 1024 {
-        let w = freeze_function_captures_transitive(values, sets, context, reason, m, made, all);
-        if w.refusal != 0 {
-            return Ran {
-                refusal: w.refusal,
-                run: with_entries(run, w.freeze, w.entries),
-            };
-        }
+        let w = freeze_function_captures_transitive(values, sets, context, reason, m, made, all)?;
         made = w.freeze;
         all = w.entries;
         m = next_member(sets, i, m + 1);
     }
-    Ran {
-        refusal: 0,
-        run: with_entries(run, made, all),
-    }
+    Ok(with_entries(run, made, all))
 }
 
 // A Freeze that acts is listed, and its values are walked where either option is on; one that does not act does nothing.
@@ -90,10 +72,10 @@ pub fn freezing(
     ensures { (again : Effect → M (World lent) Done)
         → Does (Step.freezing again place reason)
         (before values.old sets.now context.now output.old run)
-        (after values.new sets.now context.now output.new result.run) result }
+        (after values.new sets.now context.now output.new) result }
 {
     if !freeze(values, sets, place.identifier, reason) {
-        return Ran { refusal: 0, run };
+        return Ok(run);
     }
     let listed = emit(
         output,
@@ -102,10 +84,7 @@ pub fn freezing(
         captures,
     );
     if !is_transitive(context) {
-        return Ran {
-            refusal: 0,
-            run: listed,
-        };
+        return Ok(listed);
     }
     walk(values, sets, context, listed, place.identifier, reason)
 }

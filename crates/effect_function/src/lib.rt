@@ -7,12 +7,10 @@ ghost use Rattle.def_effects.specs.Effects.{AliasingEffect as Effect, Capture};
 ghost use Rattle.def_transfer.specs.Monad.{M, Done, each};
 ghost use Rattle.def_transfer.specs.Tables.{World};
 ghost use Rattle.def_transfer.specs.Step as Step;
-ghost use Rattle.laws_monad.specs.Answers.{answer};
 ghost use Rattle.lent_effects.specs.Records.{captures_of};
-ghost use Rattle.lent_world.specs.World.{lent, world};
-ghost use Rattle.effect_acts.specs.Acts.{sequel};
+ghost use Rattle.lent_world.specs.World.{lent};
 ghost use Rattle.effect_captures.specs.NewFunctions.{linked};
-ghost use Rattle.lent_world.specs.Promise.{after, before};
+ghost use Rattle.lent_world.specs.Promise.{after, before, Comes, Does};
 
 use def_effects::Place;
 use def_kinds::{AbstractValue, ValueKind};
@@ -39,35 +37,21 @@ fn link_function(
     captures: &[u32],
 ) -> Ran
     ensures { (os : List ℕ)
-        → linked (captures_of captures.now) function into k
-        (world values.old sets.old context.old os run)
-        ≡ answer result.refusal tt (world values.new sets.new context.new os result.run) }
+        → Does (linked (captures_of captures.now) function into k)
+        (before values.old sets.old context.old os run)
+        (after values.new sets.new context.new os) result }
 {
-    let g = get_or_create_value_id(
-        context,
-        run,
-        key_of(AliasingEffect::CreateFunction { function, into }),
-        captures,
-    );
-    let after = g.run;
-    if g.refusal != 0 {
-        return Ran {
-            refusal: g.refusal,
-            run: after,
-        };
-    }
-    put_link(context, g.number, function);
+    let key = key_of(AliasingEffect::CreateFunction { function, into });
+    let numbered = get_or_create_value_id(context, run, key, captures)?;
+    put_link(context, numbered.number, function);
     create(
         values,
         sets,
         into,
-        g.number,
+        numbered.number,
         AbstractValue { kind: k, reason: 0 },
     );
-    Ran {
-        refusal: 0,
-        run: after,
-    }
+    Ok(numbered.run)
 }
 
 // A CreateFunction, before its captures are derived: listed, its context places updated, its number linked to the function.
@@ -83,19 +67,13 @@ pub fn make_function(
     captures: &[u32],
 ) -> Ran
     ensures { (again : Effect → M (World lent) Done)
-        → Step.creating_function again (captures_of captures.now) function into
-        (before values.old sets.old context.old output.old run)
-        ≡ sequel result.refusal (after values.new sets.new context.new output.new result.run)
-        (each (captures_of captures.now) (λ c. again (Capture c into))) }
+        → Comes (Step.creating_function again (captures_of captures.now) function into
+        (before values.old sets.old context.old output.old run))
+        (after values.new sets.new context.new output.new)
+        (λ r. each (captures_of captures.now) (λ c. again (Capture c into))
+        (after values.new sets.new context.new output.new r)) result }
 {
-    let b = begin(run, into.identifier);
-    let begun = b.run;
-    if b.refusal != 0 {
-        return Ran {
-            refusal: b.refusal,
-            run: begun,
-        };
-    }
+    let begun = begin(run, into.identifier)?;
     let listed = emit(
         output,
         begun,

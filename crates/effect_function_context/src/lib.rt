@@ -15,7 +15,7 @@ use lent_context::{context_count, is_ref, make_read};
 use lent_functions::context_identifier;
 use lent_layout::{CONTEXTS, ONE_RUN, RUN_WORDS};
 use lent_sets::is_defined;
-use lent_slices::{set32, wide32};
+use lent_slices::set;
 use lent_tables::{field, place_in};
 use state_ops::kind_of;
 
@@ -25,13 +25,11 @@ pub fn any_ref(context: &[u32], f: u32) -> bool
         → Step.any_ref (Lent.context_of context.now f) (world vs ss context.now os run).rest ≡ result }
 {
     let n = context_count(context, f);
-    let mut k: u32 = 0;
-    while k < n {
+    for k in 0..n {
         let i = context_identifier(context, f, k);
         if is_ref(context, i) {
             return true;
         }
-        k += 1;
     }
     false
 }
@@ -41,11 +39,9 @@ pub fn any_ref(context: &[u32], f: u32) -> bool
 pub fn copy_context(context: &[u32], f: u32, out: &mut [u32])
     ensures { out.new ≡ copied_context context.now f out.old }
 {
-    set32(out, 0, context_count(context, f));
-    let mut k: usize = 0;
-    while k < 80 {
-        set32(out, 1 + k, field(CONTEXTS, context, wide32(f), k));
-        k += 1;
+    set(out, 0, context_count(context, f));
+    for k in 0usize..80 {
+        set(out, 1 + k, field(CONTEXTS, context, f as usize, k));
     }
 }
 
@@ -82,11 +78,9 @@ pub fn update_places(values: &[u64], sets: &[u64], context: &mut [u32], f: u32, 
         ≡ ok tt (world values.now sets.now context.new os run) }
 {
     let n = field(ONE_RUN, places, 0, 0);
-    let mut k: u32 = 0;
-    while k < n {
+    for k in 0..n {
         let p = place_in(ONE_RUN, places, 0, 1, k);
         update_place(values, sets, context, f, p);
-        k += 1;
     }
 }
 

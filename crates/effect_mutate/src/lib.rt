@@ -7,11 +7,13 @@ ghost use Rattle.def_effects.specs.Effects.{AliasingEffect as Effect};
 ghost use Rattle.def_transfer.specs.Monad.{M, Done};
 ghost use Rattle.def_transfer.specs.Tables.{World};
 ghost use Rattle.def_transfer.specs.Step.{mutating, report, report_modified, report_hoisted};
-ghost use Rattle.lent_world.specs.World.{lent, world};
-ghost use Rattle.effect_acts.specs.Acts.{follow, sequel};
+ghost use Rattle.lent_world.specs.World.{lent};
+ghost use Rattle.effect_acts.specs.Acts.{follow};
+ghost use Rattle.lent_world.specs.Promise.{after, before, Comes};
 
 use def_effects::{MutateVariant, MutationResult, Place, is_strict, result_of};
 use def_kinds::AbstractValue;
+use def_refusals::Refusal;
 use effect_acts::{Acted, Next};
 use effect_diagnostic::intern_diagnostic;
 use effect_parts::{kind, kind_with_span};
@@ -22,63 +24,46 @@ use lent_work::Run;
 
 // A value that cannot be modified is reported: a MutateFrozen is derived where it is Frozen, else a MutateGlobal.
 // 10 refuses a 257th diagnostic or instance.
-pub fn report_modified(context: &mut [u32], run: Run, p: Place, a: AbstractValue) -> Acted
+pub fn report_modified(
+    context: &mut [u32],
+    run: Run,
+    p: Place,
+    a: AbstractValue,
+) -> Result<Acted, Refusal>
     ensures { (again : Effect → M (World lent) Done) (e : Effect) (cs : List APlace) (vs ss os : List ℕ)
-        → report_modified again p a (world vs ss context.old os run)
-        ≡ sequel result.refusal (world vs ss context.new os result.run)
-        (follow again e cs result.next) }
+        → Comes (report_modified again p a (before vs ss context.old os run))
+        (after vs ss context.new os)
+        (λ a. follow again e cs a.next (after vs ss context.new os a.run)) result }
 {
     let name = name_of(context, p.identifier);
-    let d = modified_diagnostic(p, name, a);
-    let g = intern_diagnostic(context, d);
-    let error = g.diagnostic;
-    if g.refusal != 0 {
-        return Acted {
-            refusal: g.refusal,
-            run,
-            next: Next::Nothing,
-        };
-    }
-    let k = a.kind;
-    if k.is_frozen() {
-        return Acted {
-            refusal: 0,
+    let error = intern_diagnostic(context, modified_diagnostic(p, name, a))?;
+    if a.kind.is_frozen() {
+        return Ok(Acted {
             run,
             next: Next::Derived(AliasingEffect::MutateFrozen { place: p, error }),
-        };
+        });
     }
-    Acted {
-        refusal: 0,
+    Ok(Acted {
         run,
         next: Next::Derived(AliasingEffect::MutateGlobal { place: p, error }),
-    }
+    })
 }
 
 // An access before the declaration is reported: a MutateFrozen is derived.
 // 10 refuses a 257th diagnostic or instance.
-pub fn report_hoisted(context: &mut [u32], run: Run, p: Place) -> Acted
+pub fn report_hoisted(context: &mut [u32], run: Run, p: Place) -> Result<Acted, Refusal>
     ensures { (again : Effect → M (World lent) Done) (e : Effect) (cs : List APlace) (vs ss os : List ℕ)
-        → report_hoisted again p (world vs ss context.old os run)
-        ≡ sequel result.refusal (world vs ss context.new os result.run)
-        (follow again e cs result.next) }
+        → Comes (report_hoisted again p (before vs ss context.old os run))
+        (after vs ss context.new os)
+        (λ a. follow again e cs a.next (after vs ss context.new os a.run)) result }
 {
     let name = name_of(context, p.identifier);
     let access = access_span(context, p.identifier);
-    let d = hoisted_diagnostic(p, name, access);
-    let g = intern_diagnostic(context, d);
-    let error = g.diagnostic;
-    if g.refusal != 0 {
-        return Acted {
-            refusal: g.refusal,
-            run,
-            next: Next::Nothing,
-        };
-    }
-    Acted {
-        refusal: 0,
+    let error = intern_diagnostic(context, hoisted_diagnostic(p, name, access))?;
+    Ok(Acted {
         run,
         next: Next::Derived(AliasingEffect::MutateFrozen { place: p, error }),
-    }
+    })
 }
 
 // What a mutation lists, by its result.
@@ -90,42 +75,31 @@ pub fn report_result(
     run: Run,
     p: Place,
     res: MutationResult,
-) -> Acted
+) -> Result<Acted, Refusal>
     ensures { (again : Effect → M (World lent) Done) (e : Effect) (cs : List APlace) (os : List ℕ)
-        → report again e p res (world values.now sets.now context.old os run)
-        ≡ sequel result.refusal (world values.now sets.now context.new os result.run)
-        (follow again e cs result.next) }
+        → Comes (report again e p res (before values.now sets.now context.old os run))
+        (after values.now sets.now context.new os)
+        (λ a. follow again e cs a.next (after values.now sets.now context.new os a.run)) result }
 {
     match res {
-        MutationResult::None => Acted {
-            refusal: 0,
+        MutationResult::None | MutationResult::MutateRef => Ok(Acted {
             run,
             next: Next::Nothing,
-        },
-        MutationResult::MutateRef => Acted {
-            refusal: 0,
-            run,
-            next: Next::Nothing,
-        },
-        MutationResult::Mutate => Acted {
-            refusal: 0,
+        }),
+        MutationResult::Mutate => Ok(Acted {
             run,
             next: Next::Itself,
-        },
+        }),
         MutationResult::MutateGlobal => {
             let seen = kind(values, sets, run, p.identifier);
-            let after = seen.run;
-            let a = seen.value;
-            report_modified(context, after, p, a)
+            report_modified(context, seen.run, p, seen.value)
         }
         MutationResult::MutateFrozen => {
             let seen = kind(values, sets, run, p.identifier);
-            let after = seen.run;
-            let a = seen.value;
             if is_hoisted(context, p.identifier) {
-                return report_hoisted(context, after, p);
+                return report_hoisted(context, seen.run, p);
             }
-            report_modified(context, after, p, a)
+            report_modified(context, seen.run, p, seen.value)
         }
     }
 }
@@ -139,24 +113,19 @@ pub fn mutation(
     run: Run,
     variant: MutateVariant,
     p: Place,
-) -> Acted
+) -> Result<Acted, Refusal>
     ensures { (again : Effect → M (World lent) Done) (e : Effect) (cs : List APlace) (os : List ℕ)
-        → mutating again variant e p (world values.now sets.now context.old os run)
-        ≡ sequel result.refusal (world values.now sets.now context.new os result.run)
-        (follow again e cs result.next) }
+        → Comes (mutating again variant e p (before values.now sets.now context.old os run))
+        (after values.now sets.now context.new os)
+        (λ a. follow again e cs a.next (after values.now sets.now context.new os a.run)) result }
 {
     if is_ref(context, p.identifier) {
-        return Acted {
-            refusal: 0,
+        return Ok(Acted {
             run,
             next: Next::Nothing,
-        };
+        });
     }
-    let span = p.span;
-    let seen = kind_with_span(values, sets, run, p.identifier, span);
-    let a = seen.value;
-    let k = a.kind;
-    let result = result_of(is_strict(variant), k);
-    let after = seen.run;
-    report_result(values, sets, context, after, p, result)
+    let seen = kind_with_span(values, sets, run, p.identifier, p.span);
+    let result = result_of(is_strict(variant), seen.value.kind);
+    report_result(values, sets, context, seen.run, p, result)
 }

@@ -7,7 +7,7 @@ ghost use Rattle.def_transfer.specs.Monad.{ok};
 ghost use Rattle.def_transfer.specs.State as State;
 ghost use Rattle.def_transfer.specs.Context as Context;
 ghost use Rattle.def_transfer.specs.Step as Step;
-ghost use Rattle.laws_monad.specs.Answers.{answer};
+ghost use Rattle.laws_monad.specs.Answers.{answers};
 ghost use Rattle.lent_work.specs.declared.Run.{Run as ARun};
 ghost use Rattle.lent_effects.specs.Records.{effect_with, captures_of};
 ghost use Rattle.lent_world.specs.World.{world};
@@ -15,12 +15,12 @@ ghost use Rattle.effect_parts.specs.Parts.{with_session, writes};
 
 use def_effects::{Place, Session, Span};
 use def_kinds::AbstractValue;
+use def_refusals::Refusal;
 use lent_effect_write::put_effect;
 use lent_effects::AliasingEffect;
 use lent_layout::{ONE_RUN, OUTPUT};
 use lent_set_writes::define;
 use lent_sets::is_defined;
-use lent_slices::wide32;
 use lent_tables::{field, place_in};
 use lent_values::put_value;
 use lent_work::{Ran, Run, is_marked, mark};
@@ -44,16 +44,10 @@ pub fn emit(output: &mut [u32], run: Run, e: AliasingEffect, captures: &[u32]) -
     if run.listed >= 4294967295 {
         return run;
     }
-    put_effect(OUTPUT, output, wide32(run.listed), e, captures);
-    let session = run.session;
-    let marks = run.marks;
+    put_effect(OUTPUT, output, run.listed as usize, e, captures);
     Run {
-        session,
-        flag: run.flag,
-        marks,
         listed: run.listed + 1,
-        freeze: run.freeze,
-        entries: run.entries,
+        ..run
     }
 }
 
@@ -62,26 +56,15 @@ pub fn emit(output: &mut [u32], run: Run, e: AliasingEffect, captures: &[u32]) -
 pub fn begin(run: Run, i: u32) -> Ran
     ensures { (vs ss cs os : List ℕ)
         → Context.begin i (world vs ss cs os run)
-        ≡ answer result.refusal tt (world vs ss cs os result.run) }
+        ≡ answers result (λ r. ok tt (world vs ss cs os r)) (world vs ss cs os run) }
 {
-    let marks = run.marks;
-    if is_marked(marks, i) {
-        return Ran { refusal: 6, run };
+    if is_marked(run.marks, i) {
+        return Err(Refusal::Begun);
     }
-    let session = run.session;
-    let marked = mark(marks, i);
-    let begun = Run {
-        session,
-        flag: run.flag,
-        marks: marked,
-        listed: run.listed,
-        freeze: run.freeze,
-        entries: run.entries,
-    };
-    Ran {
-        refusal: 0,
-        run: begun,
-    }
+    Ok(Run {
+        marks: mark(run.marks, i),
+        ..run
+    })
 }
 
 // The instruction with another session.
@@ -89,15 +72,7 @@ pub fn begin(run: Run, i: u32) -> Ran
 pub fn with_session(run: Run, session: Session) -> Run
     ensures { result ≡ with_session session run }
 {
-    let marks = run.marks;
-    Run {
-        session,
-        flag: run.flag,
-        marks,
-        listed: run.listed,
-        freeze: run.freeze,
-        entries: run.entries,
-    }
+    Run { session, ..run }
 }
 
 // The kind of a place, used at a span; the first use of an undefined place is recorded.
@@ -107,12 +82,9 @@ pub fn kind_with_span(values: &[u64], sets: &[u64], run: Run, i: u32, span: Span
         → State.kind_with_span i span (world values.now sets.now cs os run)
         ≡ ok result.value (world values.now sets.now cs os result.run) }
 {
-    let session = run.session;
-    let after = after_use(sets, session, i, span);
-    let value = kind_of(values, sets, i);
     Looked {
-        value,
-        run: with_session(run, after),
+        value: kind_of(values, sets, i),
+        run: with_session(run, after_use(sets, run.session, i, span)),
     }
 }
 
@@ -137,7 +109,7 @@ pub fn create(values: &mut [u64], sets: &mut [u64], into: Place, v: u32, a: Abst
         → Step.create into v a (world values.old sets.old cs os run)
         ≡ ok tt (world values.new sets.new cs os run) }
 {
-    put_value(values, wide32(v), a);
+    put_value(values, v as usize, a);
     define(sets, into.identifier, v);
 }
 
@@ -146,12 +118,7 @@ pub fn create(values: &mut [u64], sets: &mut [u64], into: Place, v: u32, a: Abst
 pub fn is_written(values: &[u64], sets: &[u64], i: u32) -> bool
     ensures { result ≡ writes values.now sets.now i }
 {
-    if !is_defined(sets, i) {
-        return false;
-    }
-    let a = kind_of(values, sets, i);
-    let k = a.kind;
-    k.is_writable()
+    is_defined(sets, i) && kind_of(values, sets, i).kind.is_writable()
 }
 
 // Whether any captured place is defined and can be written.
@@ -161,13 +128,11 @@ pub fn any_written(values: &[u64], sets: &[u64], captures: &[u32]) -> bool
         ≡ ok result (world values.now sets.now cs os run) }
 {
     let n = field(ONE_RUN, captures, 0, 0);
-    let mut k: u32 = 0;
-    while k < n {
+    for k in 0..n {
         let p = place_in(ONE_RUN, captures, 0, 1, k);
         if is_written(values, sets, p.identifier) {
             return true;
         }
-        k += 1;
     }
     false
 }

@@ -1,15 +1,13 @@
 // The effects that derive no other: Freeze, Create, ImmutableCapture, and those that are only listed. After apply_effect of the Rust.
 #![tactic(auto)]
 
-ghost use Rattle.std.specs.Prelude.{List, ◌≡◌, ℕ};
+ghost use Rattle.std.specs.Prelude.{◌≡◌};
 ghost use Rattle.def_effects.specs.Effects.{AliasingEffect as Effect};
 ghost use Rattle.def_transfer.specs.Monad.{M, Done};
-ghost use Rattle.def_transfer.specs.Context.{emit};
 ghost use Rattle.def_transfer.specs.Tables.{World};
 ghost use Rattle.def_transfer.specs.Step.{act};
-ghost use Rattle.laws_monad.specs.Answers.{answer};
 ghost use Rattle.lent_effects.specs.Records.{effect_with, captures_of};
-ghost use Rattle.lent_world.specs.World.{lent, world};
+ghost use Rattle.lent_world.specs.World.{lent};
 ghost use Rattle.effect_acts.specs.Acts.{act_of};
 ghost use Rattle.effect_acts.specs.declared.Act.TheVariants as Acts;
 ghost use Rattle.lent_world.specs.Promise.{after, before, Does};
@@ -20,20 +18,6 @@ use effect_freeze::freezing;
 use effect_parts::emit;
 use lent_effects::AliasingEffect;
 use lent_work::{Ran, Run};
-
-// An effect is only listed.
-// MutateFrozen, MutateGlobal, Impure and Render.
-fn listing(output: &mut [u32], run: Run, e: AliasingEffect, captures: &[u32]) -> Ran
-    ensures { (vs ss cs : List ℕ)
-        → emit (effect_with e (captures_of captures.now)) (world vs ss cs output.old run)
-        ≡ answer result.refusal tt (world vs ss cs output.new result.run) }
-{
-    let listed = emit(output, run, e, captures);
-    Ran {
-        refusal: 0,
-        run: listed,
-    }
-}
 
 // The step of an effect that derives no other, once it was interned.
 pub fn plain(
@@ -49,7 +33,7 @@ pub fn plain(
         → (again : Effect → M (World lent) Done)
         → Does (act again (effect_with e (captures_of captures.now)))
         (before values.old sets.old context.old output.old run)
-        (after values.new sets.new context.new output.new result.run) result }
+        (after values.new sets.new context.new output.new) result }
 {
     match e {
         AliasingEffect::Freeze { place, reason } => freezing(
@@ -58,28 +42,13 @@ pub fn plain(
         AliasingEffect::Create { into, kind, reason } => creating(
             values, sets, context, output, run, into, kind, reason, captures,
         ),
-        AliasingEffect::ImmutableCapture { from, into } => capturing_immutably(
+        AliasingEffect::ImmutableCapture { from, into } => Ok(capturing_immutably(
             values, sets, output, run, from, into, captures,
-        ),
-        AliasingEffect::MutateFrozen { place: _, error: _ } => listing(output, run, e, captures),
-        AliasingEffect::MutateGlobal { place: _, error: _ } => listing(output, run, e, captures),
-        AliasingEffect::Impure { place: _, error: _ } => listing(output, run, e, captures),
-        AliasingEffect::Render { place: _ } => listing(output, run, e, captures),
-        AliasingEffect::Mutate {
-            place: _,
-            reason: _,
-        } => Ran { refusal: 0, run },
-        AliasingEffect::MutateConditionally { place: _ } => Ran { refusal: 0, run },
-        AliasingEffect::MutateTransitive { place: _ } => Ran { refusal: 0, run },
-        AliasingEffect::MutateTransitiveConditionally { place: _ } => Ran { refusal: 0, run },
-        AliasingEffect::Capture { from: _, into: _ } => Ran { refusal: 0, run },
-        AliasingEffect::Alias { from: _, into: _ } => Ran { refusal: 0, run },
-        AliasingEffect::MaybeAlias { from: _, into: _ } => Ran { refusal: 0, run },
-        AliasingEffect::Assign { from: _, into: _ } => Ran { refusal: 0, run },
-        AliasingEffect::CreateFrom { from: _, into: _ } => Ran { refusal: 0, run },
-        AliasingEffect::CreateFunction {
-            function: _,
-            into: _,
-        } => Ran { refusal: 0, run },
+        )),
+        AliasingEffect::MutateFrozen { place: _, error: _ } => Ok(emit(output, run, e, captures)),
+        AliasingEffect::MutateGlobal { place: _, error: _ } => Ok(emit(output, run, e, captures)),
+        AliasingEffect::Impure { place: _, error: _ } => Ok(emit(output, run, e, captures)),
+        AliasingEffect::Render { place: _ } => Ok(emit(output, run, e, captures)),
+        _ => Ok(run),
     }
 }

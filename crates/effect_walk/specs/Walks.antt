@@ -1,5 +1,5 @@
 -- What the code of the freeze walk does: the definition's `enter` at the lent lists, whatever the rest of the world. Assumes nothing: these are definitions.
-use Rattle.std.specs.Prelude.{ℕ, ◌-◌, ◌≤◌, ◌≡◌, Bool, List}
+use Rattle.std.specs.Prelude.{ℕ, ◌-◌, ◌≤◌, ◌≡◌, Bool, List, Result, Ok, Err}
 use Rattle.def_kinds.specs.declared.ValueKind.TheVariants.{Frozen}
 use Rattle.def_kinds.specs.Reasons.{single}
 use Rattle.def_kinds.specs.Values.{mk}
@@ -9,7 +9,10 @@ use Rattle.def_transfer.specs.Walk as Walk
 use Rattle.lent_values.specs.Cells.{put_value}
 use Rattle.lent_work.specs.declared.Marks.{Marks}
 use Rattle.laws_monad.specs.Answers.{answer}
+use Rattle.def_refusals.specs.declared.Refusal.{Refusal}
+use Rattle.def_refusals.specs.Verdicts.{number_of}
 use Rattle.lent_world.specs.World.{lent, Listed}
+use Rattle.effect_walk.specs.declared.Walked.{Walked}
 
 -- a value made Frozen with one reason, in the list of values
 -- "every value of the set becomes Frozen with that one reason"
@@ -37,3 +40,8 @@ walking vs ss cs s made all = record {
 pub record Enters (vs ss cs : List ℕ) (reason v made all : ℕ) (us : List ℕ) (refusal made' all' : ℕ) : Type 0 where
   pub grows : made ≤ made'
   pub equal : (s : Still) (d : ℕ) → 4096 - made ≤ d → Walk.freeze_function_captures_transitive d reason v (walking vs ss cs s made all) ≡ answer refusal tt (walking us ss cs s made' all')
+
+-- the same of what the code comes to: it goes on with its counts, or is refused with whatever counts it had made
+abbrev pub Entered : List ℕ → List ℕ → List ℕ → ℕ → ℕ → ℕ → ℕ → List ℕ → Result Walked Refusal → Type 0
+Entered vs ss cs reason v made all us (Ok w) = Enters vs ss cs reason v made all us 0 w.freeze w.entries
+Entered vs ss cs reason v made all us (Err refusal) = (freeze : ℕ) × (entries : ℕ) × Enters vs ss cs reason v made all us (number_of refusal) freeze entries

@@ -3,24 +3,22 @@
 
 ghost use Rattle.std.specs.Prelude.{◌≡◌};
 ghost use Rattle.state_ops.specs.Lists.{freezes};
-ghost use Rattle.effect_walk.specs.Walks.{Enters};
+ghost use Rattle.effect_walk.specs.Walks.{Entered};
 
 use def_kinds::{AbstractValue, ValueKind, single};
+use def_refusals::Refusal;
 use lent_context::context_count;
 use lent_functions::context_identifier;
-use lent_keys::Found;
 use lent_links::{link_of, one_more};
 use lent_members::next_member;
 use lent_sets::is_defined;
-use lent_slices::wide32;
 use lent_values::put_value;
 use state_ops::kind_of;
 
-// Where a walk has come to: 0 or 11, the entries of the Freeze under way, and those of all Freezes of the instruction.
+// What a walk has come to: the entries of the Freeze under way, and those of all Freezes of the instruction.
 // It goes by value, so that the walk's frame stays small.
 #[derive(Clone, Copy)]
 pub struct Walked {
-    pub refusal: u32,
     pub freeze: u32,
     pub entries: u32,
 }
@@ -30,12 +28,7 @@ pub struct Walked {
 pub fn opens(values: &[u64], sets: &[u64], i: u32) -> bool
     ensures { result ≡ freezes values.now sets.now i }
 {
-    if !is_defined(sets, i) {
-        return false;
-    }
-    let a = kind_of(values, sets, i);
-    let k = a.kind;
-    k.is_freezable()
+    is_defined(sets, i) && kind_of(values, sets, i).kind.is_freezable()
 }
 
 // A value becomes Frozen with one reason.
@@ -43,12 +36,11 @@ pub fn opens(values: &[u64], sets: &[u64], i: u32) -> bool
 pub fn freeze_value(values: &mut [u64], v: u32, reason: u32)
     ensures { values.new ≡ Rattle.effect_walk.specs.Walks.frozen values.old v reason }
 {
-    let bits = single(reason);
     let frozen = AbstractValue {
         kind: ValueKind::Frozen,
-        reason: bits,
+        reason: single(reason),
     };
-    put_value(values, wide32(v), frozen);
+    put_value(values, v as usize, frozen);
 }
 
 // Enters a value: counts the entry, then looks at the context of the value's function in order, and freezes and enters each value
@@ -61,29 +53,22 @@ pub fn freeze_function_captures_transitive(
     v: u32,
     freeze: u32,
     entries: u32,
-) -> Walked
-    ensures { Enters values.old sets.now context.now reason v freeze entries values.new result.refusal
-        result.freeze result.entries }
+) -> Result<Walked, Refusal>
+    ensures { Entered values.old sets.now context.now reason v freeze entries values.new result }
 {
     if freeze >= 4096 {
-        return Walked {
-            refusal: 11,
-            freeze,
-            entries,
-        };
+        return Err(Refusal::Entries);
     }
     let mut made = freeze + 1;
     let mut all = one_more(entries);
-    let Found::At(f) = link_of(context, v) else {
-        return Walked {
-            refusal: 0,
+    let Some(f) = link_of(context, v) else {
+        return Ok(Walked {
             freeze: made,
             entries: all,
-        };
+        });
     };
     let n = context_count(context, f);
-    let mut k: u32 = 0;
-    while k < n {
+    for k in 0..n {
         let i = context_identifier(context, f, k);
         if opens(values, sets, i) {
             let mut m = next_member(sets, i, 1);
@@ -91,20 +76,15 @@ pub fn freeze_function_captures_transitive(
                 freeze_value(values, m, reason);
                 let w = freeze_function_captures_transitive(
                     values, sets, context, reason, m, made, all,
-                );
-                if w.refusal != 0 {
-                    return w;
-                }
+                )?;
                 made = w.freeze;
                 all = w.entries;
                 m = next_member(sets, i, m + 1);
             }
         }
-        k += 1;
     }
-    Walked {
-        refusal: 0,
+    Ok(Walked {
         freeze: made,
         entries: all,
-    }
+    })
 }

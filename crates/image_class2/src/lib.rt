@@ -2,202 +2,222 @@
 // Every function is total: past the end stands 0. Its contract is one equation with the definition of crate `def_image`.
 #![tactic(auto)]
 
-ghost use Rattle.std.specs.Prelude.{◌%◌, ◌-◌, suc, ◌≡◌, eqb, leb, ltb};
+ghost use Rattle.std.specs.Prelude.{Bool, ℕ, ◌+◌, ◌-◌, ◌^◌, ◌≡◌, ◌<◌, ◌≤◌, suc};
 ghost use Rattle.base_tests.specs.Tests.{any_below};
-ghost use Rattle.def_image.specs.Refusals.{any_record, creates_function, earns_two, is_apply, long_candidate, long_function, misplaced, too_many_records, wrong_edition, wrong_end, wrong_header};
+ghost use Rattle.def_image.specs.Refusals.{any_neighbours, any_record, creates_function, earns_two, is_apply, long_candidate, long_function, misplaced, too_many_records, wrong_edition, wrong_end, wrong_header};
+ghost use Rattle.def_image.specs.Layout as Image;
 ghost use Rattle.def_image.specs.Layout.{cell, count_of, end_of, offset_of, size_of, start_of, word};
+ghost use Rattle.image_class2.specs.Sections.{number_of};
 
-use lent_slices::{get32, wide32};
+// The sections of an image, in the order of the header's counts and offsets.
+#[derive(Clone, Copy, Debug, PartialEq, Eq)]
+pub enum Section {
+    Identifiers,
+    Values,
+    Pairs,
+    Places,
+    Functions,
+    Candidates,
+}
 
-// The section of identifiers.
-// "count and word offset of six sections": its number in that order.
-const IDENTIFIERS: u32 = 0;
-
-// The section of functions.
-// "count and word offset of six sections": its number in that order.
-const FUNCTIONS: u32 = 4;
-
-// The section of candidates.
-// "count and word offset of six sections": its number in that order.
-const CANDIDATES: u32 = 5;
+// The sections in their order.
+const SECTIONS: [Section; 6] = [
+    Section::Identifiers,
+    Section::Values,
+    Section::Pairs,
+    Section::Places,
+    Section::Functions,
+    Section::Candidates,
+];
 
 // The words of a record of each section.
-// Identifiers, values, pairs, places, functions, candidates.
-const SIZES: [u32; 6] = [4, 3, 2, 5, 5, 8];
+const SIZES: [usize; 6] = [4, 3, 2, 5, 5, 8];
 
-// Whether a number is below another.
-// A test that other tests are made of.
-pub fn below(a: u32, b: u32) -> bool
-    ensures { result ≡ ltb a b }
-{
-    a < b
-}
+// The code of an Apply.
+const APPLY: u32 = 12;
 
-// Whether a number is at most another.
-// A test that other tests are made of.
-pub fn at_most(a: u32, b: u32) -> bool
-    ensures { result ≡ leb a b }
-{
-    a <= b
-}
+// The code of a CreateFunction.
+const CREATE_FUNCTION: u32 = 13;
 
-// Whether two numbers are the same.
-// A test that other tests are made of.
-pub fn same(a: u32, b: u32) -> bool
-    ensures { result ≡ eqb a b }
-{
-    a == b
-}
-
-// Whether a word has flag 1.
-// "flags (1 ref, 2 hoisted)", "(1 effects known, ..)".
-pub fn flag_one(w: u32) -> bool
-    ensures { result ≡ eqb (w % 2) 1 }
-{
-    w % 2 == 1
-}
-
-// Whether a word has flag 2.
-// "flags (1 ref, 2 hoisted)", "(.., 2 tracked side effect; ..)".
-pub fn flag_two(w: u32) -> bool
-    ensures { result ≡ ltb 1 (w % 4) }
-{
-    1 < w % 4
-}
-
-// The words of a record of section s.
-// As the six lists of the paper have them; a section past the sixth has none.
-pub fn size_of(s: u32) -> u32
-    ensures { result ≡ size_of s }
-{
-    if s < 6 {
-        return SIZES[s as usize];
+impl Section {
+    // Its number in the order of the header.
+    pub fn number(self) -> usize
+        ensures { result ≡ number_of self }
+    {
+        self as usize
     }
-    0
+
+    // The words of a record.
+    // As the six lists of the paper have them.
+    #[tactic(auto, unfolding(def_image::specs::Layout::size_of))]
+    pub fn size(self) -> usize
+        ensures value { result ≡ size_of (number_of self) }
+        ensures most { result ≤ 8 }
+    {
+        SIZES[self.number()]
+    }
 }
 
-// Word i of the image, asked of the header.
+// Word i of the image.
 // Past the end stands 0.
-pub fn header_word(im: &[u32], i: u32) -> u32
+#[tactic(auto, unfolding(def_image::specs::Layout::word))]
+pub fn word(im: &[u32], i: usize) -> u32
     ensures { result ≡ word im.now i }
 {
-    get32(im, wide32(i))
+    im.get(i).copied().unwrap_or(0)
 }
 
-// How many records section s has, as the header says.
+// How many records a section has, as the header says.
 // "then count and word offset of six sections"
-pub fn count_of(im: &[u32], s: u32) -> u32
-    ensures { result ≡ count_of im.now s }
+#[tactic(auto, unfolding(def_image::specs::Layout::count_of))]
+pub fn count_of(im: &[u32], section: Section) -> u32
+    ensures { result ≡ count_of im.now (number_of section) }
 {
-    get32(im, 5 + 2 * wide32(s))
+    word(im, 5 + 2 * section.number())
 }
 
-// Where section s begins, as the header says.
+// Where a section begins, as the header says.
 // "then count and word offset of six sections"
-pub fn offset_of(im: &[u32], s: u32) -> u32
-    ensures { result ≡ offset_of im.now s }
+#[tactic(auto, unfolding(def_image::specs::Layout::offset_of))]
+pub fn offset_of(im: &[u32], section: Section) -> u32
+    ensures { result ≡ offset_of im.now (number_of section) }
 {
-    get32(im, 6 + 2 * wide32(s))
+    word(im, 6 + 2 * section.number())
 }
 
-// Where section s ends.
+// Where a section ends.
 // Wide: a count times a size passes 32 bits.
-pub fn end_of(im: &[u32], s: u32) -> usize
-    ensures { result ≡ end_of im.now s }
+#[tactic(auto, using(crate::proofs::Laws::Layout::span_fits), unfolding(def_image::specs::Layout::end_of))]
+pub fn end_of(im: &[u32], section: Section) -> usize
+    ensures { result ≡ end_of im.now (number_of section) }
 {
-    let offset = wide32(offset_of(im, s));
-    let count = wide32(count_of(im, s));
-    let size = wide32(size_of(s));
-    offset + count * size
+    offset_of(im, section) as usize + count_of(im, section) as usize * section.size()
 }
 
-// Where section s has to begin: after the header, or where the one before it ends.
+// Where a section has to begin: after the header, or where the one before it ends.
 // "which follow in order without gaps"
-pub fn start_of(im: &[u32], s: u32) -> usize
-    ensures { result ≡ start_of im.now s }
+#[tactic(auto, unfolding(def_image::specs::Layout::start_of))]
+pub fn start_of(im: &[u32], section: Section) -> usize
+    ensures { result ≡ start_of im.now (number_of section) }
 {
-    if s == 0 {
-        return 17;
+    match section {
+        Section::Identifiers => 17,
+        Section::Values => end_of(im, Section::Identifiers),
+        Section::Pairs => end_of(im, Section::Values),
+        Section::Places => end_of(im, Section::Pairs),
+        Section::Functions => end_of(im, Section::Places),
+        Section::Candidates => end_of(im, Section::Functions),
     }
-    end_of(im, s - 1)
 }
 
-// Word j of record k of section s.
-// Wide: a number of a record times a size passes 32 bits.
-pub fn cell(im: &[u32], s: u32, k: u32, j: u32) -> u32
-    ensures { result ≡ cell im.now s k j }
+// Word j of a record of a section.
+// Wide: a number of a record times a size passes 32 bits; a sum of two numbers is the number of a record too.
+#[tactic(auto, using(crate::proofs::Laws::Layout::span_fits), unfolding(def_image::specs::Layout::cell))]
+fn cell_at(im: &[u32], section: Section, k: usize, j: u32) -> u32
+    requires { k ≤ 2 ^ 33 }
+    ensures { result ≡ cell im.now (number_of section) k j }
 {
-    let offset = wide32(offset_of(im, s));
-    let size = wide32(size_of(s));
-    get32(im, offset + wide32(k) * size + wide32(j))
+    word(
+        im,
+        offset_of(im, section) as usize + k * section.size() + j as usize,
+    )
 }
 
-// Word j of the record after record k of section s.
+// Word j of record k of a section.
+pub fn cell(im: &[u32], section: Section, k: u32, j: u32) -> u32
+    ensures { result ≡ cell im.now (number_of section) k j }
+{
+    cell_at(im, section, k as usize, j)
+}
+
+// Word j of record i of a run of records of a section, from record `first` on.
+// A sum of two numbers is the number of a record too.
+pub fn cell_in_run(im: &[u32], section: Section, first: u32, i: u32, j: u32) -> u32
+    ensures { result ≡ cell im.now (number_of section) (first + i) j }
+{
+    cell_at(im, section, first as usize + i as usize, j)
+}
+
+// Word j of the record after record k of a section.
 // Orders are tested of each two that follow one another.
-pub fn next_cell(im: &[u32], s: u32, k: u32, j: u32) -> u32
-    ensures { result ≡ cell im.now s (suc k) j }
+pub fn next_cell(im: &[u32], section: Section, k: u32, j: u32) -> u32
+    ensures { result ≡ cell im.now (number_of section) (suc k) j }
 {
-    let offset = wide32(offset_of(im, s));
-    let size = wide32(size_of(s));
-    get32(im, offset + (wide32(k) + 1) * size + wide32(j))
+    cell_at(im, section, k as usize + 1, j)
 }
 
-// How many records of section s have one after them.
-// Orders are tested of each two that follow one another.
-pub fn neighbours_of(im: &[u32], s: u32) -> u32
-    ensures { result ≡ count_of im.now s - 1 }
+// Whether a number below n passes a test.
+// Where the test answers as a definition `f` does, so does the search.
+pub fn any_below<F: Fn(u32) -> bool>(n: u32, test: F) -> bool
+    requires { F.IsAlwaysCallable test }
+    ensures { (f : ℕ → Bool) → ((k : ℕ) (b : Bool) → F.post test k b → b ≡ f k) → result ≡ any_below n f }
 {
-    let n = count_of(im, s);
-    if n == 0 {
-        return 0;
-    }
-    n - 1
+    (0..n).any(test)
+}
+
+// Whether a record of a section passes a test.
+#[tactic(auto, unfolding(def_image::specs::Refusals::any_record))]
+pub fn any_record<F: Fn(u32) -> bool>(im: &[u32], section: Section, test: F) -> bool
+    requires { F.IsAlwaysCallable test }
+    ensures { (f : ℕ → Bool) → ((k : ℕ) (b : Bool) → F.post test k b → b ≡ f k) → result ≡ any_record im.now (number_of section) f }
+{
+    any_below(count_of(im, section), test)
+}
+
+// The same, of the records that have one after them.
+// Orders are tested of each two that follow one another.
+#[tactic(auto, unfolding(def_image::specs::Refusals::any_neighbours))]
+pub fn any_neighbours<F: Fn(u32) -> bool>(im: &[u32], section: Section, test: F) -> bool
+    requires { F.IsAlwaysCallable test }
+    ensures { (f : ℕ → Bool) → ((k : ℕ) (b : Bool) → F.post test k b → b ≡ f k) → result ≡ any_neighbours im.now (number_of section) f }
+{
+    any_below(count_of(im, section).saturating_sub(1), test)
 }
 
 // Whether candidate k is an Apply.
-// "Apply 12"
+#[tactic(auto, unfolding(def_image::specs::Refusals::is_apply))]
 pub fn is_apply(im: &[u32], k: u32) -> bool
     ensures { result ≡ is_apply im.now k }
 {
-    same(cell(im, CANDIDATES, k, 0), 12)
+    cell(im, Section::Candidates, k, 0) == APPLY
 }
 
 // Whether candidate k is a CreateFunction.
 // Only such a candidate has captures.
+#[tactic(auto, unfolding(def_image::specs::Refusals::creates_function))]
 pub fn creates_function(im: &[u32], k: u32) -> bool
     ensures { result ≡ creates_function im.now k }
 {
-    same(cell(im, CANDIDATES, k, 0), 13)
+    cell(im, Section::Candidates, k, 0) == CREATE_FUNCTION
 }
 
 // Whether the edition is wrong.
 // "edition 1"
+#[tactic(auto, unfolding(def_image::specs::Refusals::wrong_edition))]
 pub fn wrong_edition(im: &[u32]) -> bool
     ensures { result ≡ wrong_edition im.now }
 {
-    !same(header_word(im, 0), 1)
+    word(im, 0) != 1
 }
 
 // Whether a section has too many records.
 // "identifiers (at most 512)", "functions (64)", "candidates (64)"
+#[tactic(auto, unfolding(def_image::specs::Refusals::too_many_records))]
 pub fn too_many_records(im: &[u32]) -> bool
     ensures { result ≡ too_many_records im.now }
 {
-    if below(512, count_of(im, IDENTIFIERS)) {
-        return true;
-    }
-    if below(64, count_of(im, FUNCTIONS)) {
-        return true;
-    }
-    below(64, count_of(im, CANDIDATES))
+    count_of(im, Section::Identifiers) > 512
+        || count_of(im, Section::Functions) > 64
+        || count_of(im, Section::Candidates) > 64
 }
 
-// Whether section s begins elsewhere than it has to.
+// Whether a section begins elsewhere than it has to.
 // "six sections, which follow in order without gaps"
-pub fn misplaced(im: &[u32], s: u32) -> bool
-    ensures { result ≡ misplaced im.now s }
+#[tactic(auto, unfolding(def_image::specs::Refusals::misplaced))]
+pub fn misplaced(im: &[u32], section: Section) -> bool
+    ensures { result ≡ misplaced im.now (number_of section) }
 {
-    wide32(offset_of(im, s)) != start_of(im, s)
+    offset_of(im, section) as usize != start_of(im, section)
 }
 
 // Whether one of the six sections begins elsewhere than it has to.
@@ -205,105 +225,52 @@ pub fn misplaced(im: &[u32], s: u32) -> bool
 fn any_misplaced(im: &[u32]) -> bool
     ensures { result ≡ any_below 6 (misplaced im.now) }
 {
-    let mut s: u32 = 0;
-    while s < 6 {
-        if misplaced(im, s) {
-            return true;
-        }
-        s += 1;
-    }
-    false
+    SECTIONS.iter().any(|section| misplaced(im, *section))
 }
 
 // Whether the image ends elsewhere than its last section.
 // "nothing after the last section (else 2)"
+#[tactic(auto, unfolding(def_image::specs::Refusals::wrong_end))]
 pub fn wrong_end(im: &[u32]) -> bool
     ensures { result ≡ wrong_end im.now }
 {
-    im.len() != end_of(im, CANDIDATES)
+    im.len() != end_of(im, Section::Candidates)
 }
 
 // Whether edition, a count, an offset or the length is wrong.
 // It is tested first, so that no loop runs over a wrong count.
+#[tactic(auto, unfolding(def_image::specs::Refusals::wrong_header))]
 pub fn wrong_header(im: &[u32]) -> bool
     ensures { result ≡ wrong_header im.now }
 {
-    if wrong_edition(im) {
-        return true;
-    }
-    if too_many_records(im) {
-        return true;
-    }
-    if any_misplaced(im) {
-        return true;
-    }
-    wrong_end(im)
+    wrong_edition(im) || too_many_records(im) || any_misplaced(im) || wrong_end(im)
 }
 
 // Whether function k has too many places.
 // "context places (16)", "places mutated inside (32)"
+#[tactic(auto, unfolding(def_image::specs::Refusals::long_function))]
 pub fn long_function(im: &[u32], k: u32) -> bool
     ensures { result ≡ long_function im.now k }
 {
-    if below(16, cell(im, FUNCTIONS, k, 2)) {
-        return true;
-    }
-    below(32, cell(im, FUNCTIONS, k, 4))
+    cell(im, Section::Functions, k, 2) > 16 || cell(im, Section::Functions, k, 4) > 32
 }
 
 // Whether candidate k has too many captures.
 // "captures (16)", which only a CreateFunction has
+#[tactic(auto, unfolding(def_image::specs::Refusals::long_candidate))]
 pub fn long_candidate(im: &[u32], k: u32) -> bool
     ensures { result ≡ long_candidate im.now k }
 {
-    if !creates_function(im, k) {
-        return false;
-    }
-    below(16, cell(im, CANDIDATES, k, 7))
-}
-
-// Whether a function has too many places.
-// "or a count is above its limit"
-fn long_functions(im: &[u32]) -> bool
-    ensures { result ≡ any_record im.now 4 (long_function im.now) }
-{
-    let n = count_of(im, FUNCTIONS);
-    let mut k: u32 = 0;
-    while k < n {
-        if long_function(im, k) {
-            return true;
-        }
-        k += 1;
-    }
-    false
-}
-
-// Whether a candidate has too many captures.
-// "or a count is above its limit"
-fn long_candidates(im: &[u32]) -> bool
-    ensures { result ≡ any_record im.now 5 (long_candidate im.now) }
-{
-    let n = count_of(im, CANDIDATES);
-    let mut k: u32 = 0;
-    while k < n {
-        if long_candidate(im, k) {
-            return true;
-        }
-        k += 1;
-    }
-    false
+    creates_function(im, k) && cell(im, Section::Candidates, k, 7) > 16
 }
 
 // Whether the words earn 2.
 // "edition, count or offset is wrong, or a count is above its limit"
+#[tactic(auto, unfolding(def_image::specs::Refusals::earns_two))]
 pub fn earns_two(im: &[u32]) -> bool
     ensures { result ≡ earns_two im.now }
 {
-    if wrong_header(im) {
-        return true;
-    }
-    if long_functions(im) {
-        return true;
-    }
-    long_candidates(im)
+    wrong_header(im)
+        || any_record(im, Section::Functions, |k| long_function(im, k))
+        || any_record(im, Section::Candidates, |k| long_candidate(im, k))
 }

@@ -8,7 +8,6 @@ use Rattle.lent_values.specs.Cells.{put_value}
 use Rattle.lent_sets.specs.Rows.{set_at, put_set}
 use Rattle.lent_tables.specs.Words.{put_field, put_places}
 use Rattle.lent_effects.specs.declared.AliasingEffect.{AliasingEffect as Head}
-use Rattle.lent_effects.specs.declared.AliasingEffect.TheVariants as Head
 use Rattle.lent_effects.specs.Records.{put_effect}
 use Rattle.lent_layout.specs.Layout as Lent
 use Rattle.def_image.specs.Layout.{Image, options, identifiers, functions, count_of, identifier_flags, identifier_name, access_start, access_end, value_number, value_kind, value_reasons, pair_identifier, pair_value, function_flags, context_first, context_count, inside_first, inside_count, code, first_place, second_place, detail, reason, function}

@@ -13,78 +13,74 @@ ghost use Rattle.image_decode.specs.Decoded.{decoded_value, decoded_values, deco
 
 use def_effects::{Place, Span};
 use def_kinds::{AbstractValue, ValueKind};
-use image_class2::{cell, count_of, offset_of};
+use image_class2::{Section, cell, cell_in_run, count_of, word};
 use lent_layout::{CONTEXTS, FUNCTION_COUNT, FUNCTIONS, IDENTIFIER_COUNT, IDENTIFIERS, OPTIONS};
 use lent_set_writes::{add_set, put_set};
 use lent_sets::add_value;
-use lent_slices::{get32, set32, wide32};
+use lent_slices::set;
 use lent_tables::{Table, put_field, put_place};
 use lent_values::put_value;
 
 // ---- the words of an image
 
-// Place i of a run that begins at place `first`.
+// Place i of a run of places, from place `first` on.
 // "places: identifier, `Effect` in declared order from 0, reactive 0 or 1, start, end"
+#[tactic(auto, unfolding(def_image::specs::Decode::place_at))]
 fn place_of(im: &[u32], first: u32, i: u32) -> Place
     ensures { result ≡ place_at im.now (first + i) }
 {
-    let w = wide32(offset_of(im, 3)) + (wide32(first) + wide32(i)) * 5;
-    let identifier = get32(im, w);
-    let effect = get32(im, w + 1);
-    let reactive = get32(im, w + 2);
-    let start = get32(im, w + 3);
-    let end = get32(im, w + 4);
-    let span = Span { start, end };
+    let section = Section::Places;
     Place {
-        identifier,
-        effect,
-        reactive,
-        span,
+        identifier: cell_in_run(im, section, first, i, 0),
+        effect: cell_in_run(im, section, first, i, 1),
+        reactive: cell_in_run(im, section, first, i, 2),
+        span: Span {
+            start: cell_in_run(im, section, first, i, 3),
+            end: cell_in_run(im, section, first, i, 4),
+        },
     }
 }
 
 // Place k of the image.
-// It is the first of a run of its own.
 pub fn place_at(im: &[u32], k: u32) -> Place
     ensures { result ≡ place_at im.now k }
 {
-    place_of(im, k, 0)
+    place_of(im, 0, k)
 }
 
 // The kind of a word; what is no kind reads as MaybeFrozen.
 // An image with such a word is refused before it is used.
+#[tactic(auto, using(def_kinds::proofs::Laws::Kinds::kind_at_rest))]
 pub fn kind_at(x: u32) -> ValueKind
     ensures { result ≡ kind_at x }
 {
-    if x < 6 {
-        return ValueKind::of_code(x as u8);
-    }
-    ValueKind::MaybeFrozen
+    u8::try_from(x).map_or(ValueKind::MaybeFrozen, ValueKind::of_code)
 }
 
 // ---- the state
 
 // Value k of the image is put into the table of values.
 // "values: number, kind, reasons"
+#[tactic(auto, unfolding(crate::specs::Decoded::decoded_value))]
 fn decode_value(im: &[u32], k: u32, values: &mut [u64])
     ensures { values.new ≡ decoded_value im.now k values.old }
 {
-    let v = cell(im, 1, k, 0);
-    let kind = kind_at(cell(im, 1, k, 1));
-    let reason = cell(im, 1, k, 2);
-    put_value(values, wide32(v), AbstractValue { kind, reason });
+    let number = cell(im, Section::Values, k, 0);
+    let value = AbstractValue {
+        kind: kind_at(cell(im, Section::Values, k, 1)),
+        reason: cell(im, Section::Values, k, 2),
+    };
+    put_value(values, number as usize, value);
 }
 
 // All values of the image are put into the table of values.
 // As many as the header says, one after the other.
+#[tactic(auto, using(crate::proofs::Laws::Read::after_more, crate::proofs::Laws::Read::after_none), unfolding(crate::specs::Decoded::decoded_values))]
 pub fn decode_values(im: &[u32], values: &mut [u64])
     ensures { values.new ≡ decoded_values im.now (count_of im.now Image.values) values.old }
 {
-    let n = count_of(im, 1);
-    let mut k: u32 = 0;
-    while k < n {
+    for k in 0..count_of(im, Section::Values) {
         decode_value(im, k, values);
-        k += 1;
     }
 }
 
@@ -103,8 +99,8 @@ fn add_member(acc: &mut [u64], v: u32)
 fn decode_pair(im: &[u32], k: u32, sets: &mut [u64])
     ensures { sets.new ≡ decoded_pair im.now k sets.old }
 {
-    let i = cell(im, 2, k, 0);
-    let v = cell(im, 2, k, 1);
+    let i = cell(im, Section::Pairs, k, 0);
+    let v = cell(im, Section::Pairs, k, 1);
     let mut acc = [0u64; 16];
     add_set(&mut acc, sets, i);
     add_member(&mut acc, v);
@@ -113,14 +109,12 @@ fn decode_pair(im: &[u32], k: u32, sets: &mut [u64])
 
 // All pairs of the image are put into the rows.
 // As many as the header says, one after the other.
+#[tactic(auto, using(crate::proofs::Laws::Read::after_more, crate::proofs::Laws::Read::after_none), unfolding(crate::specs::Decoded::decoded_sets))]
 pub fn decode_sets(im: &[u32], sets: &mut [u64])
     ensures { sets.new ≡ decoded_sets im.now (count_of im.now Image.pairs) sets.old }
 {
-    let n = count_of(im, 2);
-    let mut k: u32 = 0;
-    while k < n {
+    for k in 0..count_of(im, Section::Pairs) {
         decode_pair(im, k, sets);
-        k += 1;
     }
 }
 
@@ -128,26 +122,29 @@ pub fn decode_sets(im: &[u32], sets: &mut [u64])
 
 // The four words of identifier k are put into a context.
 // "flags (1 ref, 2 hoisted), name 1..512 or 0, access start, end"
+#[tactic(auto, using(crate::proofs::Laws::Read::after_more), unfolding(crate::specs::Decoded::after, crate::specs::Decoded::decoded_identifier))]
 fn decode_identifier(im: &[u32], k: u32, context: &mut [u32])
     ensures { context.new ≡ decoded_identifier im.now k context.old }
 {
-    let i = wide32(k);
-    put_field(IDENTIFIERS, context, i, 0, cell(im, 0, k, 0));
-    put_field(IDENTIFIERS, context, i, 1, cell(im, 0, k, 1));
-    put_field(IDENTIFIERS, context, i, 2, cell(im, 0, k, 2));
-    put_field(IDENTIFIERS, context, i, 3, cell(im, 0, k, 3));
+    for j in 0..4 {
+        put_field(
+            IDENTIFIERS,
+            context,
+            k as usize,
+            j as usize,
+            cell(im, Section::Identifiers, k, j),
+        );
+    }
 }
 
 // All identifiers of the image are put into a context.
 // As many as the header says, one after the other.
+#[tactic(auto, using(crate::proofs::Laws::Read::after_more, crate::proofs::Laws::Read::after_none), unfolding(crate::specs::Decoded::decoded_identifiers))]
 fn decode_identifiers(im: &[u32], context: &mut [u32])
     ensures { context.new ≡ decoded_identifiers im.now (count_of im.now Image.identifiers) context.old }
 {
-    let n = count_of(im, 0);
-    let mut k: u32 = 0;
-    while k < n {
+    for k in 0..count_of(im, Section::Identifiers) {
         decode_identifier(im, k, context);
-        k += 1;
     }
 }
 
@@ -156,34 +153,34 @@ fn decode_identifiers(im: &[u32], context: &mut [u32])
 pub fn put_run(t: Table, xs: &mut [u32], i: usize, w: u32, im: &[u32], first: u32, n: u32)
     ensures { xs.new ≡ put_places t xs.old i w 0 (places_from im.now first n) }
 {
-    let mut k: u32 = 0;
-    while k < n {
+    for k in 0..n {
         put_place(t, xs, i, w, k, place_of(im, first, k));
-        k += 1;
     }
 }
 
 // Flags and both counts of function k are put into a context.
 // The counts of context places and of places mutated inside.
+#[tactic(auto, unfolding(crate::specs::Decoded::decoded_counts))]
 fn decode_counts(im: &[u32], k: u32, context: &mut [u32])
     ensures { context.new ≡ decoded_counts im.now k context.old }
 {
-    let i = wide32(k);
-    put_field(FUNCTIONS, context, i, 0, cell(im, 4, k, 0));
-    put_field(FUNCTIONS, context, i, 1, cell(im, 4, k, 2));
-    put_field(FUNCTIONS, context, i, 2, cell(im, 4, k, 4));
+    let i = k as usize;
+    put_field(FUNCTIONS, context, i, 0, cell(im, Section::Functions, k, 0));
+    put_field(FUNCTIONS, context, i, 1, cell(im, Section::Functions, k, 2));
+    put_field(FUNCTIONS, context, i, 2, cell(im, Section::Functions, k, 4));
 }
 
 // Function k is put into a context: flags and counts, the places mutated inside, the context places.
 // "each function has its own copy of its context places"
+#[tactic(auto, unfolding(crate::specs::Decoded::decoded_function))]
 fn decode_function(im: &[u32], k: u32, context: &mut [u32])
     ensures { context.new ≡ decoded_function im.now k context.old }
 {
-    let i = wide32(k);
-    let first_context = cell(im, 4, k, 1);
-    let contexts = cell(im, 4, k, 2);
-    let first_inside = cell(im, 4, k, 3);
-    let inside = cell(im, 4, k, 4);
+    let i = k as usize;
+    let first_context = cell(im, Section::Functions, k, 1);
+    let contexts = cell(im, Section::Functions, k, 2);
+    let first_inside = cell(im, Section::Functions, k, 3);
+    let inside = cell(im, Section::Functions, k, 4);
     decode_counts(im, k, context);
     put_run(FUNCTIONS, context, i, 3, im, first_inside, inside);
     put_run(CONTEXTS, context, i, 0, im, first_context, contexts);
@@ -191,28 +188,32 @@ fn decode_function(im: &[u32], k: u32, context: &mut [u32])
 
 // All functions of the image are put into a context.
 // As many as the header says, one after the other.
+#[tactic(auto, using(crate::proofs::Laws::Read::after_more, crate::proofs::Laws::Read::after_none), unfolding(crate::specs::Decoded::decoded_functions))]
 fn decode_functions(im: &[u32], context: &mut [u32])
     ensures { context.new ≡ decoded_functions im.now (count_of im.now Image.functions) context.old }
 {
-    let n = count_of(im, 4);
-    let mut k: u32 = 0;
-    while k < n {
+    for k in 0..count_of(im, Section::Functions) {
         decode_function(im, k, context);
-        k += 1;
     }
 }
 
 // Options and both counts are put into a context.
+#[tactic(auto, unfolding(crate::specs::Decoded::decoded_header))]
 fn decode_header(im: &[u32], context: &mut [u32])
     ensures { context.new ≡ decoded_header im.now context.old }
 {
-    set32(context, OPTIONS, get32(im, 1));
-    set32(context, IDENTIFIER_COUNT, count_of(im, 0));
-    set32(context, FUNCTION_COUNT, count_of(im, 4));
+    set(context, OPTIONS, word(im, 1));
+    set(
+        context,
+        IDENTIFIER_COUNT,
+        count_of(im, Section::Identifiers),
+    );
+    set(context, FUNCTION_COUNT, count_of(im, Section::Functions));
 }
 
 // All that the image says of a context is put into it.
 // "Interned effects, cached numbers, links and diagnostics start empty": the context was zero.
+#[tactic(auto, unfolding(crate::specs::Decoded::decoded_context))]
 pub fn decode_context(im: &[u32], context: &mut [u32])
     ensures { context.new ≡ decoded_context im.now context.old }
 {

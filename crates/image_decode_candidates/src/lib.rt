@@ -12,19 +12,18 @@ ghost use Rattle.image_decode.specs.Decoded.{decoded_candidate, decoded_candidat
 ghost use Rattle.lent_layout.specs.Layout.{candidate_table};
 
 use def_effects::{AliasingDiagnostic, Place};
-use image_class2::{cell, count_of};
+use image_class2::{Section, cell, count_of, creates_function};
 use image_decode::{kind_at, place_at, put_run};
 use lent_effect_write::put_effect;
 use lent_effects::AliasingEffect;
 use lent_layout::CANDIDATES;
-use lent_slices::wide32;
 use lent_tables::{put_field, put_place};
 
 // The diagnostic of candidate k.
 fn diagnostic_at(im: &[u32], k: u32) -> AliasingDiagnostic
     ensures { result ≡ Decoded.diagnostic_at im.now k }
 {
-    let identity = cell(im, 5, k, 3);
+    let identity = cell(im, Section::Candidates, k, 3);
     AliasingDiagnostic {
         identity,
         instance: identity,
@@ -36,7 +35,7 @@ fn diagnostic_at(im: &[u32], k: u32) -> AliasingDiagnostic
 fn first_at(im: &[u32], k: u32) -> Place
     ensures { result ≡ place_at im.now (Image.first_place im.now k) }
 {
-    place_at(im, cell(im, 5, k, 1))
+    place_at(im, cell(im, Section::Candidates, k, 1))
 }
 
 // The second place of candidate k.
@@ -44,81 +43,56 @@ fn first_at(im: &[u32], k: u32) -> Place
 fn second_at(im: &[u32], k: u32) -> Place
     ensures { result ≡ place_at im.now (Image.second_place im.now k) }
 {
-    place_at(im, cell(im, 5, k, 2))
+    place_at(im, cell(im, Section::Candidates, k, 2))
 }
 
 // The effect of candidate k, without captures.
 // A number that is no code reads as Render; such an image is refused before it is used.
+#[tactic(auto, unfolding(image_decode::specs::Decoded::head_at, image_decode::specs::Decoded::heads_at))]
 fn head_at(im: &[u32], k: u32) -> AliasingEffect
     ensures { result ≡ head_at im.now k }
 {
-    let code = cell(im, 5, k, 0);
-    match code {
-        0 => AliasingEffect::Freeze {
-            place: first_at(im, k),
-            reason: cell(im, 5, k, 4),
-        },
+    let place = first_at(im, k);
+    let from = place;
+    let into = second_at(im, k);
+    let reason = cell(im, Section::Candidates, k, 4);
+    match cell(im, Section::Candidates, k, 0) {
+        0 => AliasingEffect::Freeze { place, reason },
         1 => AliasingEffect::Mutate {
-            place: first_at(im, k),
-            reason: cell(im, 5, k, 3),
+            place,
+            reason: cell(im, Section::Candidates, k, 3),
         },
-        2 => AliasingEffect::MutateConditionally {
-            place: first_at(im, k),
-        },
-        3 => AliasingEffect::MutateTransitive {
-            place: first_at(im, k),
-        },
-        4 => AliasingEffect::MutateTransitiveConditionally {
-            place: first_at(im, k),
-        },
-        5 => AliasingEffect::Capture {
-            from: first_at(im, k),
-            into: second_at(im, k),
-        },
-        6 => AliasingEffect::Alias {
-            from: first_at(im, k),
-            into: second_at(im, k),
-        },
-        7 => AliasingEffect::MaybeAlias {
-            from: first_at(im, k),
-            into: second_at(im, k),
-        },
-        8 => AliasingEffect::Assign {
-            from: first_at(im, k),
-            into: second_at(im, k),
-        },
+        2 => AliasingEffect::MutateConditionally { place },
+        3 => AliasingEffect::MutateTransitive { place },
+        4 => AliasingEffect::MutateTransitiveConditionally { place },
+        5 => AliasingEffect::Capture { from, into },
+        6 => AliasingEffect::Alias { from, into },
+        7 => AliasingEffect::MaybeAlias { from, into },
+        8 => AliasingEffect::Assign { from, into },
         9 => AliasingEffect::Create {
-            into: second_at(im, k),
-            kind: kind_at(cell(im, 5, k, 3)),
-            reason: cell(im, 5, k, 4),
+            into,
+            kind: kind_at(cell(im, Section::Candidates, k, 3)),
+            reason,
         },
-        10 => AliasingEffect::CreateFrom {
-            from: first_at(im, k),
-            into: second_at(im, k),
-        },
-        11 => AliasingEffect::ImmutableCapture {
-            from: first_at(im, k),
-            into: second_at(im, k),
-        },
+        10 => AliasingEffect::CreateFrom { from, into },
+        11 => AliasingEffect::ImmutableCapture { from, into },
         13 => AliasingEffect::CreateFunction {
-            function: cell(im, 5, k, 5),
-            into: second_at(im, k),
+            function: cell(im, Section::Candidates, k, 5),
+            into,
         },
         14 => AliasingEffect::MutateFrozen {
-            place: first_at(im, k),
+            place,
             error: diagnostic_at(im, k),
         },
         15 => AliasingEffect::MutateGlobal {
-            place: first_at(im, k),
+            place,
             error: diagnostic_at(im, k),
         },
         16 => AliasingEffect::Impure {
-            place: first_at(im, k),
+            place,
             error: diagnostic_at(im, k),
         },
-        _ => AliasingEffect::Render {
-            place: first_at(im, k),
-        },
+        _ => AliasingEffect::Render { place },
     }
 }
 
@@ -132,39 +106,36 @@ fn decode_creation(im: &[u32], k: u32, xs: &mut [u32])
         (Image.captures_count im.now k)) (Image.function im.now k)
         (place_at im.now (Image.second_place im.now k))) }
 {
-    let i = wide32(k);
-    let first = cell(im, 5, k, 6);
-    let n = cell(im, 5, k, 7);
+    let i = k as usize;
+    let first = cell(im, Section::Candidates, k, 6);
+    let n = cell(im, Section::Candidates, k, 7);
     put_field(CANDIDATES, xs, i, 0, 13);
     put_place(CANDIDATES, xs, i, 6, 0, second_at(im, k));
-    put_field(CANDIDATES, xs, i, 14, cell(im, 5, k, 5));
+    put_field(CANDIDATES, xs, i, 14, cell(im, Section::Candidates, k, 5));
     put_field(CANDIDATES, xs, i, 17, n);
     put_run(CANDIDATES, xs, i, 18, im, first, n);
 }
 
 // Candidate k is written as its record.
 // Of all effects a CreateFunction alone has captures.
+#[tactic(auto, using(image_decode::proofs::Laws::Candidate::candidate_plain, image_decode::proofs::Laws::Candidate::candidate_creation))]
 fn decode_candidate(im: &[u32], k: u32, xs: &mut [u32])
     ensures { xs.new ≡ decoded_candidate im.now k xs.old }
 {
-    let code = cell(im, 5, k, 0);
-    if code == 13 {
+    if creates_function(im, k) {
         decode_creation(im, k, xs);
-        return;
+    } else {
+        put_effect(CANDIDATES, xs, k as usize, head_at(im, k), &[0]);
     }
-    let none = [0u32; 1];
-    put_effect(CANDIDATES, xs, wide32(k), head_at(im, k), &none);
 }
 
 // All candidates of the image are written as records.
 // As many as the header says, one after the other.
+#[tactic(auto, using(image_decode::proofs::Laws::Read::after_more, image_decode::proofs::Laws::Read::after_none), unfolding(image_decode::specs::Decoded::decoded_candidates))]
 pub fn decode_candidates(im: &[u32], xs: &mut [u32])
     ensures { xs.new ≡ decoded_candidates im.now (count_of im.now Image.candidates) xs.old }
 {
-    let n = count_of(im, 5);
-    let mut k: u32 = 0;
-    while k < n {
+    for k in 0..count_of(im, Section::Candidates) {
         decode_candidate(im, k, xs);
-        k += 1;
     }
 }

@@ -5,9 +5,8 @@ ghost use Rattle.std.specs.Prelude.{◌≡◌};
 ghost use Rattle.image_job.specs.Reading.{job_of, no_job};
 
 use def_effects::{Place, Session, Span};
-use image_class2::count_of;
+use image_class2::{Section, count_of, word};
 use image_decode::place_at;
-use lent_slices::get32;
 
 // What an image says beside its tables, or the number with which it is refused: the session to start with, lvalue and own function (+ 1, or 0),
 // how many identifiers are in its list, and how many candidates it has.
@@ -23,6 +22,7 @@ pub struct Job {
 
 // A refused image says nothing.
 // "With a number come zero effects and count."
+#[tactic(auto, unfolding(crate::specs::Reading::no_job))]
 pub fn no_job(refusal: u32) -> Job
     ensures { result ≡ no_job refusal }
 {
@@ -49,30 +49,24 @@ pub fn no_job(refusal: u32) -> Job
 
 // What the words of an accepted image say beside the tables.
 // "next number 1..512; lvalue's place index; own function + 1 or 0"; no access is recorded yet.
+#[tactic(auto, unfolding(crate::specs::Reading::job_of))]
 pub fn job_of(im: &[u32]) -> Job
     ensures { result ≡ job_of im.now }
 {
-    let next = get32(im, 2);
-    let lvalue = place_at(im, get32(im, 3));
-    let own = get32(im, 4);
-    let identifiers = count_of(im, 0);
-    let candidates = count_of(im, 5);
-    let span = Span {
-        start: 4294967295,
-        end: 4294967295,
-    };
-    let session = Session {
-        next,
-        access: 0,
-        span,
-        entries: 0,
-    };
     Job {
         refusal: 0,
-        session,
-        lvalue,
-        own,
-        identifiers,
-        candidates,
+        session: Session {
+            next: word(im, 2),
+            access: 0,
+            span: Span {
+                start: u32::MAX,
+                end: u32::MAX,
+            },
+            entries: 0,
+        },
+        lvalue: place_at(im, word(im, 3)),
+        own: word(im, 4),
+        identifiers: count_of(im, Section::Identifiers),
+        candidates: count_of(im, Section::Candidates),
     }
 }

@@ -19,10 +19,8 @@ fn put_effects(buffer: &mut [u8], output: &[u32], count: u32, from: u32, to: u32
     ensures { to ≤ from + 70 → WritesInto buffer.old buffer.new result (lines_from (to - from) from (effect_line output.now count)) }
 {
     let mut next: usize = 0;
-    let mut k = from;
-    while k < to {
+    for k in from..to {
         next = put_effect_line(buffer, next, output, count, k);
-        k += 1;
     }
     next
 }
@@ -34,10 +32,8 @@ fn put_values(buffer: &mut [u8], values: &[u64], from: u32, to: u32) -> usize
         → WritesInto buffer.old buffer.new result (lines_from (to - from) from (λ v. value_line v (value_at values.now v))) }
 {
     let mut next: usize = 0;
-    let mut v = from;
-    while v < to {
+    for v in from..to {
         next = put_value_line(buffer, next, values, v);
-        v += 1;
     }
     next
 }
@@ -47,10 +43,7 @@ fn put_values(buffer: &mut [u8], values: &[u64], from: u32, to: u32) -> usize
 fn put_refused_piece(buffer: &mut [u8], n: u32, k: u32) -> usize
     ensures { WritesInto buffer.old buffer.new result (refused_piece n k) }
 {
-    if k == 0 {
-        return put_refusal(buffer, n);
-    }
-    0
+    if k == 0 { put_refusal(buffer, n) } else { 0 }
 }
 
 // Piece k of a listing: the first line, a run of effects or of values, an identifier, or the last line.
@@ -64,26 +57,20 @@ fn put_listed_piece(
 ) -> usize
     ensures { WritesInto buffer.old buffer.new result (listed_piece shown values.now sets.now output.now k) }
 {
-    if k == 0 {
-        return put_head(buffer, shown.count, shown.entries);
+    match k {
+        0 => put_head(buffer, shown.count, shown.entries),
+        1..=16 => {
+            let from = 70 * (k - 1);
+            put_effects(buffer, output, shown.count, from, from + 70)
+        }
+        17..=27 => {
+            let from = 93 * (k - 17) + 1;
+            put_values(buffer, values, from, from + 93)
+        }
+        28..=539 => put_set_line(buffer, sets, k - 28),
+        540 => put_undefined(buffer, shown.access),
+        _ => 0,
     }
-    if k < 17 {
-        let from = 70 * (k - 1);
-        let to = from + 70;
-        return put_effects(buffer, output, shown.count, from, to);
-    }
-    if k < 28 {
-        let from = 93 * (k - 17) + 1;
-        let to = from + 93;
-        return put_values(buffer, values, from, to);
-    }
-    if k < 540 {
-        return put_set_line(buffer, sets, k - 28);
-    }
-    if k == 540 {
-        return put_undefined(buffer, shown.access);
-    }
-    0
 }
 
 // How many pieces a listing has.
@@ -96,6 +83,7 @@ pub fn piece_count() -> u32
 
 // Writes piece k of what `image_infer::infer_image` answered and left, from the first byte of the buffer on, and answers how long it is.
 // Any lists with any numbers in them may be lent. A buffer of `image_pieces::PIECE_BYTES` bytes suffices for each piece; a shorter one is left as it was.
+#[tactic(auto, using(image_pieces::proofs::Laws::Ways::puts_short))]
 pub fn put_piece(
     shown: Shown,
     k: u32,

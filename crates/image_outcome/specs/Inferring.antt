@@ -9,7 +9,7 @@ use Rattle.def_image.specs.Refusals.{refusal_of}
 use Rattle.def_image.specs.Listing.{refusal_line}
 use Rattle.image_job.specs.declared.Job.{Job}
 use Rattle.image_job.specs.Reading.{Tables, tables, job_of, filled, lent_wrong}
-use Rattle.call_outcome.specs.declared.Applied.{Applied}
+use Rattle.call_outcome.specs.Calls.{Answered}
 use Rattle.call_outcome.specs.Calls.{Call, Outcome, call, outcome}
 use Rattle.image_text.specs.Texts.{lent_listing}
 use Rattle.image_pieces.specs.declared.Shown.{Shown}
@@ -90,7 +90,7 @@ abbrev pub refused_as : ℕ → Shown
 refused_as n = record { refusal = n; count = 0; entries = 0; access = 0 }
 
 -- what is shown of what a call answers
-unfoldable pub answered : Applied → Shown
+unfoldable pub answered : Answered → Shown
 answered a =
     ite (eqb a.refusal 0) (record { refusal = 0; count = a.count; entries = a.entries; access = a.session.access }) (refused_as a.refusal)
 

@@ -1,6 +1,5 @@
 -- The pieces in which a listing is written, one after the other (document 01, 'The job image and its program'). Assumes nothing: these are definitions.
-use Rattle.std.specs.Prelude.{ℕ, ◌+◌, ◌-◌, ◌*◌, ◌≤◌, ◌≡◌, List, [], ◌∷◌, ◌++◌, eqb, ltb, length, drop}
-use Rattle.std.proofs.Math.Option.{some}
+use Rattle.std.specs.Prelude.{ℕ, ◌+◌, ◌-◌, ◌*◌, ◌≤◌, ◌≡◌, List, [], ◌∷◌, ◌++◌, eqb, ltb, length, drop, Some}
 use Rattle.base_tests.specs.Tests.{ite}
 use Rattle.lent_values.specs.Cells.{value_at}
 use Rattle.lent_sets.specs.Rows.{set_at}
@@ -41,7 +40,7 @@ value_run vs k = lines_from 93 k (λ v. value_line v (value_at vs v))
 -- "OK: effects, walk entries.", then E, V and P, then "U: first undefined identifier."
 unfoldable pub listed_piece : Shown → List ℕ → List ℕ → List ℕ → ℕ → List ℕ
 listed_piece s vs ss os k =
-    ite (eqb k 0) (line (ascii "OK") (some s.count ∷ some s.entries ∷ []))
+    ite (eqb k 0) (line (ascii "OK") (Some s.count ∷ Some s.entries ∷ []))
     (ite (ltb k 17) (effect_run os s.count (70 * (k - 1)))
     (ite (ltb k 28) (value_run vs (93 * (k - 17) + 1))
     (ite (ltb k 540) (set_line (k - 28) (set_at ss (k - 28)))

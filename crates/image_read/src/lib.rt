@@ -16,7 +16,6 @@ use image_decode::{decode_context, decode_sets, decode_values};
 use image_decode_candidates::decode_candidates;
 use image_job::{Job, job_of, no_job};
 use image_words::{length_wrong, load_words};
-use lent_copies::{clear32, clear64};
 use lent_layout::{CANDIDATE_WORDS, CONTEXT_WORDS};
 
 // The state of an image, in tables that may hold anything.
@@ -26,9 +25,9 @@ fn fill_state(im: &[u32], values: &mut [u64], sets: &mut [u64])
         ≡ decoded_values im.now (count_of im.now Image.values) (zeros (length values.old)))
         × (sets.new ≡ decoded_sets im.now (count_of im.now Image.pairs) (zeros (length sets.old))) }
 {
-    clear64(values);
+    values.fill(0);
     decode_values(im, values);
-    clear64(sets);
+    sets.fill(0);
     decode_sets(im, sets);
 }
 
@@ -37,7 +36,7 @@ fn fill_state(im: &[u32], values: &mut [u64], sets: &mut [u64])
 fn fill_context(im: &[u32], context: &mut [u32])
     ensures { context.new ≡ decoded_context im.now (zeros (length context.old)) }
 {
-    clear32(context);
+    context.fill(0);
     decode_context(im, context);
 }
 
@@ -48,7 +47,7 @@ fn fill_candidates(im: &[u32], candidates: &mut [u32])
         ≡ decoded_candidates im.now (count_of im.now Image.candidates)
         (zeros (length candidates.old)) }
 {
-    clear32(candidates);
+    candidates.fill(0);
     decode_candidates(im, candidates);
 }
 
@@ -79,6 +78,7 @@ fn read_words(
 
 // Whether a lent list has the wrong length: scratch for the words of an image, and the tables at their full size.
 // 16,384 words, 1,024 values, 512 rows of 16 words, a context, 64 records of 98 words.
+#[tactic(auto, unfolding(image_job::specs::Reading::lent_wrong))]
 fn lent_wrong(
     words: &[u32],
     values: &[u64],
@@ -90,19 +90,11 @@ fn lent_wrong(
         ≡ lent_wrong (length words.now) (length values.now) (length sets.now)
         (length context.now) (length candidates.now) }
 {
-    if words.len() != 16384 {
-        return true;
-    }
-    if values.len() != 1024 {
-        return true;
-    }
-    if sets.len() != 8192 {
-        return true;
-    }
-    if context.len() != CONTEXT_WORDS {
-        return true;
-    }
-    candidates.len() != CANDIDATE_WORDS
+    words.len() != 16384
+        || values.len() != 1024
+        || sets.len() != 8192
+        || context.len() != CONTEXT_WORDS
+        || candidates.len() != CANDIDATE_WORDS
 }
 
 // Reads a job image. Any bytes and any lists with any numbers in them may be lent.
@@ -121,16 +113,12 @@ pub fn read_image(
         (tables values.old sets.old context.old candidates.old))
         × Cleared words.old words.new }
 {
-    if lent_wrong(words, values, sets, context, candidates) {
-        clear32(words);
-        return no_job(1);
-    }
-    if length_wrong(bytes) {
-        clear32(words);
+    if lent_wrong(words, values, sets, context, candidates) || length_wrong(bytes) {
+        words.fill(0);
         return no_job(1);
     }
     let n = bytes.len() / 4;
     let job = read_words(bytes, &mut words[..n], values, sets, context, candidates);
-    clear32(words);
+    words.fill(0);
     job
 }

@@ -2,8 +2,9 @@
 // What was lent is cleared here too.
 #![tactic(auto)]
 
-ghost use Rattle.std.specs.Prelude.{◌≡◌, ◌-◌, ◌≤◌, ◌++◌, length, take};
-ghost use Rattle.call_outcome.specs.Calls.{outcome};
+ghost use Rattle.std.specs.Prelude.{◌≡◌, ◌-◌, ◌≤◌, ◌++◌, Bool, length, take};
+ghost use Rattle.call_outcome.specs.Calls.{outcome, told};
+ghost use Rattle.def_effects.specs.declared.Session.{Session as ASession};
 ghost use Rattle.image_job.specs.Reading.{tables};
 ghost use Rattle.image_outcome.specs.Inferring.{Fits, job_call, memory_wrong, refused_as, answered, keeps, settled, left};
 ghost use Rattle.image_outcome.specs.Promise.{left_by};
@@ -13,9 +14,10 @@ ghost use Rattle.lent_layout.specs.Layout as Layout;
 
 use call_apply::apply_signature;
 use call_outcome::Applied;
+use def_refusals::Refusal;
 use image_job::Job;
 use image_pieces::Shown;
-use lent_copies::{clear_scratch, clear32, clear64};
+use lent_copies::clear_scratch;
 use lent_layout::{EFFECT_WORDS, OUTPUT_WORDS, SAVED_WORDS};
 
 // ---- what is shown
@@ -35,40 +37,30 @@ pub fn refused(n: u32) -> Shown
 
 // What is shown of what the call for an instruction answered.
 // "OK: effects, walk entries."; "U: first undefined identifier."
-fn shown_of(applied: Applied) -> Shown
-    ensures { result ≡ answered applied }
+fn shown_of(answer: Result<Applied, Refusal>) -> Shown
+    ensures { (session : ASession) (flag : Bool) → result ≡ answered (told session flag answer) }
 {
-    if applied.refusal != 0 {
-        return refused(applied.refusal);
-    }
-    let after = applied.session;
-    Shown {
-        refusal: 0,
-        count: applied.count,
-        entries: applied.entries,
-        access: after.access,
+    match answer {
+        Ok(applied) => Shown {
+            refusal: 0,
+            count: applied.count,
+            entries: applied.entries,
+            access: applied.session.access,
+        },
+        Err(refusal) => refused(refusal.number()),
     }
 }
 
 // ---- the job
-
-// A number as wide as an index.
-// It always fits, so a caller has no cast to prove.
-fn wide(x: u32) -> usize
-    ensures { result ≡ x }
-{
-    x as usize
-}
 
 // The words from number m on become zero.
 // The rows of identifiers that are not in the list.
 fn clear_from(xs: &mut [u64], m: usize)
     ensures { m ≤ length xs.old → xs.new ≡ take m xs.old ++ zeros (length xs.old - m) }
 {
-    if m > xs.len() {
-        return;
+    if m <= xs.len() {
+        xs[m..].fill(0);
     }
-    clear64(&mut xs[m..]);
 }
 
 // The job of the tables that were read: the call is lent the rows of the identifiers and the records of the candidates, and as much scratch as it asks for.
@@ -93,28 +85,20 @@ pub fn run_tables(
         (tables values.old sets.old context.old
         candidates.now))) }
 {
-    let m = 16 * wide(job.identifiers);
-    let n = EFFECT_WORDS * wide(job.candidates);
+    let m = 16 * job.identifiers as usize;
+    let n = EFFECT_WORDS * job.candidates as usize;
     let e = 1024 + m;
-    if m > sets.len() {
+    if m > sets.len() || n > candidates.len() || e > scratch64.len() {
         return refused(1);
     }
-    if n > candidates.len() {
-        return refused(1);
-    }
-    if e > scratch64.len() {
-        return refused(1);
-    }
-    let session = job.session;
-    let lvalue = job.lvalue;
     let applied = apply_signature(
         values,
         &mut sets[..m],
         false,
         context,
-        session,
+        job.session,
         &candidates[..n],
-        lvalue,
+        job.lvalue,
         job.own,
         output,
         &mut scratch64[..e],
@@ -128,17 +112,12 @@ pub fn run_tables(
 
 // Whether the memory for the call has the wrong length.
 // The tables are tested where the image is read.
+#[tactic(auto, unfolding(image_outcome::specs::Inferring::memory_wrong))]
 pub fn memory_wrong(output: &[u32], scratch64: &[u64], scratch32: &[u32]) -> bool
     ensures { result
         ≡ memory_wrong (length output.now) (length scratch64.now) (length scratch32.now) }
 {
-    if output.len() != OUTPUT_WORDS {
-        return true;
-    }
-    if scratch64.len() != 9216 {
-        return true;
-    }
-    scratch32.len() != SAVED_WORDS
+    output.len() != OUTPUT_WORDS || scratch64.len() != 9216 || scratch32.len() != SAVED_WORDS
 }
 
 // What was read of an image becomes zero.
@@ -146,9 +125,9 @@ pub fn memory_wrong(output: &[u32], scratch64: &[u64], scratch32: &[u32]) -> boo
 fn clear_read(words: &mut [u32], context: &mut [u32], candidates: &mut [u32])
     ensures { Cleared words.old words.new × Cleared context.old context.new × Cleared candidates.old candidates.new }
 {
-    clear32(words);
-    clear32(context);
-    clear32(candidates);
+    words.fill(0);
+    context.fill(0);
+    candidates.fill(0);
 }
 
 // All that nothing is shown of becomes zero.
@@ -171,10 +150,9 @@ pub fn clear_work(
 pub fn settle(shown: Shown, values: &mut [u64], sets: &mut [u64], output: &mut [u32])
     ensures { left_by shown values.new sets.new output.new ≡ settled (left shown values.old sets.old output.old) }
 {
-    if shown.refusal == 0 {
-        return;
+    if shown.refusal != 0 {
+        values.fill(0);
+        sets.fill(0);
+        output.fill(0);
     }
-    clear64(values);
-    clear64(sets);
-    clear32(output);
 }

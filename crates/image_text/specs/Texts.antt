@@ -1,6 +1,5 @@
 -- A text written into a lent buffer, byte after byte, and the texts that code writes. Assumes nothing: these are definitions.
-use Rattle.std.specs.Prelude.{ℕ, suc, List, [], ◌∷◌, ◌++◌, ltb, length, set}
-use Rattle.std.proofs.Math.Option.{Option}
+use Rattle.std.specs.Prelude.{ℕ, suc, List, [], ◌∷◌, ◌++◌, ltb, length, set, Option}
 use Rattle.base_tests.specs.Tests.{ite}
 use Rattle.lent_values.specs.Cells.{value_at}
 use Rattle.lent_sets.specs.Rows.{set_at}

@@ -3,54 +3,8 @@
 // and the pieces of the listing in their order and nothing else, is these lines.
 #![tactic(auto)]
 
-ghost use Rattle.std.specs.Prelude.{◌≤◌, IfOk, length};
-
-use image_pieces::Shown;
 use std::io;
-use std::io::Read;
-
-// Reads until the buffer is full or the input ends, and answers how many bytes there were.
-fn read_full(input: &mut impl Read, buffer: &mut [u8]) -> io::Result<usize>
-    ensures { IfOk result (λ n. n ≤ length buffer.new) }
-{
-    let mut done = 0;
-    while done < buffer.len() {
-        let n = input.read(&mut buffer[done..])?;
-        if n == 0 {
-            break;
-        }
-        done += n;
-    }
-    Ok(done)
-}
-
-// A piece is written, and nothing else; of an empty one nothing.
-// It never runs past the buffer, so the test always passes; no contract of this program asks for it.
-fn show(rt: &impl Print, buffer: &[u8], length: usize) -> io::Result<()> {
-    if length <= buffer.len() {
-        rt.write_all(&buffer[..length])?;
-    }
-    Ok(())
-}
-
-// All pieces, one after the other.
-fn show_pieces(
-    rt: &impl Print,
-    shown: Shown,
-    values: &[u64],
-    sets: &[u64],
-    output: &[u32],
-    buffer: &mut [u8],
-) -> io::Result<()> {
-    let count = image_listing::piece_count();
-    let mut k: u32 = 0;
-    while k < count {
-        let length = image_listing::put_piece(shown, k, values, sets, output, buffer);
-        show(rt, buffer, length)?;
-        k += 1;
-    }
-    Ok(())
-}
+use test_bytes::read_full;
 
 // Standard input until its end; 65,537 bytes are enough to know that it is too long.
 // All memory that the job needs stands here, on the stack: 1.8 MB.
@@ -77,5 +31,12 @@ fn main(rt: HostRuntime) -> io::Result<()> {
         &mut scratch32,
     );
     let mut buffer = [0u8; image_pieces::PIECE_BYTES];
-    show_pieces(&rt, shown, &values, &sets, &output, &mut buffer)
+    for k in 0..image_listing::piece_count() {
+        let length = image_listing::put_piece(shown, k, &values, &sets, &output, &mut buffer);
+        // A piece never runs past the buffer, so the test always passes; no contract of this program asks for it.
+        if length <= buffer.len() {
+            rt.write_all(&buffer[..length])?;
+        }
+    }
+    Ok(())
 }

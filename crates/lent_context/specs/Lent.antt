@@ -1,9 +1,6 @@
 -- The tables of a context as one lent list of words: how each is read and written. Assumes nothing: these are definitions.
-use Rattle.std.specs.Prelude.{ℕ, zero, suc, ◌+◌, ◌*◌, ◌/◌, ◌%◌, Bool, not, ◌&&◌, List, [], ◌∷◌, eqb, ltb, get_or, set}
-use Rattle.std.proofs.Math.Option.{Option, none, some}
+use Rattle.std.specs.Prelude.{ℕ, zero, suc, ◌+◌, ◌*◌, ◌/◌, ◌%◌, Bool, not, ◌&&◌, List, [], ◌∷◌, eqb, ltb, get_or, set, Option, None, Some, Result, Ok, Err}
 use Rattle.base_tests.specs.Tests.{ite}
-use Rattle.base_search.specs.declared.Spot.{Spot}
-use Rattle.base_search.specs.declared.Spot.TheVariants.{At, Before}
 use Rattle.base_search.specs.Search.{along}
 use Rattle.def_effects.specs.declared.Span.{Span}
 use Rattle.def_effects.specs.declared.Place.{Place}
@@ -51,14 +48,14 @@ interned_key c r = effect_key (effect_in Layout.interned c r)
 
 -- where the order of the interned effects has a key, or would have it
 -- a search by halves, total on any words
-unfoldable pub effect_spot : List ℕ → EffectKey → Spot
+unfoldable pub effect_spot : List ℕ → EffectKey → Result ℕ ℕ
 effect_spot c k = along (λ j. compare_keys k (interned_key c (order_at Layout.effect_order c j))) (interned_count c)
 
 -- the interned effect at a place of the order, or none
 -- code finds places, the definition effects
-abbrev pub effect_at : List ℕ → Spot → Option AliasingEffect
-effect_at c (At j) = some (effect_in Layout.interned c (order_at Layout.effect_order c j))
-effect_at c (Before p) = none
+abbrev pub effect_at : List ℕ → Result ℕ ℕ → Option AliasingEffect
+effect_at c (Ok j) = Some (effect_in Layout.interned c (order_at Layout.effect_order c j))
+effect_at c (Err p) = None
 
 -- "The first effect under a key of `effect_key` is used ever after"
 -- where no two have one key and the order is right, the search finds it (`proofs/Laws/Ordered.antt`: `first_under_is`)
@@ -66,9 +63,9 @@ unfoldable pub find_effect : List ℕ → EffectKey → Option AliasingEffect
 find_effect c k = effect_at c (effect_spot c k)
 
 -- the place of the order where a search ended
-abbrev pub place_of : Spot → ℕ
-place_of (At j) = j
-place_of (Before p) = p
+abbrev pub place_of : Result ℕ ℕ → ℕ
+place_of (Ok j) = j
+place_of (Err p) = p
 
 -- an effect is appended, takes its place in the order, and is counted
 -- "a 2,049th key to intern" is refused before
@@ -97,14 +94,14 @@ key_count c = get_or c Layout.key_count 0
 
 -- where the order of the cached keys has a key, or would have it
 -- a search by halves, total on any words
-unfoldable pub key_spot : List ℕ → EffectKey → Spot
+unfoldable pub key_spot : List ℕ → EffectKey → Result ℕ ℕ
 key_spot c k = along (λ j. compare_keys k (key_here c (order_at Layout.key_order c j))) (key_count c)
 
 -- the number at a place of the order, or none
 -- a number without a key is none, so that what is found on any words has the key
-abbrev pub number_at : List ℕ → Spot → Option ℕ
-number_at c (At j) = ite (is_keyed c (order_at Layout.key_order c j)) (some (order_at Layout.key_order c j)) none
-number_at c (Before p) = none
+abbrev pub number_at : List ℕ → Result ℕ ℕ → Option ℕ
+number_at c (Ok j) = ite (is_keyed c (order_at Layout.key_order c j)) (Some (order_at Layout.key_order c j)) None
+number_at c (Err p) = None
 
 -- the fresh number that is cached under a key
 -- where no two have one key and the order is right, the search finds it (`proofs/Laws/Numbered.antt`: `number_is`)
@@ -132,7 +129,7 @@ link_of c v = option_in Layout.links c v 0
 
 -- a value stands for a function from now on
 unfoldable pub put_link : List ℕ → ℕ → ℕ → List ℕ
-put_link c v f = put_option Layout.links c v 0 (some f)
+put_link c v f = put_option Layout.links c v 0 (Some f)
 
 -- ---- functions
 

@@ -10,7 +10,7 @@ ghost use Rattle.lent_context.specs.Lent.{read_place};
 
 use def_effects::Span;
 use lent_layout::{CONTEXTS, FUNCTIONS, IDENTIFIERS, OPTIONS};
-use lent_slices::{get32, wide32};
+use lent_slices::get_or;
 use lent_tables::{field, put_field};
 
 // ---- functions
@@ -20,7 +20,7 @@ use lent_tables::{field, put_field};
 pub fn context_count(context: &[u32], f: u32) -> u32
     ensures { result ≡ Words.field Layout.functions context.now f 1 }
 {
-    field(FUNCTIONS, context, wide32(f), 1)
+    field(FUNCTIONS, context, f as usize, 1)
 }
 
 // Whether a function has a tracked side effect.
@@ -28,15 +28,15 @@ pub fn context_count(context: &[u32], f: u32) -> u32
 pub fn has_tracked_side_effect(context: &[u32], f: u32) -> bool
     ensures { result ≡ Lent.has_tracked_side_effect context.now f }
 {
-    field(FUNCTIONS, context, wide32(f), 0) / 2 % 2 == 1
+    field(FUNCTIONS, context, f as usize, 0) / 2 % 2 == 1
 }
 
 // Context place k of a function becomes Read if it is a Capture of identifier i.
 fn read_place(context: &mut [u32], f: u32, i: u32, k: u32)
     ensures { context.new ≡ read_place f i k context.old }
 {
-    let at = wide32(f);
-    let w = wide32(k) * 5;
+    let at = f as usize;
+    let w = k as usize * 5;
     if field(CONTEXTS, context, at, w) != i {
         return;
     }
@@ -52,10 +52,8 @@ pub fn make_read(context: &mut [u32], f: u32, i: u32)
     ensures { context.new ≡ Lent.make_read context.old f i }
 {
     let n = context_count(context, f);
-    let mut k: u32 = 0;
-    while k < n {
+    for k in 0..n {
         read_place(context, f, i, k);
-        k += 1;
     }
 }
 
@@ -66,7 +64,7 @@ pub fn make_read(context: &mut [u32], f: u32, i: u32)
 pub fn is_ref(context: &[u32], i: u32) -> bool
     ensures { result ≡ Lent.is_ref context.now i }
 {
-    field(IDENTIFIERS, context, wide32(i), 0) % 2 == 1
+    field(IDENTIFIERS, context, i as usize, 0) % 2 == 1
 }
 
 // Whether an identifier is hoisted.
@@ -74,15 +72,15 @@ pub fn is_ref(context: &[u32], i: u32) -> bool
 pub fn is_hoisted(context: &[u32], i: u32) -> bool
     ensures { result ≡ Lent.is_hoisted context.now i }
 {
-    field(IDENTIFIERS, context, wide32(i), 0) / 2 % 2 == 1
+    field(IDENTIFIERS, context, i as usize, 0) / 2 % 2 == 1
 }
 
 // The access span of an identifier.
 pub fn access_span(context: &[u32], i: u32) -> Span
     ensures { result ≡ Lent.access_span context.now i }
 {
-    let start = field(IDENTIFIERS, context, wide32(i), 2);
-    let end = field(IDENTIFIERS, context, wide32(i), 3);
+    let start = field(IDENTIFIERS, context, i as usize, 2);
+    let end = field(IDENTIFIERS, context, i as usize, 3);
     Span { start, end }
 }
 
@@ -91,7 +89,7 @@ pub fn access_span(context: &[u32], i: u32) -> Span
 pub fn name_of(context: &[u32], i: u32) -> u32
     ensures { result ≡ Lent.name_of context.now i }
 {
-    field(IDENTIFIERS, context, wide32(i), 1)
+    field(IDENTIFIERS, context, i as usize, 1)
 }
 
 // Whether a freeze is transitive.
@@ -99,5 +97,5 @@ pub fn name_of(context: &[u32], i: u32) -> u32
 pub fn is_transitive(context: &[u32]) -> bool
     ensures { result ≡ Lent.is_transitive context.now }
 {
-    get32(context, OPTIONS) != 0
+    get_or(context, OPTIONS, 0) != 0
 }

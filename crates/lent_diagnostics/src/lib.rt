@@ -4,14 +4,12 @@
 ghost use Rattle.std.specs.Prelude.{◌&&◌, ◌≡◌, eqb, max};
 ghost use Rattle.def_effects.specs.Places.{eq_span};
 ghost use Rattle.def_transfer.specs.Diagnostics.{same_identity, same_labels};
-ghost use Rattle.lent_keys.specs.KeyRecords.{option_of};
 ghost use Rattle.lent_context.specs.Lent as Lent;
 ghost use Rattle.lent_diagnostics.specs.Numbered.{interned_of};
 
 use def_effects::{Diagnostic, Span};
-use lent_keys::Found;
 use lent_layout::{DIAGNOSTIC_COUNT, DIAGNOSTICS};
-use lent_slices::{get32, wide32};
+use lent_slices::get_or;
 use lent_tables::{field, put_field};
 
 // A record of the table: a diagnostic with its identity.
@@ -82,14 +80,14 @@ pub fn same_labels(a: Diagnostic, b: Diagnostic) -> bool
 pub fn instance_count(context: &[u32]) -> u32
     ensures { result ≡ Lent.instance_count context.now }
 {
-    get32(context, DIAGNOSTIC_COUNT)
+    get_or(context, DIAGNOSTIC_COUNT, 0)
 }
 
 // Record k of the diagnostics.
 pub fn diagnostic_in(context: &[u32], k: u32) -> Numbered
     ensures { interned_of result ≡ Lent.diagnostic_in context.now k }
 {
-    let i = wide32(k);
+    let i = k as usize;
     let identity = field(DIAGNOSTICS, context, i, 0);
     let identifier = field(DIAGNOSTICS, context, i, 1);
     let case = field(DIAGNOSTICS, context, i, 2);
@@ -136,31 +134,27 @@ pub fn identity_count(context: &[u32]) -> u64
 {
     let n = instance_count(context);
     let mut most: u64 = 0;
-    let mut k: u32 = 0;
-    while k < n {
-        let identity = field(DIAGNOSTICS, context, wide32(k), 0);
+    for k in 0..n {
+        let identity = field(DIAGNOSTICS, context, k as usize, 0);
         most = larger(identity as u64 + 1, most);
-        k += 1;
     }
     most
 }
 
 // The identity of the first diagnostic with the same identifier, message and help.
 // This is the first look-up of intern_aliasing_diagnostic.
-pub fn find_identity(context: &[u32], d: Diagnostic) -> Found
-    ensures { option_of result ≡ Lent.find_identity context.now d }
+pub fn find_identity(context: &[u32], d: Diagnostic) -> Option<u32>
+    ensures { result ≡ Lent.find_identity context.now d }
 {
     let n = instance_count(context);
-    let mut k: u32 = 0;
-    while k < n {
+    for k in 0..n {
         let x = diagnostic_in(context, k);
         let other = x.diagnostic;
         if same_identity(d, other) {
-            return Found::At(x.identity);
+            return Some(x.identity);
         }
-        k += 1;
     }
-    Found::Nowhere
+    None
 }
 
 // Whether a record has an identity and the labels of a diagnostic.
@@ -176,18 +170,16 @@ pub fn is_instance(x: Numbered, identity: u32, d: Diagnostic) -> bool
 
 // The place of the first record with an identity and the labels of a diagnostic.
 // This is the second look-up of intern_aliasing_diagnostic.
-pub fn find_instance(context: &[u32], identity: u32, d: Diagnostic) -> Found
-    ensures { option_of result ≡ Lent.find_instance context.now identity d }
+pub fn find_instance(context: &[u32], identity: u32, d: Diagnostic) -> Option<u32>
+    ensures { result ≡ Lent.find_instance context.now identity d }
 {
     let n = instance_count(context);
-    let mut k: u32 = 0;
-    while k < n {
+    for k in 0..n {
         if is_instance(diagnostic_in(context, k), identity, d) {
-            return Found::At(k);
+            return Some(k);
         }
-        k += 1;
     }
-    Found::Nowhere
+    None
 }
 
 // A diagnostic with its identity is written as record k.
@@ -195,7 +187,7 @@ pub fn find_instance(context: &[u32], identity: u32, d: Diagnostic) -> Found
 pub fn put_diagnostic(context: &mut [u32], k: u32, identity: u32, d: Diagnostic)
     ensures { context.new ≡ Lent.put_diagnostic context.old k identity d }
 {
-    let i = wide32(k);
+    let i = k as usize;
     put_field(DIAGNOSTICS, context, i, 0, identity);
     put_field(DIAGNOSTICS, context, i, 1, d.identifier);
     put_field(DIAGNOSTICS, context, i, 2, d.case);

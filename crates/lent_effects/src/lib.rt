@@ -12,7 +12,7 @@ ghost use Rattle.lent_effects.specs.Records.{effect_in, captures_of, copied_capt
 use def_effects::{AliasingDiagnostic, Place};
 use def_kinds::ValueKind;
 use lent_layout::{ONE_RUN, RUN_WORDS};
-use lent_slices::set32;
+use lent_slices::set;
 use lent_tables::{Table, field, place_in, put_field, put_place};
 
 // An effect, without the captures of a CreateFunction: AliasingEffect of the Rust.
@@ -132,10 +132,8 @@ pub fn put_captures(t: Table, xs: &mut [u32], i: usize, captures: &[u32])
     ensures { xs.new ≡ put_places t xs.old i 18 0 (captures_of captures.now) }
 {
     let n = field(ONE_RUN, captures, 0, 0);
-    let mut k: u32 = 0;
-    while k < n {
+    for k in 0..n {
         put_place(t, xs, i, 18, k, place_in(ONE_RUN, captures, 0, 1, k));
-        k += 1;
     }
 }
 
@@ -144,9 +142,7 @@ pub fn put_captures(t: Table, xs: &mut [u32], i: usize, captures: &[u32])
 pub fn copy_captures(t: Table, xs: &[u32], i: usize, out: &mut [u32])
     ensures { out.new ≡ copied_captures t xs.now i out.old }
 {
-    let mut k: usize = 0;
-    while k < RUN_WORDS {
-        set32(out, k, field(t, xs, i, 17 + k));
-        k += 1;
+    for k in 0..RUN_WORDS {
+        set(out, k, field(t, xs, i, 17 + k));
     }
 }

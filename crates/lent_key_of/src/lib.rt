@@ -10,7 +10,7 @@ ghost use Rattle.lent_keys.specs.KeyRecords.{key_with};
 
 use def_effects::Place;
 use lent_effects::{AliasingEffect, kind_word};
-use lent_keys::{Found, Key};
+use lent_keys::Key;
 
 // The key of an effect with one place that is no destination.
 // Reason and identity are 0 where the key has none.
@@ -19,11 +19,11 @@ fn one_key(code: u32, p: Place, reason: u32, identity: u32) -> Key
 {
     Key {
         code,
-        from: Found::At(p.identifier),
-        into: Found::Nowhere,
+        from: Some(p.identifier),
+        into: None,
         kind: 0,
         reason,
-        function: Found::Nowhere,
+        function: None,
         identity,
         captured: false,
     }
@@ -36,11 +36,11 @@ pub fn two_key(code: u32, from: Place, into: Place) -> Key
 {
     Key {
         code,
-        from: Found::At(from.identifier),
-        into: Found::At(into.identifier),
+        from: Some(from.identifier),
+        into: Some(into.identifier),
         kind: 0,
         reason: 0,
-        function: Found::Nowhere,
+        function: None,
         identity: 0,
         captured: false,
     }
@@ -63,11 +63,11 @@ pub fn key_of(e: AliasingEffect) -> Key
         AliasingEffect::Assign { from, into } => two_key(8, from, into),
         AliasingEffect::Create { into, kind, reason } => Key {
             code: 9,
-            from: Found::Nowhere,
-            into: Found::At(into.identifier),
+            from: None,
+            into: Some(into.identifier),
             kind: kind_word(kind),
             reason,
-            function: Found::Nowhere,
+            function: None,
             identity: 0,
             captured: false,
         },
@@ -75,11 +75,11 @@ pub fn key_of(e: AliasingEffect) -> Key
         AliasingEffect::ImmutableCapture { from, into } => two_key(11, from, into),
         AliasingEffect::CreateFunction { function, into } => Key {
             code: 13,
-            from: Found::Nowhere,
-            into: Found::At(into.identifier),
+            from: None,
+            into: Some(into.identifier),
             kind: 0,
             reason: 0,
-            function: Found::At(function),
+            function: Some(function),
             identity: 0,
             captured: true,
         },

@@ -2,63 +2,21 @@
 #![tactic(auto)]
 
 ghost use Rattle.std.specs.Prelude.{◌≡◌, true};
-ghost use Rattle.base_search.specs.Comparings.{compare_numbers, compare_lists};
-ghost use Rattle.def_key_order.specs.KeyOrder.{optional};
-ghost use Rattle.lent_keys.specs.KeyRecords.{option_of, numbers_in};
+ghost use Rattle.base_search.specs.Comparings.{compare_lists};
+ghost use Rattle.lent_keys.specs.KeyRecords.{numbers_in};
 ghost use Rattle.lent_key_order.specs.Heads.{compare_heads};
 ghost use Rattle.lent_key_order.specs.Runs.{Past};
 
-use base_search::{Order, compare_numbers, first};
-use lent_keys::{Found, Key, number_in};
+use lent_keys::{Key, number_in};
 use lent_tables::Table;
-
-// Two numbers that may be absent.
-// Absent comes first.
-fn compare_options(a: Found, b: Found) -> Order
-    ensures { result ≡ compare_numbers (optional (option_of a)) (optional (option_of b)) }
-{
-    match a {
-        Found::Nowhere => match b {
-            Found::Nowhere => Order::Same,
-            Found::At(_) => Order::Less,
-        },
-        Found::At(x) => match b {
-            Found::Nowhere => Order::More,
-            Found::At(y) => compare_numbers(x, y),
-        },
-    }
-}
+use std::cmp::Ordering;
 
 // Two keys, but for their captures.
 // Code, source, destination; then kind, reason, function, identity.
-pub fn compare_heads(a: Key, b: Key) -> Order
+pub fn compare_heads(a: Key, b: Key) -> Ordering
     ensures { result ≡ compare_heads a b }
 {
-    let a_from = a.from;
-    let b_from = b.from;
-    let a_into = a.into;
-    let b_into = b.into;
-    let a_function = a.function;
-    let b_function = b.function;
-    first(
-        compare_numbers(a.code, b.code),
-        first(
-            compare_options(a_from, b_from),
-            first(
-                compare_options(a_into, b_into),
-                first(
-                    compare_numbers(a.kind, b.kind),
-                    first(
-                        compare_numbers(a.reason, b.reason),
-                        first(
-                            compare_options(a_function, b_function),
-                            compare_numbers(a.identity, b.identity),
-                        ),
-                    ),
-                ),
-            ),
-        ),
-    )
+    a.cmp(&b)
 }
 
 // Whether number k of two runs, s and r words apart, lies past the words of both records, as all after it do.
@@ -66,16 +24,7 @@ pub fn compare_heads(a: Key, b: Key) -> Order
 fn is_past(t: Table, s: u32, u: Table, r: u32, k: u32) -> bool
     ensures { result ≡ true → Past t s k × Past u r k }
 {
-    if s == 0 {
-        return false;
-    }
-    if r == 0 {
-        return false;
-    }
-    if k < t.width {
-        return false;
-    }
-    k >= u.width
+    s != 0 && r != 0 && k >= t.width && k >= u.width
 }
 
 // Two runs of numbers, each in a record: n of them from word w on, s words apart, against m.
@@ -93,32 +42,24 @@ pub fn compare_runs(
     v: u32,
     r: u32,
     m: u32,
-) -> Order
+) -> Ordering
     ensures { result ≡ compare_lists (numbers_in t xs.now i w s 0 n) (numbers_in u ys.now j v r 0 m) }
 {
-    let mut k: u32 = 0;
-    while k < n {
+    for k in 0..n {
         if k >= m {
-            return Order::More;
+            return Ordering::Greater;
         }
         if is_past(t, s, u, r, k) {
-            return compare_numbers(n, m);
+            return n.cmp(&m);
         }
-        let o = compare_numbers(number_in(t, xs, i, w, s, k), number_in(u, ys, j, v, r, k));
-        match o {
-            Order::Less => {
-                return Order::Less;
-            }
-            Order::Same => {
-                k += 1;
-            }
-            Order::More => {
-                return Order::More;
-            }
+        let o = number_in(t, xs, i, w, s, k).cmp(&number_in(u, ys, j, v, r, k));
+        if o.is_ne() {
+            return o;
         }
     }
     if n < m {
-        return Order::Less;
+        Ordering::Less
+    } else {
+        Ordering::Equal
     }
-    Order::Same
 }

@@ -1,30 +1,21 @@
 -- Keys of effects as the code holds them, and as records of words. Assumes nothing: these are definitions.
-use Rattle.std.specs.Prelude.{ℕ, zero, suc, ◌+◌, ◌*◌, List, [], ◌∷◌, eqb, length}
-use Rattle.std.proofs.Math.Option.{Option, none, some}
+use Rattle.std.specs.Prelude.{ℕ, zero, suc, ◌+◌, ◌*◌, List, [], ◌∷◌, eqb, length, Option, None, Some}
 use Rattle.base_tests.specs.Tests.{ite}
 use Rattle.def_effects.specs.Keys.{EffectKey}
 use Rattle.lent_tables.specs.declared.Table.{Table}
 use Rattle.lent_tables.specs.Words.{field, put_field}
-use Rattle.lent_keys.specs.declared.Found.{Found}
-use Rattle.lent_keys.specs.declared.Found.TheVariants.{Nowhere, At}
 use Rattle.lent_keys.specs.declared.Key.{Key}
-
--- a number that may be absent, of the code as an option
--- document 01 has absent numbers, and the language has no option
-abbrev pub option_of : Found → Option ℕ
-option_of Nowhere = none
-option_of (At n) = some n
 
 -- the key that the code holds, with the identifiers of the captures beside it
 -- only a key that has captures takes them
 unfoldable pub key_with : Key → List ℕ → EffectKey
 key_with k is = record {
   code = k.code;
-  from = option_of k.from;
-  into = option_of k.into;
+  from = k.from;
+  into = k.into;
   kind = k.kind;
   reason = k.reason;
-  function = option_of k.function;
+  function = k.function;
   identity = k.identity;
   captures = ite k.captured is [];
 }
@@ -47,18 +38,18 @@ put_numbers t c i w s k (x ∷ xs) = put_numbers t (put_field t c i (w + k * s) 
 -- a number that may be absent: 0, or 1 and the number
 -- two words, so that every number can stand there
 unfoldable pub option_in : Table → List ℕ → ℕ → ℕ → Option ℕ
-option_in t c i w = ite (eqb (field t c i w) 0) none (some (field t c i (w + 1)))
+option_in t c i w = ite (eqb (field t c i w) 0) None (Some (field t c i (w + 1)))
 
 -- the first word of a number that may be absent
 -- 0 for none
 abbrev flag_of : Option ℕ → ℕ
-flag_of none = 0
-flag_of (some n) = 1
+flag_of None = 0
+flag_of (Some n) = 1
 
 -- its second word
 abbrev number_of : Option ℕ → ℕ
-number_of none = 0
-number_of (some n) = n
+number_of None = 0
+number_of (Some n) = n
 
 -- the list with a number that may be absent written at word w of record i
 -- both words, so that nothing of an older one stays
@@ -82,7 +73,7 @@ key_head_in t c i is = record {
 -- the key of record i, or none
 -- word 0 says whether there is one
 unfoldable pub key_in : Table → List ℕ → ℕ → Option EffectKey
-key_in t c i = ite (eqb (field t c i 0) 0) none (some (key_head_in t c i (numbers_in t c i 12 1 0 (field t c i 11))))
+key_in t c i = ite (eqb (field t c i 0) 0) None (Some (key_head_in t c i (numbers_in t c i 12 1 0 (field t c i 11))))
 
 -- the list with a key written as record i, but for its captures
 unfoldable pub put_head : Table → List ℕ → ℕ → EffectKey → List ℕ

@@ -6,32 +6,25 @@ ghost use Rattle.def_effects.specs.Places.{identifiers};
 ghost use Rattle.base_tests.specs.Tests.{ite};
 ghost use Rattle.lent_tables.specs.Words as Words;
 ghost use Rattle.lent_effects.specs.Records.{captures_of};
-ghost use Rattle.lent_keys.specs.KeyRecords.{option_of, key_with, numbers_in, put_numbers, option_in, put_option, key_head_in, put_head, put_key};
+ghost use Rattle.lent_keys.specs.KeyRecords.{key_with, numbers_in, put_numbers, option_in, put_option, key_head_in, put_head, put_key};
 ghost use Rattle.lent_layout.specs.Layout.{one_run};
 
 use lent_layout::ONE_RUN;
-use lent_slices::wide32;
 use lent_tables::{Table, field, put_field};
 
-// A number that may be absent.
-// The language has no option; find functions answer with it too.
-#[derive(Clone, Copy)]
-pub enum Found {
-    Nowhere,
-    At(u32),
-}
-
 // The key of an effect (`effect_key` of the Rust), without the identifiers of its captures.
-// What a key does not hold is absent or 0.
+// What a key does not hold is absent or 0. Keys are compared part by part as they stand here; whether one has captures goes by its code.
 #[derive(Clone, Copy)]
+#[derive_where(PartialEq, Eq, PartialOrd, Ord)]
 pub struct Key {
     pub code: u32,
-    pub from: Found,
-    pub into: Found,
+    pub from: Option<u32>,
+    pub into: Option<u32>,
     pub kind: u32,
     pub reason: u32,
-    pub function: Found,
+    pub function: Option<u32>,
     pub identity: u32,
+    #[derive_where(skip(EqHashOrd))]
     pub captured: bool,
 }
 
@@ -40,7 +33,7 @@ pub struct Key {
 pub fn number_in(t: Table, xs: &[u32], i: usize, w: u32, s: u32, k: u32) -> u32
     ensures { result ≡ Words.field t xs.now i (w + k * s) }
 {
-    field(t, xs, i, wide32(w) + wide32(k) * wide32(s))
+    field(t, xs, i, w as usize + (k as usize) * (s as usize))
 }
 
 // How many captures a key has, of those that stand beside it.
@@ -58,28 +51,28 @@ pub fn taken(has: bool, n: u32) -> u32
 
 // A number that may be absent, at word w of record i: 0, or 1 and the number.
 // Two words, so that every number can stand there.
-pub fn option_in(t: Table, xs: &[u32], i: usize, w: u32) -> Found
-    ensures { option_of result ≡ option_in t xs.now i w }
+pub fn option_in(t: Table, xs: &[u32], i: usize, w: u32) -> Option<u32>
+    ensures { result ≡ option_in t xs.now i w }
 {
-    if field(t, xs, i, wide32(w)) == 0 {
-        return Found::Nowhere;
+    if field(t, xs, i, w as usize) == 0 {
+        return None;
     }
-    Found::At(field(t, xs, i, wide32(w) + 1))
+    Some(field(t, xs, i, w as usize + 1))
 }
 
 // A number that may be absent is written at word w of record i.
 // Where it is absent both words are zero.
-pub fn put_option(t: Table, xs: &mut [u32], i: usize, w: u32, o: Found)
-    ensures { xs.new ≡ put_option t xs.old i w (option_of o) }
+pub fn put_option(t: Table, xs: &mut [u32], i: usize, w: u32, o: Option<u32>)
+    ensures { xs.new ≡ put_option t xs.old i w o }
 {
     match o {
-        Found::Nowhere => {
-            put_field(t, xs, i, wide32(w), 0);
-            put_field(t, xs, i, wide32(w) + 1, 0);
+        None => {
+            put_field(t, xs, i, w as usize, 0);
+            put_field(t, xs, i, w as usize + 1, 0);
         }
-        Found::At(n) => {
-            put_field(t, xs, i, wide32(w), 1);
-            put_field(t, xs, i, wide32(w) + 1, n);
+        Some(n) => {
+            put_field(t, xs, i, w as usize, 1);
+            put_field(t, xs, i, w as usize + 1, n);
         }
     }
 }
@@ -113,11 +106,9 @@ pub fn head_in(t: Table, xs: &[u32], i: usize) -> Key
 fn put_identifiers(t: Table, xs: &mut [u32], i: usize, captures: &[u32], n: u32)
     ensures { xs.new ≡ put_numbers t xs.old i 12 1 0 (numbers_in one_run captures.now 0 1 5 0 n) }
 {
-    let mut k: u32 = 0;
-    while k < n {
+    for k in 0..n {
         let x = number_in(ONE_RUN, captures, 0, 1, 5, k);
-        put_field(t, xs, i, 12 + wide32(k), x);
-        k += 1;
+        put_field(t, xs, i, 12 + (k as usize), x);
     }
 }
 

@@ -90,7 +90,7 @@ pub const SAVED_WORDS: usize = 25347;
 
 pub const EFFECTS_FROM: usize = 37830;
 
-// The same for `lent_copies::copy32`, which counts in words of 32 bits: from where on, and how many.
+// The same for `lent_copies::copy`, which counts in words of 32 bits: from where on, and how many.
 pub const SAVED_FROM: u32 = 12483;
 
 pub const SAVED: u32 = 25347;

@@ -4,21 +4,21 @@
 ghost use Rattle.std.specs.Prelude.{◌≡◌};
 ghost use Rattle.def_effects.specs.Places.{identifiers};
 ghost use Rattle.lent_effects.specs.Records.{captures_of};
-ghost use Rattle.lent_keys.specs.KeyRecords.{option_of, key_with};
+ghost use Rattle.lent_keys.specs.KeyRecords.{key_with};
 ghost use Rattle.lent_context.specs.Lent as Lent;
 
 use lent_keys;
-use lent_keys::{Found, Key, option_in, put_option};
+use lent_keys::{Key, option_in, put_option};
 use lent_layout::{CACHED, INTERNED_COUNT, KEY_COUNT, KEY_ORDER, LINKS};
 use lent_order::insert;
-use lent_slices::{get32, set32, wide32};
+use lent_slices::{get_or, set};
 
 // How many effects are interned.
 // A word of its own before the tables that change.
 pub fn interned_count(context: &[u32]) -> u32
     ensures { result ≡ Lent.interned_count context.now }
 {
-    get32(context, INTERNED_COUNT)
+    get_or(context, INTERNED_COUNT, 0)
 }
 
 // How many numbers have a key.
@@ -26,7 +26,7 @@ pub fn interned_count(context: &[u32]) -> u32
 pub fn key_count(context: &[u32]) -> u32
     ensures { result ≡ Lent.key_count context.now }
 {
-    get32(context, KEY_COUNT)
+    get_or(context, KEY_COUNT, 0)
 }
 
 // One more, as long as a word can count it.
@@ -46,17 +46,17 @@ pub fn put_key(context: &mut [u32], p: u32, n: u32, key: Key, captures: &[u32])
         ≡ Lent.cached_at context.old p n (key_with key (identifiers (captures_of captures.now))) }
 {
     let count = key_count(context);
-    lent_keys::put_key(CACHED, context, wide32(n), key, captures);
+    lent_keys::put_key(CACHED, context, n as usize, key, captures);
     insert(KEY_ORDER, context, count, p, n);
-    set32(context, KEY_COUNT, one_more(count));
+    set(context, KEY_COUNT, one_more(count));
 }
 
 // The function of a value.
 // Values without a function are the most.
-pub fn link_of(context: &[u32], v: u32) -> Found
-    ensures { option_of result ≡ Lent.link_of context.now v }
+pub fn link_of(context: &[u32], v: u32) -> Option<u32>
+    ensures { result ≡ Lent.link_of context.now v }
 {
-    option_in(LINKS, context, wide32(v), 0)
+    option_in(LINKS, context, v as usize, 0)
 }
 
 // A value gets a function.
@@ -64,5 +64,5 @@ pub fn link_of(context: &[u32], v: u32) -> Found
 pub fn put_link(context: &mut [u32], v: u32, f: u32)
     ensures { context.new ≡ Lent.put_link context.old v f }
 {
-    put_option(LINKS, context, wide32(v), 0, Found::At(f));
+    put_option(LINKS, context, v as usize, 0, Some(f));
 }

@@ -5,9 +5,11 @@ ghost use Rattle.std.specs.Prelude.{◌≡◌, length, eqb};
 ghost use Rattle.std.specs.Int.Count.{ones};
 ghost use Rattle.lent_sets.specs.Rows.{number, set_at, next_member, row_number};
 ghost use Rattle.base_sets.specs.Members.{values_of};
+ghost use Rattle.lent_members.specs.Members.{rest};
+ghost use Rattle.std.specs.Iterator.{YieldsFirst, item_count};
 
 use lent_sets::{is_defined, row_word};
-use lent_slices::get64;
+use lent_slices::get_or;
 
 // The lowest member of row i from `from` on, or 1,024.
 // A loop over the values of a set goes by it; a word without members is one step.
@@ -25,16 +27,50 @@ pub fn next_member(rows: &[u64], i: u32, from: u32) -> u32
     v
 }
 
+// The members of the set of an identifier, ascending: an iterator that looks for the next from a place of the row on.
+#[derive(Drop)]
+pub struct MemberIter<'a> {
+    rows: &'a [u64],
+    i: u32,
+    from: u32,
+}
+
+impl<'a> Iterator for MemberIter<'a> {
+    type Item = u32;
+
+    ghost next_gives = { YieldsFirst rest };
+
+    ghost remaining = { item_count rest };
+
+    #[tactic(auto, using(crate::proofs::Laws::Members::some_left, crate::proofs::Laws::Members::none_left))]
+    fn next(&mut self) -> Option<u32> {
+        let v = next_member(self.rows, self.i, self.from);
+        if v < 1024 {
+            self.from = v + 1;
+            Some(v)
+        } else {
+            None
+        }
+    }
+}
+
+// The values of the set of identifier i, one after the other; none where it is not defined.
+#[tactic(auto, using(crate::proofs::Laws::Members::all_left, crate::proofs::Laws::Members::no_left))]
+pub fn members<'a>(rows: &'a [u64], i: u32) -> MemberIter<'a>
+    ensures { rest result ≡ values_of (set_at rows.now i) }
+{
+    let from = if is_defined(rows, i) { 1 } else { 1024 };
+    MemberIter { rows, i, from }
+}
+
 // How many bits of row i are set, with the one that says that it is defined.
 // The sum of the counts of its words.
 fn count_bits(rows: &[u64], i: u32) -> u32
     ensures { result ≡ ones (row_number rows.now i) }
 {
     let mut n: u32 = 0;
-    let mut w: u32 = 0;
-    while w < 16 {
+    for w in 0u32..16 {
         n += u64::count_ones(row_word(rows, i, w));
-        w += 1;
     }
     n
 }
@@ -56,13 +92,11 @@ pub fn size(rows: &[u64], i: u32) -> u32
 pub fn is_empty(acc: &[u64]) -> bool
     ensures { result ≡ eqb (number 16 acc.now 0) 0 }
 {
-    let mut w: usize = 0;
-    while w < 16 {
-        let x = get64(acc, w);
+    for w in 0usize..16 {
+        let x = get_or(acc, w, 0);
         if x != 0 {
             return false;
         }
-        w += 1;
     }
     true
 }

@@ -5,7 +5,6 @@
 ghost use Rattle.std.specs.Prelude.{◌≡◌};
 ghost use Rattle.lent_order.specs.Order.{order_at, inserted};
 
-use lent_slices::wide32;
 use lent_tables::{Table, field, put_field};
 
 // The record that comes j-th.
@@ -13,7 +12,7 @@ use lent_tables::{Table, field, put_field};
 pub fn order_at(t: Table, xs: &[u32], j: u32) -> u32
     ensures { result ≡ order_at t xs.now j }
 {
-    field(t, xs, wide32(j), 0)
+    field(t, xs, j as usize, 0)
 }
 
 // Record r comes p-th of n + 1: those from p on move up by one, from the last one down.
@@ -22,9 +21,9 @@ pub fn insert(t: Table, xs: &mut [u32], n: u32, p: u32, r: u32)
 {
     let mut k = n;
     while k > p {
-        let x = field(t, xs, wide32(k - 1), 0);
-        put_field(t, xs, wide32(k), 0, x);
+        let x = field(t, xs, (k - 1) as usize, 0);
+        put_field(t, xs, k as usize, 0, x);
         k -= 1;
     }
-    put_field(t, xs, wide32(p), 0, r);
+    put_field(t, xs, p as usize, 0, r);
 }

@@ -1,148 +1,153 @@
 // What the context has under a key: the interned effect, the cached number, each by halves along the order of their keys.
 #![tactic(auto)]
 
-ghost use Rattle.std.specs.Prelude.{◌≡◌, ◌+◌};
+ghost use Rattle.std.specs.Prelude.{◌≡◌, ◌+◌, ℕ};
+ghost use Rattle.std.specs.declared.cmp.Ordering.{Ordering as AnOrdering};
+ghost use Rattle.lent_order.specs.Order as Order;
+ghost use Rattle.base_search.specs.Search.{along};
+ghost use Rattle.lent_search.specs.Searches.{Compares};
 ghost use Rattle.def_effects.specs.Keys.{effect_key};
 ghost use Rattle.def_effects.specs.Places.{identifiers};
 ghost use Rattle.def_key_order.specs.KeyOrder.{compare_keys};
 ghost use Rattle.lent_effects.specs.Records.{effect_in, captures_of};
-ghost use Rattle.lent_keys.specs.KeyRecords.{option_of, key_with};
+ghost use Rattle.lent_keys.specs.KeyRecords.{key_with};
 ghost use Rattle.lent_layout.specs.Layout as Layout;
 ghost use Rattle.lent_context.specs.Lent as Lent;
 
-use base_search::{Order, Spot};
 use lent_effect_read::effect_in;
 use lent_key_of::key_of;
 use lent_key_order::{compare_heads, compare_runs};
-use lent_keys::{Found, Key, head_in, taken};
+use lent_keys::{Key, head_in, taken};
 use lent_layout::{CACHED, EFFECT_ORDER, INTERNED, KEY_ORDER, ONE_RUN};
 use lent_links::{interned_count, key_count};
 use lent_order::order_at;
-use lent_slices::wide32;
 use lent_tables::field;
+use std::cmp::Ordering;
 
 // A key against that of interned effect k; the key's captures stand beside it, the record's in the record.
 // Captures are compared only where the rest is equal.
-pub fn compare_effect(context: &[u32], k: u32, key: Key, captures: &[u32]) -> Order
+pub fn compare_effect(context: &[u32], k: u32, key: Key, captures: &[u32]) -> Ordering
     ensures { result
         ≡ compare_keys (key_with key (identifiers (captures_of captures.now)))
         (effect_key (effect_in Layout.interned context.now k)) }
 {
-    let i = wide32(k);
+    let i = k as usize;
     let other = key_of(effect_in(INTERNED, context, i));
     let heads = compare_heads(key, other);
     match heads {
-        Order::Less => Order::Less,
-        Order::Same => {
+        Ordering::Less => Ordering::Less,
+        Ordering::Equal => {
             let n = taken(key.captured, field(ONE_RUN, captures, 0, 0));
             let m = taken(other.captured, field(INTERNED, context, i, 17));
             compare_runs(
                 ONE_RUN, captures, 0, 1, 5, n, INTERNED, context, i, 18, 5, m,
             )
         }
-        Order::More => Order::More,
+        Ordering::Greater => Ordering::Greater,
     }
 }
 
-// Where the order of the interned effects has a key, or would have it.
-// By halves; on any words it ends.
-pub fn find_effect(context: &[u32], key: Key, captures: &[u32]) -> Spot
-    ensures { result ≡ Lent.effect_spot context.now (key_with key (identifiers (captures_of captures.now))) }
+// A search by halves among n places: `compare` says how what is sought compares with what stands at a place.
+// Whatever it says, the search ends.
+fn search<F: Fn(u32) -> Ordering>(n: u32, compare: F) -> Result<u32, u32>
+    requires { F.IsAlwaysCallable compare }
+    ensures { (c : ℕ → AnOrdering) → Compares (F.post compare) c n → result ≡ along c n }
 {
-    let n = interned_count(context);
     let mut lo: u32 = 0;
     let mut hi: u32 = n;
     while lo < hi {
         let mid = lo + (hi - lo) / 2;
-        let k = order_at(EFFECT_ORDER, context, mid);
-        let o = compare_effect(context, k, key, captures);
+        let o = compare(mid);
         match o {
-            Order::Less => {
+            Ordering::Less => {
                 hi = mid;
             }
-            Order::Same => {
-                return Spot::At(mid);
+            Ordering::Equal => {
+                return Ok(mid);
             }
-            Order::More => {
+            Ordering::Greater => {
                 lo = mid + 1;
             }
         }
     }
-    Spot::Before(lo)
+    Err(lo)
+}
+
+// Where the order of the interned effects has a key, or would have it.
+// By halves; on any words it ends.
+pub fn find_effect(context: &[u32], key: Key, captures: &[u32]) -> Result<u32, u32>
+    ensures { result ≡ Lent.effect_spot context.now (key_with key (identifiers (captures_of captures.now))) }
+{
+    search(
+        interned_count(context),
+        |j: u32| -> Ordering
+            ensures { result
+                ≡ compare_keys (key_with key (identifiers (captures_of captures.entry.now)))
+                (Lent.interned_key context.entry.now (Order.order_at Layout.effect_order context.entry.now j)) }
+        { compare_effect(context, order_at(EFFECT_ORDER, context, j), key, captures) },
+    )
 }
 
 // ---- cached numbers
 
 // A key against that of number v; the key's captures stand beside it, the number's in its record.
 // Captures are compared only where the rest is equal.
-pub fn compare_key(context: &[u32], v: u32, key: Key, captures: &[u32]) -> Order
+pub fn compare_key(context: &[u32], v: u32, key: Key, captures: &[u32]) -> Ordering
     ensures { result
         ≡ compare_keys (key_with key (identifiers (captures_of captures.now)))
         (Lent.key_here context.now v) }
 {
-    let i = wide32(v);
+    let i = v as usize;
     let other = head_in(CACHED, context, i);
     let heads = compare_heads(key, other);
     match heads {
-        Order::Less => Order::Less,
-        Order::Same => {
+        Ordering::Less => Ordering::Less,
+        Ordering::Equal => {
             let n = taken(key.captured, field(ONE_RUN, captures, 0, 0));
             let m = field(CACHED, context, i, 11);
             compare_runs(ONE_RUN, captures, 0, 1, 5, n, CACHED, context, i, 12, 1, m)
         }
-        Order::More => Order::More,
+        Ordering::Greater => Ordering::Greater,
     }
 }
 
 // Where the order of the cached keys has a key, or would have it.
 // By halves; on any words it ends.
-pub fn find_key(context: &[u32], key: Key, captures: &[u32]) -> Spot
+pub fn find_key(context: &[u32], key: Key, captures: &[u32]) -> Result<u32, u32>
     ensures { result ≡ Lent.key_spot context.now (key_with key (identifiers (captures_of captures.now))) }
 {
-    let n = key_count(context);
-    let mut lo: u32 = 0;
-    let mut hi: u32 = n;
-    while lo < hi {
-        let mid = lo + (hi - lo) / 2;
-        let v = order_at(KEY_ORDER, context, mid);
-        let o = compare_key(context, v, key, captures);
-        match o {
-            Order::Less => {
-                hi = mid;
-            }
-            Order::Same => {
-                return Spot::At(mid);
-            }
-            Order::More => {
-                lo = mid + 1;
-            }
-        }
-    }
-    Spot::Before(lo)
+    search(
+        key_count(context),
+        |j: u32| -> Ordering
+            ensures { result
+                ≡ compare_keys (key_with key (identifiers (captures_of captures.entry.now)))
+                (Lent.key_here context.entry.now (Order.order_at Layout.key_order context.entry.now j)) }
+        { compare_key(context, order_at(KEY_ORDER, context, j), key, captures) },
+    )
 }
 
 // The number at the place of the order where a search ended, if it has a key.
-pub fn number_at(context: &[u32], spot: Spot) -> Found
-    ensures { option_of result ≡ Lent.number_at context.now spot }
+pub fn number_at(context: &[u32], spot: Result<u32, u32>) -> Option<u32>
+    ensures { result ≡ Lent.number_at context.now spot }
 {
     match spot {
-        Spot::At(j) => {
+        Ok(j) => {
             let v = order_at(KEY_ORDER, context, j);
-            if field(CACHED, context, wide32(v), 0) == 0 {
-                return Found::Nowhere;
+            if field(CACHED, context, v as usize, 0) == 0 {
+                return None;
             }
-            Found::At(v)
+            Some(v)
         }
-        Spot::Before(_) => Found::Nowhere,
+        Err(_) => None,
     }
 }
 
 // The place of the order where a search ended.
-pub fn place_of(spot: Spot) -> u32
+pub fn place_of(spot: Result<u32, u32>) -> u32
     ensures { result ≡ Lent.place_of spot }
 {
     match spot {
-        Spot::At(j) => j,
-        Spot::Before(p) => p,
+        Ok(j) => j,
+        Err(p) => p,
     }
 }

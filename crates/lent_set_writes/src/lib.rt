@@ -13,10 +13,8 @@ use lent_sets::{add_value, is_defined, marked_word, member_word, or_word, set_wo
 fn add_words(acc: &mut [u64], rows: &[u64], i: u32)
     ensures { acc.new ≡ add_set acc.old (even_row rows.now i) }
 {
-    let mut w: u32 = 0;
-    while w < 16 {
+    for w in 0u32..16 {
         or_word(acc, w, member_word(rows, i, w));
-        w += 1;
     }
 }
 
@@ -35,11 +33,9 @@ pub fn add_set(acc: &mut [u64], rows: &[u64], i: u32)
 pub fn put_set(rows: &mut [u64], i: u32, acc: &[u64])
     ensures { rows.new ≡ put_set rows.old i (number 16 acc.now 0) }
 {
-    let mut w: u32 = 0;
-    while w < 16 {
+    for w in 0u32..16 {
         let x = marked_word(acc, w);
         set_word(rows, i, w, x);
-        w += 1;
     }
 }
 

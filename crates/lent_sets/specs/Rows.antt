@@ -1,7 +1,6 @@
 -- Rows of 1,024 bits in a list of words: row i is the words 16 i .. 16 i + 15, read as one number, lowest word first.
 -- Bit 0 of a row says that the identifier is defined, bit v that value v is in its set. Assumes nothing: these are definitions.
-use Rattle.std.specs.Prelude.{ℕ, zero, suc, ◌+◌, ◌-◌, ◌*◌, ◌/◌, ◌%◌, ◌^◌, List, get_or, set}
-use Rattle.std.proofs.Math.Option.{Option, none, some}
+use Rattle.std.specs.Prelude.{ℕ, zero, suc, ◌+◌, ◌-◌, ◌*◌, ◌/◌, ◌%◌, ◌^◌, List, get_or, set, Option, None, Some}
 use Rattle.std.specs.Int.Bits.{bit_or}
 use Rattle.base_sets.specs.Members.{digits_from}
 
@@ -61,8 +60,8 @@ word_of n w = n / 2 ^ (64 * w) % 2 ^ 64
 -- the set of a row whose lowest bit is d and whose number is n: none where d is 0, else n without bit 0
 -- a function of d, so that a law goes by cases on it
 abbrev pub marked : ℕ → ℕ → Option ℕ
-marked zero n = none
-marked (suc d) n = some (n - 1)
+marked zero n = None
+marked (suc d) n = Some (n - 1)
 
 -- the set of identifier i, none where it is not defined
 -- the table of sets that the transfer asks for
@@ -87,8 +86,8 @@ put_set rs i s = put_row rs i (bit_or s 1)
 -- what `copy_set` does with the set that it found
 -- an identifier that is not defined gives nothing
 abbrev pub copied : List ℕ → ℕ → Option ℕ → List ℕ
-copied rs into none = rs
-copied rs into (some s) = put_set rs into s
+copied rs into None = rs
+copied rs into (Some s) = put_set rs into s
 
 -- `into` gets the set of `from`, where that is defined
 -- the copy of `assign`
@@ -98,9 +97,9 @@ copy_set rs into from = copied rs into (set_at rs from)
 -- what `append_set` does with the two sets that it found
 -- unless both are there nothing changes
 abbrev pub appended : List ℕ → ℕ → Option ℕ → Option ℕ → List ℕ
-appended rs place none new = rs
-appended rs place (some s) none = rs
-appended rs place (some s) (some t) = put_set rs place (bit_or s t)
+appended rs place None new = rs
+appended rs place (Some s) None = rs
+appended rs place (Some s) (Some t) = put_set rs place (bit_or s t)
 
 -- `place` gets the values of `value` too, where both are defined
 -- the union of `append_alias`

@@ -7,14 +7,14 @@ ghost use Rattle.std.specs.Int.Bits.{bit_or};
 ghost use Rattle.lent_sets.specs.Rows.{row_word, set_word, number, word_of, set_at, member_word, add_set};
 ghost use Rattle.base_tests.specs.Tests.{is_some};
 
-use lent_slices::{get64, set64, wide32};
+use lent_slices::{get_or, set};
 
 // Word w of row i, or 0 past the end.
 // Every read of a row goes through it.
 pub fn row_word(rows: &[u64], i: u32, w: u32) -> u64
     ensures { result ≡ row_word rows.now i w }
 {
-    get64(rows, wide32(i) * 16 + wide32(w))
+    get_or(rows, i as usize * 16 + (w as usize), 0)
 }
 
 // Word w of row i becomes x; past the end nothing changes.
@@ -22,7 +22,7 @@ pub fn row_word(rows: &[u64], i: u32, w: u32) -> u64
 pub fn set_word(rows: &mut [u64], i: u32, w: u32, x: u64)
     ensures { rows.new ≡ set_word rows.old i w x }
 {
-    set64(rows, wide32(i) * 16 + wide32(w), x);
+    set(rows, i as usize * 16 + (w as usize), x);
 }
 
 // Whether identifier i is defined: bit 0 of its row.
@@ -46,9 +46,9 @@ pub fn member_word(rows: &[u64], i: u32, w: u32) -> u64
 pub fn or_word(acc: &mut [u64], w: u32, x: u64)
     ensures { acc.new ≡ set acc.old w (bit_or (get_or acc.old w 0) x) }
 {
-    let k = wide32(w);
-    let y = get64(acc, k);
-    set64(acc, k, y | x);
+    let k = w as usize;
+    let y = get_or(acc, k, 0);
+    set(acc, k, y | x);
 }
 
 // A set in hand gets the value v too; a v past 1,023 adds nothing.
@@ -65,7 +65,7 @@ pub fn add_value(acc: &mut [u64], v: u32)
 pub fn marked_word(acc: &[u64], w: u32) -> u64
     ensures { result ≡ word_of (bit_or (number 16 acc.now 0) 1) w }
 {
-    let x = get64(acc, wide32(w));
+    let x = get_or(acc, w as usize, 0);
     if w == 0 {
         return x | 1;
     }

@@ -6,7 +6,7 @@ ghost use Rattle.std.specs.Prelude.{◌≡◌, ◌+◌, ◌*◌};
 ghost use Rattle.lent_tables.specs.Words.{field, put_field, place_in, put_place};
 
 use def_effects::{Place, Span};
-use lent_slices::{get32, set32, wide32};
+use lent_slices::{get_or, set};
 
 // A table in a lent slice: where it begins, how many records it has, and how many words each.
 // The tables of a context and the records of effects are given by these three numbers.
@@ -22,26 +22,26 @@ pub struct Table {
 pub fn field(t: Table, xs: &[u32], i: usize, w: usize) -> u32
     ensures { result ≡ field t xs.now i w }
 {
-    if i >= wide32(t.count) {
+    if i >= (t.count as usize) {
         return 0;
     }
-    if w >= wide32(t.width) {
+    if w >= (t.width as usize) {
         return 0;
     }
-    get32(xs, wide32(t.base) + i * wide32(t.width) + w)
+    get_or(xs, t.base as usize + i * (t.width as usize) + w, 0)
 }
 
 // Word w of record i becomes x; nothing changes where the table has no such word.
 pub fn put_field(t: Table, xs: &mut [u32], i: usize, w: usize, x: u32)
     ensures { xs.new ≡ put_field t xs.old i w x }
 {
-    if i >= wide32(t.count) {
+    if i >= (t.count as usize) {
         return;
     }
-    if w >= wide32(t.width) {
+    if w >= (t.width as usize) {
         return;
     }
-    set32(xs, wide32(t.base) + i * wide32(t.width) + w, x);
+    set(xs, t.base as usize + i * (t.width as usize) + w, x);
 }
 
 // Place k of a run of places that begins at word `first` of record i.
@@ -49,7 +49,7 @@ pub fn put_field(t: Table, xs: &mut [u32], i: usize, w: usize, x: u32)
 pub fn place_in(t: Table, xs: &[u32], i: usize, first: u32, k: u32) -> Place
     ensures { result ≡ place_in t xs.now i (first + k * 5) }
 {
-    let w = wide32(first) + wide32(k) * 5;
+    let w = first as usize + (k as usize) * 5;
     let identifier = field(t, xs, i, w);
     let effect = field(t, xs, i, w + 1);
     let reactive = field(t, xs, i, w + 2);
@@ -69,7 +69,7 @@ pub fn place_in(t: Table, xs: &[u32], i: usize, first: u32, k: u32) -> Place
 pub fn put_place(t: Table, xs: &mut [u32], i: usize, first: u32, k: u32, p: Place)
     ensures { xs.new ≡ put_place t xs.old i (first + k * 5) p }
 {
-    let w = wide32(first) + wide32(k) * 5;
+    let w = first as usize + (k as usize) * 5;
     put_field(t, xs, i, w, p.identifier);
     put_field(t, xs, i, w + 1, p.effect);
     put_field(t, xs, i, w + 2, p.reactive);

@@ -1,20 +1,12 @@
 -- The values of a state as words: 0 for no entry, else 1 + kind in the three low bits and the reasons above. Assumes nothing: these are definitions.
-use Rattle.std.specs.Prelude.{ℕ, ◌+◌, ◌-◌, ◌*◌, ◌/◌, ◌%◌, true, false, List, eqb, get_or, set}
-use Rattle.std.proofs.Math.Option.{Option, none, some}
+use Rattle.std.specs.Prelude.{ℕ, ◌+◌, ◌-◌, ◌*◌, ◌/◌, ◌%◌, true, false, List, eqb, get_or, set, Option, None, Some}
 use Rattle.def_kinds.specs.declared.AbstractValue.{AbstractValue}
 use Rattle.def_kinds.specs.Kinds.{code_of, kind_at}
 use Rattle.def_kinds.specs.Values.{mk}
-use Rattle.lent_values.specs.declared.Entry.{Entry}
-use Rattle.lent_values.specs.declared.Entry.TheVariants.{Absent, Present}
-
--- an entry of the code, as an option
-abbrev pub option_of : Entry → Option AbstractValue
-option_of Absent = none
-option_of (Present a) = some a
 
 -- what a word says; any number is read
 unfoldable pub cell_of : ℕ → Option AbstractValue
-cell_of x = elim (eqb (x % 8) 0) [ true ↦ none | false ↦ some (mk (kind_at (x % 8 - 1)) (x / 8 % 4294967296)) ]
+cell_of x = elim (eqb (x % 8) 0) [ true ↦ None | false ↦ Some (mk (kind_at (x % 8 - 1)) (x / 8 % 4294967296)) ]
 
 unfoldable pub word_of : AbstractValue → ℕ
 word_of a = a.reason * 8 + code_of a.kind + 1

@@ -4,17 +4,10 @@
 ghost use Rattle.std.specs.Prelude.{◌≡◌, ◌/◌, ◌%◌};
 ghost use Rattle.base_orders.specs.Options.{join_option};
 ghost use Rattle.def_kinds.specs.Values.{join, or_default};
-ghost use Rattle.lent_values.specs.Cells.{option_of, cell_of, word_of, value_at, put_value};
+ghost use Rattle.lent_values.specs.Cells.{cell_of, word_of, value_at, put_value};
 
 use def_kinds::{AbstractValue, ValueKind};
-use lent_slices::{get64, set64};
-
-// What a value number has: nothing, or its kind and reasons.
-#[derive(Clone, Copy)]
-pub enum Entry {
-    Absent,
-    Present(AbstractValue),
-}
+use lent_slices::{get_or, set};
 
 // The low bits of a number, as a byte.
 // A kind's number is cut out of a word by it.
@@ -34,16 +27,16 @@ fn high(x: u64) -> u32
 
 // What a word says.
 // 7 in the low bits is no kind and reads as MaybeFrozen; such a state is refused before it is used.
-pub fn entry_of(x: u64) -> Entry
-    ensures { option_of result ≡ cell_of x }
+pub fn entry_of(x: u64) -> Option<AbstractValue>
+    ensures { result ≡ cell_of x }
 {
     let tag = low(x);
     if tag == 0 {
-        return Entry::Absent;
+        return None;
     }
     let kind = ValueKind::of_code(tag - 1);
     let reason = high(x);
-    Entry::Present(AbstractValue { kind, reason })
+    Some(AbstractValue { kind, reason })
 }
 
 // The word of an abstract value.
@@ -57,46 +50,45 @@ pub fn word_of(a: AbstractValue) -> u64
 
 // The entry of value v; past the end there is none.
 // This is values.get of the Rust.
-pub fn value_at(values: &[u64], v: usize) -> Entry
-    ensures { option_of result ≡ value_at values.now v }
+#[tactic(auto, unfolding(crate::specs::Cells::value_at))]
+pub fn value_at(values: &[u64], v: usize) -> Option<AbstractValue>
+    ensures { result ≡ value_at values.now v }
 {
-    entry_of(get64(values, v))
+    entry_of(get_or(values, v, 0))
 }
 
 // Value v gets kind and reasons a; past the end nothing happens.
 // This is initialize of the Rust.
+#[tactic(auto, unfolding(crate::specs::Cells::put_value))]
 pub fn put_value(values: &mut [u64], v: usize, a: AbstractValue)
     ensures { values.new ≡ put_value values.old v a }
 {
-    set64(values, v, word_of(a));
+    set(values, v, word_of(a));
 }
 
-impl Entry {
-    // Both: what is absent adds nothing, and two values are joined.
-    // A place's kind is made by it, and a merged state.
-    pub fn join(self, other: Entry) -> Entry
-        ensures { option_of result ≡ join_option join (option_of self) (option_of other) }
-    {
-        match self {
-            Entry::Absent => other,
-            Entry::Present(a) => match other {
-                Entry::Absent => self,
-                Entry::Present(b) => Entry::Present(a.join(b)),
-            },
-        }
+// Both: what is absent adds nothing, and two values are joined.
+// A place's kind is made by it, and a merged state.
+#[tactic(auto, unfolding(base_orders::specs::Options::join_option))]
+pub fn join_entries(
+    first: Option<AbstractValue>,
+    second: Option<AbstractValue>,
+) -> Option<AbstractValue>
+    ensures { result ≡ join_option join first second }
+{
+    match (first, second) {
+        (None, _) => second,
+        (_, None) => first,
+        (Some(a), Some(b)) => Some(a.join(b)),
     }
+}
 
-    // The value, or Mutable {Other}.
-    // An undefined place, and one whose values have no entry, have that kind.
-    pub fn or_default(self) -> AbstractValue
-        ensures { result ≡ or_default (option_of self) }
-    {
-        match self {
-            Entry::Absent => AbstractValue {
-                kind: ValueKind::Mutable,
-                reason: 2048,
-            },
-            Entry::Present(a) => a,
-        }
-    }
+// The value, or Mutable {Other}.
+// An undefined place, and one whose values have no entry, have that kind.
+pub fn or_default(entry: Option<AbstractValue>) -> AbstractValue
+    ensures { result ≡ or_default entry }
+{
+    entry.unwrap_or(AbstractValue {
+        kind: ValueKind::Mutable,
+        reason: 2048,
+    })
 }

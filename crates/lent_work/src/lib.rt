@@ -5,7 +5,7 @@ ghost use Rattle.std.specs.Prelude.{◌≡◌};
 ghost use Rattle.lent_work.specs.Marks.{is_marked, marked};
 
 use def_effects::Session;
-use lent_slices::wide32;
+use def_refusals::Refusal;
 
 // A bit for each identifier: whether its place was initialized in this instruction.
 // Document 01's refusals 6 and 7 ask for it.
@@ -26,23 +26,16 @@ pub struct Run {
     pub entries: u32,
 }
 
-// Where a part of an instruction has come to: 0 or the number with which it is refused, and what it has by value then.
-// Document 01's numbers are 6 to 11 there.
-#[derive(Clone, Copy)]
-pub struct Ran {
-    pub refusal: u32,
-    pub run: Run,
-}
+// Where a part of an instruction has come to: what it has by value then, or why it is refused.
+// Where it is refused nothing asks for what it had by value.
+pub type Ran = Result<Run, Refusal>;
 
 // Whether identifier i is marked.
 // There is no identifier past 511.
 pub fn is_marked(m: Marks, i: u32) -> bool
     ensures { result ≡ is_marked m i }
 {
-    if i >= 512 {
-        return false;
-    }
-    (m.words[wide32(i / 64)] >> (i % 64)) % 2 == 1
+    i < 512 && (m.words[(i / 64) as usize] >> (i % 64)) % 2 == 1
 }
 
 // The marks with identifier i.
@@ -54,7 +47,7 @@ pub fn mark(m: Marks, i: u32) -> Marks
         return m;
     }
     let mut r = m;
-    let w = wide32(i / 64);
-    r.words[w] = r.words[w] | (1 << (i % 64));
+    let w = (i / 64) as usize;
+    r.words[w] |= 1 << (i % 64);
     r
 }

@@ -8,3 +8,4 @@ pub mod Back
 pub mod ContextFaithful
 pub mod Held
 pub mod LentFaithful
+pub mod Promise

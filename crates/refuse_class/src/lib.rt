@@ -1,22 +1,20 @@
-// The lower class of two refusals: every test of what is lent joins its parts by it.
+// The lower of two verdicts: every test of what is lent joins its parts by it.
 #![tactic(auto)]
 
 ghost use Rattle.std.specs.Prelude.{◌≡◌};
+ghost use Rattle.def_refusals.specs.Verdicts.{class_of};
 ghost use Rattle.refuse_class.specs.Class.{lower};
 
-// The lower class of two refusals, of which 0 is none.
+use def_refusals::Verdict;
+
+// The lower of two verdicts, of which one that finds nothing wrong is the highest.
 // "Order 1 to 5 over the whole input."
-pub fn lower(a: u32, b: u32) -> u32
-    ensures { result ≡ lower a b }
+pub fn lower(a: Verdict, b: Verdict) -> Verdict
+    ensures { class_of result ≡ lower (class_of a) (class_of b) }
 {
-    if a == 0 {
-        return b;
+    match (a, b) {
+        (Ok(()), _) => b,
+        (Err(_), Ok(())) => a,
+        (Err(x), Err(y)) => if y.number() < x.number() { b } else { a },
     }
-    if b == 0 {
-        return a;
-    }
-    if b < a {
-        return b;
-    }
-    a
 }

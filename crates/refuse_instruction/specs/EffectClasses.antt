@@ -1,7 +1,6 @@
 -- Which class of refusal the record of an effect and an instruction earn (document 01, 'The job image' and 'Refused calls').
 -- Assumes nothing: these are definitions.
-use Rattle.std.specs.Prelude.{ℕ, ◌-◌, not, ◌&&◌, ◌||◌, List, [], ◌∷◌, eqb, leb, ltb, get_or}
-use Rattle.std.proofs.Math.Option.{Option, none, some}
+use Rattle.std.specs.Prelude.{ℕ, ◌-◌, not, ◌&&◌, ◌||◌, List, [], ◌∷◌, eqb, leb, ltb, get_or, Option, None, Some}
 use Rattle.base_tests.specs.Tests.{ite}
 use Rattle.def_kinds.specs.Reasons.{reason_count}
 use Rattle.def_effects.specs.declared.Place.{Place}
@@ -49,17 +48,17 @@ uses code j = get_or (get_or used_parts code []) j 0
 unfoldable pub middle_limit : ℕ → ℕ → ℕ → ℕ → Option ℕ
 middle_limit functions diagnostics code w =
     get_or
-    (used_if (uses code 2) (some 6) ∷ used_if (uses code 3) (some reason_count) ∷ used_if (uses code 4) (some 2) ∷ used_if (uses code 5) (some functions)
-    ∷ used_if (uses code 6) (some 256) ∷ used_if (uses code 6) (some diagnostics) ∷ used_if (uses code 7) any ∷ [])
+    (used_if (uses code 2) (Some 6) ∷ used_if (uses code 3) (Some reason_count) ∷ used_if (uses code 4) (Some 2) ∷ used_if (uses code 5) (Some functions)
+    ∷ used_if (uses code 6) (Some 256) ∷ used_if (uses code 6) (Some diagnostics) ∷ used_if (uses code 7) any ∷ [])
     w
-    none
+    None
 
 -- what word w of a record has to lie below: by code and count of captures, for numbers of identifiers, functions and diagnostics
 -- the code; the place, or the source; the destination; what stands between the places and the captures; the captures
 unfoldable pub effect_limit : ℕ → ℕ → ℕ → ℕ → ℕ → ℕ → Option ℕ
 effect_limit identifiers functions diagnostics code n w =
     ite (ltb w 18)
-    (ite (eqb w 0) (some 18)
+    (ite (eqb w 0) (Some 18)
     (ite (ltb w 6) (used_if (uses code 0) (place_limit identifiers (w - 1)))
     (ite (ltb w 11) (used_if (uses code 1) (place_limit identifiers (w - 6)))
     (middle_limit functions diagnostics code (w - 11)))))

@@ -1,7 +1,6 @@
 -- Which class of refusal the order of the cached keys earns (document 01, 'Refused calls': "an index lies outside its range",
 -- "two entries of one key, wrong order, an unused word not zero"). Assumes nothing: these are definitions.
-use Rattle.std.specs.Prelude.{ℕ, Bool, not, ◌||◌, List, eqb}
-use Rattle.std.proofs.Math.Option.{some}
+use Rattle.std.specs.Prelude.{ℕ, Bool, not, ◌||◌, List, eqb, Some}
 use Rattle.base_search.specs.Counting.{how_many}
 use Rattle.lent_layout.specs.Layout as Layout
 use Rattle.lent_order.specs.Order.{order_at}
@@ -16,7 +15,7 @@ misplaced c n j = not (is_keyed c (order_at Layout.key_order c j)) || descends (
 
 -- a place of the order: one of the numbers below m, and in its place
 unfoldable pub key_place_class : List ℕ → ℕ → ℕ → ℕ → ℕ
-key_place_class c m n j = lower (word_class (some m) (order_at Layout.key_order c j)) (earns 4 (misplaced c n j))
+key_place_class c m n j = lower (word_class (Some m) (order_at Layout.key_order c j)) (earns 4 (misplaced c n j))
 
 -- whether the order has another number of places than numbers below m have a key
 unfoldable pub miscounted : List ℕ → ℕ → Bool

@@ -4,76 +4,65 @@
 
 ghost use Rattle.std.specs.Prelude.{◌≡◌};
 ghost use Rattle.base_search.specs.Counting.{how_many};
-ghost use Rattle.base_tests.specs.Tests.{ite};
 ghost use Rattle.def_key_order.specs.KeyOrder.{compare_keys};
 ghost use Rattle.lent_context.specs.Lent as Lent;
 ghost use Rattle.lent_context.specs.Lent.{key_here};
 ghost use Rattle.lent_layout.specs.Layout as Layout;
 ghost use Rattle.lent_order.specs.Order.{order_at};
+ghost use Rattle.def_refusals.specs.Verdicts.{class_of};
 ghost use Rattle.refuse_order.specs.Order.{descends};
 ghost use Rattle.refuse_words.specs.Classes.{lowest_below};
 ghost use Rattle.refuse_key_order.specs.KeyOrder.{misplaced, key_place_class, miscounted, key_order_class};
 
-use base_search::Order;
+use def_refusals::{Refusal, Verdict};
 use lent_key_order::{compare_heads, compare_runs};
 use lent_keys::head_in;
 use lent_layout::{CACHED, KEY_ORDER};
 use lent_links::key_count;
 use lent_order::order_at;
-use lent_slices::wide32;
 use lent_tables::field;
 use refuse_class::lower;
 use refuse_order::is_less;
-use refuse_words::{earns, stray_after, word_class};
+use refuse_words::{earns, lowest, stray_after, word_class};
+use std::cmp::Ordering;
 
 // The keys of two numbers.
 // Captures are compared only where the rest is equal.
-fn compare_cached(context: &[u32], a: u32, b: u32) -> Order
+fn compare_cached(context: &[u32], a: u32, b: u32) -> Ordering
     ensures { result ≡ compare_keys (key_here context.now a) (key_here context.now b) }
 {
-    let i = wide32(a);
-    let j = wide32(b);
+    let i = a as usize;
+    let j = b as usize;
     let heads = compare_heads(head_in(CACHED, context, i), head_in(CACHED, context, j));
     match heads {
-        Order::Less => Order::Less,
-        Order::Same => {
+        Ordering::Less => Ordering::Less,
+        Ordering::Equal => {
             let n = field(CACHED, context, i, 11);
             let m = field(CACHED, context, j, 11);
             compare_runs(CACHED, context, i, 12, 1, n, CACHED, context, j, 12, 1, m)
         }
-        Order::More => Order::More,
+        Ordering::Greater => Ordering::Greater,
     }
 }
 
 // Whether a number has a key.
+#[tactic(auto, unfolding(lent_context::specs::Lent::is_keyed))]
 fn is_keyed(context: &[u32], v: u32) -> bool
     ensures { result ≡ Lent.is_keyed context.now v }
 {
-    if field(CACHED, context, wide32(v), 0) == 0 {
-        return false;
-    }
-    true
-}
-
-// 1 where a test holds, else 0.
-fn one_if(b: bool) -> u32
-    ensures { result ≡ ite b 1 0 }
-{
-    if b {
-        return 1;
-    }
-    0
+    field(CACHED, context, v as usize, 0) != 0
 }
 
 // How many of the numbers below m have a key.
+#[tactic(auto, using(crate::proofs::Laws::KeyOrder::none_counted, crate::proofs::Laws::KeyOrder::counted_next), unfolding(base_search::specs::Counting::how_many))]
 fn keyed(context: &[u32], m: u32) -> u32
     ensures { result ≡ how_many (Lent.is_keyed context.now) m }
 {
     let mut n: u32 = 0;
-    let mut k: u32 = 0;
-    while k < m {
-        n += one_if(is_keyed(context, k));
-        k += 1;
+    for k in 0..m {
+        if is_keyed(context, k) {
+            n += 1;
+        }
     }
     n
 }
@@ -82,10 +71,7 @@ fn keyed(context: &[u32], m: u32) -> u32
 fn key_descends(context: &[u32], n: u32, j: u32) -> bool
     ensures { result ≡ descends (key_here context.now) (order_at Layout.key_order context.now) n j }
 {
-    if n == 0 {
-        return false;
-    }
-    if j >= n - 1 {
+    if j >= n.saturating_sub(1) {
         return false;
     }
     let a = order_at(KEY_ORDER, context, j);
@@ -94,52 +80,47 @@ fn key_descends(context: &[u32], n: u32, j: u32) -> bool
 }
 
 // Whether the number at place j of an order of n has no key, or its key does not come before the next.
+#[tactic(auto, unfolding(crate::specs::KeyOrder::misplaced))]
 fn is_misplaced(context: &[u32], n: u32, j: u32) -> bool
     ensures { result ≡ misplaced context.now n j }
 {
-    if is_keyed(context, order_at(KEY_ORDER, context, j)) {
-        return key_descends(context, n, j);
-    }
-    true
+    !is_keyed(context, order_at(KEY_ORDER, context, j)) || key_descends(context, n, j)
 }
 
-// The class of place j of an order of n keys of numbers below m.
-fn key_place_class(context: &[u32], m: u32, n: u32, j: u32) -> u32
-    ensures { result ≡ key_place_class context.now m n j }
+// What place j of an order of n keys of numbers below m earns.
+#[tactic(auto, unfolding(crate::specs::KeyOrder::key_place_class))]
+fn key_place_class(context: &[u32], m: u32, n: u32, j: u32) -> Verdict
+    ensures { class_of result ≡ key_place_class context.now m n j }
 {
-    let inside = word_class(m as u64 + 1, order_at(KEY_ORDER, context, j));
-    lower(inside, earns(4, is_misplaced(context, n, j)))
+    let inside = word_class(Some(m as u64), order_at(KEY_ORDER, context, j));
+    lower(inside, earns(Refusal::Order, is_misplaced(context, n, j)))
 }
 
-// The lowest class of the n places of an order.
-fn key_places_class(context: &[u32], m: u32, n: u32) -> u32
-    ensures { result ≡ lowest_below n (key_place_class context.now m n) }
+// What the n places of an order earn.
+fn key_places_class(context: &[u32], m: u32, n: u32) -> Verdict
+    ensures { class_of result ≡ lowest_below n (key_place_class context.now m n) }
 {
-    let mut worst: u32 = 0;
-    let mut k: u32 = 0;
-    while k < n {
-        worst = lower(worst, key_place_class(context, m, n, k));
-        k += 1;
-    }
-    worst
+    lowest(n as usize, |k| key_place_class(context, m, n, k as u32))
 }
 
 // Whether the order has another number of places than numbers below m have a key.
+#[tactic(auto, unfolding(crate::specs::KeyOrder::miscounted))]
 fn is_miscounted(context: &[u32], m: u32) -> bool
     ensures { result ≡ miscounted context.now m }
 {
     keyed(context, m) != key_count(context)
 }
 
-// The class of the order of the cached keys, of numbers below m.
-pub fn key_order_class(context: &[u32], m: u32) -> u32
-    ensures { result ≡ key_order_class context.now m }
+// What the order of the cached keys earns, of numbers below m.
+pub fn key_order_class(context: &[u32], m: u32) -> Verdict
+    ensures { class_of result ≡ key_order_class context.now m }
 {
     let n = key_count(context);
-    let counted = earns(4, is_miscounted(context, m));
+    let miscounted = is_miscounted(context, m);
+    let counted = earns(Refusal::Order, miscounted);
     let places = key_places_class(context, m, n);
     lower(
         counted,
-        lower(places, stray_after(KEY_ORDER, context, wide32(n))),
+        lower(places, stray_after(KEY_ORDER, context, n as usize)),
     )
 }

@@ -1,9 +1,8 @@
 -- Which class of refusal the order of the interned effects earns (document 01, 'Refused calls': "an index lies outside its range",
 -- "two entries of one key, wrong order, an unused word not zero"). Assumes nothing: these are definitions.
-use Rattle.std.specs.Prelude.{ℕ, suc, Bool, true, false, not, ◌&&◌, List, ltb}
-use Rattle.std.proofs.Math.Option.{some}
-use Rattle.base_search.specs.declared.Order.{Order}
-use Rattle.base_search.specs.declared.Order.TheVariants.{Less, Same, More}
+use Rattle.std.specs.Prelude.{ℕ, suc, Bool, true, false, not, ◌&&◌, List, ltb, Some}
+use Rattle.std.specs.declared.cmp.Ordering.{Ordering}
+use Rattle.std.specs.declared.cmp.Ordering.TheVariants.{Less, Equal, Greater}
 use Rattle.def_effects.specs.Keys.{EffectKey}
 use Rattle.def_key_order.specs.KeyOrder.{compare_keys}
 use Rattle.lent_layout.specs.Layout as Layout
@@ -13,10 +12,10 @@ use Rattle.refuse_class.specs.Class.{lower}
 use Rattle.refuse_words.specs.Classes.{lowest_below, earns, word_class, stray_after}
 
 -- whether what is compared comes before
-abbrev pub is_less : Order → Bool
+abbrev pub is_less : Ordering → Bool
 is_less Less = true
-is_less Same = false
-is_less More = false
+is_less Equal = false
+is_less Greater = false
 
 -- whether what stands at place j of an order of n does not come before what stands at the next place, if there is one
 -- neighbours of one key are "two entries of one key"
@@ -25,7 +24,7 @@ descends key ord n j = ltb (suc j) n && not (is_less (compare_keys (key (ord j))
 
 -- a place of the order: the number of one of n effects, and its key before the next
 unfoldable pub place_class : List ℕ → ℕ → ℕ → ℕ
-place_class c n j = lower (word_class (some n) (order_at Layout.effect_order c j)) (earns 4 (descends (interned_key c) (order_at Layout.effect_order c) n j))
+place_class c n j = lower (word_class (Some n) (order_at Layout.effect_order c j)) (earns 4 (descends (interned_key c) (order_at Layout.effect_order c) n j))
 
 -- the whole order, and the words after it
 unfoldable pub order_class : List ℕ → ℕ

@@ -1,7 +1,6 @@
 -- Which class of refusal a lent context earns (document 01, 'Refused calls': "Order 1 to 5 over the whole input").
 -- Every test gives the class that it earns, or 0; the whole earns the lowest class of any. Assumes nothing: these are definitions.
-use Rattle.std.specs.Prelude.{ℕ, Bool, not, ◌&&◌, ◌||◌, List, eqb, ltb, get_or}
-use Rattle.std.proofs.Math.Option.{some}
+use Rattle.std.specs.Prelude.{ℕ, Bool, not, ◌&&◌, ◌||◌, List, eqb, ltb, get_or, Some}
 use Rattle.base_tests.specs.Tests.{ite}
 use Rattle.lent_tables.specs.Words.{field}
 use Rattle.lent_layout.specs.Layout as Layout
@@ -85,7 +84,7 @@ counts_wrong identifiers functions c =
 -- two options, so below 4
 unfoldable pub tables_class : ℕ → ℕ → List ℕ → ℕ → ℕ
 tables_class identifiers functions c next =
-    lower (word_class (some 4) (get_or c Layout.options 0))
+    lower (word_class (Some 4) (get_or c Layout.options 0))
     (lower (identifiers_class identifiers c)
     (lower (functions_class identifiers functions c)
     (lower (links_class functions c next)

@@ -1,6 +1,5 @@
 -- Whether a diagnostic of a context repeats one before it (document 01, 'Refused calls': "two entries of one key"). Assumes nothing: these are definitions.
-use Rattle.std.specs.Prelude.{ℕ, Bool, not, ◌||◌, List, eqb}
-use Rattle.std.proofs.Math.Option.{Option, none, some}
+use Rattle.std.specs.Prelude.{ℕ, Bool, not, ◌||◌, List, eqb, Option, None, Some}
 use Rattle.def_effects.specs.declared.Diagnostic.{Diagnostic}
 use Rattle.base_tests.specs.Tests.{is_some}
 use Rattle.def_transfer.specs.Pure.{identities, find_identity, find_instance}
@@ -11,8 +10,8 @@ use Rattle.lent_context.specs.Lent.{diagnostic_in, diagnostics_in}
 -- a number that may be absent, or another
 -- the identity of an equal message, or the next
 abbrev pub number_or : ℕ → Option ℕ → ℕ
-number_or d none = d
-number_or d (some n) = n
+number_or d None = d
+number_or d (Some n) = n
 
 -- the identity that a diagnostic has to have after the first n: that of the first equal message, else the next
 -- "Sharing of numbers follows `intern_aliasing_diagnostic`"

@@ -5,15 +5,12 @@
 ghost use Rattle.std.specs.Prelude.{◌≡◌};
 ghost use Rattle.base_tests.specs.Tests.{is_some};
 ghost use Rattle.def_transfer.specs.Pure.{identities, find_identity, find_instance};
-ghost use Rattle.lent_keys.specs.KeyRecords.{option_of};
 ghost use Rattle.lent_context.specs.Lent.{diagnostics_in};
 ghost use Rattle.refuse_repeats.specs.Repeats.{diagnostic_twice};
 
 use def_effects::Diagnostic;
 use lent_diagnostics::{diagnostic_in, is_instance, larger, same_identity};
-use lent_keys::Found;
 use lent_layout::DIAGNOSTICS;
-use lent_slices::wide32;
 use lent_tables::field;
 
 // How many identities the first n diagnostics have: one more than the highest.
@@ -22,30 +19,26 @@ fn identities_before(context: &[u32], n: u32) -> u64
     ensures { result ≡ identities (diagnostics_in context.now 0 n) }
 {
     let mut most: u64 = 0;
-    let mut k: u32 = 0;
-    while k < n {
-        let identity = field(DIAGNOSTICS, context, wide32(k), 0);
+    for k in 0..n {
+        let identity = field(DIAGNOSTICS, context, k as usize, 0);
         most = larger(identity as u64 + 1, most);
-        k += 1;
     }
     most
 }
 
 // The identity of the first of n diagnostics with the same identifier, message and help.
 // This is the first look-up of intern_aliasing_diagnostic.
-fn identity_before(context: &[u32], n: u32, d: Diagnostic) -> Found
-    ensures { option_of result ≡ find_identity (diagnostics_in context.now 0 n) d }
+fn identity_before(context: &[u32], n: u32, d: Diagnostic) -> Option<u32>
+    ensures { result ≡ find_identity (diagnostics_in context.now 0 n) d }
 {
-    let mut k: u32 = 0;
-    while k < n {
+    for k in 0..n {
         let x = diagnostic_in(context, k);
         let other = x.diagnostic;
         if same_identity(d, other) {
-            return Found::At(x.identity);
+            return Some(x.identity);
         }
-        k += 1;
     }
-    Found::Nowhere
+    None
 }
 
 // Whether one of the first n diagnostics has an identity and the labels of a diagnostic.
@@ -53,12 +46,10 @@ fn identity_before(context: &[u32], n: u32, d: Diagnostic) -> Found
 fn instance_before(context: &[u32], n: u32, identity: u32, d: Diagnostic) -> bool
     ensures { result ≡ is_some (find_instance 0 (diagnostics_in context.now 0 n) identity d) }
 {
-    let mut k: u32 = 0;
-    while k < n {
+    for k in 0..n {
         if is_instance(diagnostic_in(context, k), identity, d) {
             return true;
         }
-        k += 1;
     }
     false
 }
@@ -71,14 +62,8 @@ pub fn diagnostic_twice(context: &[u32], k: u32) -> bool
     let x = diagnostic_in(context, k);
     let d = x.diagnostic;
     let identity = x.identity;
-    let found = identity_before(context, k, d);
-    match found {
-        Found::Nowhere => identity as u64 != identities_before(context, k),
-        Found::At(m) => {
-            if identity != m {
-                return true;
-            }
-            instance_before(context, k, identity, d)
-        }
+    match identity_before(context, k, d) {
+        None => identity as u64 != identities_before(context, k),
+        Some(m) => identity != m || instance_before(context, k, identity, d),
     }
 }

@@ -9,16 +9,11 @@ use lent_sets::{is_defined, row_word};
 
 // Whether the row of identifier i earns 3: a member from 512 + n on.
 // Members are below 1,024, so none can be where the list is full.
+#[tactic(auto, using(refuse_entries::proofs::Laws::Row::out_undefined, refuse_entries::proofs::Laws::Row::out_full, refuse_entries::proofs::Laws::Row::out_search))]
 pub fn row_out_of_range(sets: &[u64], i: u32, n: u32) -> bool
     ensures { result ≡ row_out_of_range n sets.now i }
 {
-    if !is_defined(sets, i) {
-        return false;
-    }
-    if n >= 512 {
-        return false;
-    }
-    next_member(sets, i, 512 + n) < 1024
+    is_defined(sets, i) && n < 512 && next_member(sets, i, 512 + n) < 1024
 }
 
 // Whether one of the 16 words of row i is not zero.
@@ -26,12 +21,10 @@ pub fn row_out_of_range(sets: &[u64], i: u32, n: u32) -> bool
 fn row_in_use(sets: &[u64], i: u32) -> bool
     ensures { result ≡ row_in_use sets.now i }
 {
-    let mut w: u32 = 0;
-    while w < 16 {
+    for w in 0u32..16 {
         if row_word(sets, i, w) != 0 {
             return true;
         }
-        w += 1;
     }
     false
 }
@@ -41,22 +34,18 @@ fn row_in_use(sets: &[u64], i: u32) -> bool
 fn row_too_new(sets: &[u64], i: u32, next: u32) -> bool
     ensures { result ≡ row_too_new next sets.now i }
 {
-    if !is_defined(sets, i) {
-        return false;
-    }
-    if next == 0 {
-        return next_member(sets, i, 1) < 512;
-    }
-    next_member(sets, i, next) < 512
+    is_defined(sets, i) && next_member(sets, i, next.max(1)) < 512
 }
 
 // Whether the row of identifier i earns 4: a member not handed out yet, or not defined and not zero.
 // All words of a row that is not defined are unused.
+#[tactic(auto, using(refuse_entries::proofs::Laws::Row::unfit_defined, refuse_entries::proofs::Laws::Row::unfit_undefined))]
 pub fn row_unfit(sets: &[u64], i: u32, next: u32) -> bool
     ensures { result ≡ row_unfit next sets.now i }
 {
     if is_defined(sets, i) {
-        return row_too_new(sets, i, next);
+        row_too_new(sets, i, next)
+    } else {
+        row_in_use(sets, i)
     }
-    row_in_use(sets, i)
 }

@@ -1,7 +1,6 @@
 -- Which class of refusal a record of each table of a context earns by its words (document 01, 'The job image' and 'Refused calls').
 -- Assumes nothing: these are definitions.
-use Rattle.std.specs.Prelude.{ℕ, ◌-◌, ◌/◌, ◌%◌, Bool, not, ◌&&◌, ◌||◌, List, [], ◌∷◌, eqb, ltb, get_or}
-use Rattle.std.proofs.Math.Option.{Option, none, some}
+use Rattle.std.specs.Prelude.{ℕ, ◌-◌, ◌/◌, ◌%◌, Bool, not, ◌&&◌, ◌||◌, List, [], ◌∷◌, eqb, ltb, get_or, Option, None, Some}
 use Rattle.base_tests.specs.Tests.{ite}
 use Rattle.def_kinds.specs.Reasons.{reason_count}
 use Rattle.def_effects.specs.Places.{no_span, eq_span}
@@ -16,7 +15,7 @@ use Rattle.refuse_words.specs.Classes.{earns, used_if, any, run_limit, record_cl
 -- "identifiers: flags (1 ref, 2 hoisted), name 1..512 or 0, access start, end (both words zero if not hoisted)"
 -- an access has a limit only where the identifier is hoisted
 unfoldable pub identifier_limit : ℕ → ℕ → Option ℕ
-identifier_limit flags w = get_or (some 4 ∷ some 513 ∷ used_if (flags / 2 % 2) any ∷ used_if (flags / 2 % 2) any ∷ []) w none
+identifier_limit flags w = get_or (Some 4 ∷ Some 513 ∷ used_if (flags / 2 % 2) any ∷ used_if (flags / 2 % 2) any ∷ []) w None
 
 -- the class of an identifier
 unfoldable pub identifier_class : List ℕ → ℕ → ℕ
@@ -26,7 +25,7 @@ identifier_class c i = record_class Layout.identifiers c (identifier_limit (fiel
 
 -- "functions: flags (1 effects known, 2 tracked side effect; ..), .. count of context places (16), .. count of places mutated inside (32)"
 unfoldable pub function_limit : ℕ → ℕ → ℕ → Option ℕ
-function_limit identifiers inside w = ite (ltb w 3) (get_or (some 4 ∷ any ∷ any ∷ []) w none) (run_limit identifiers inside (w - 3))
+function_limit identifiers inside w = ite (ltb w 3) (get_or (Some 4 ∷ any ∷ any ∷ []) w None) (run_limit identifiers inside (w - 3))
 
 -- "2, and any place mutated inside, needs 1, else 3"
 -- what is mutated inside is known only with the function's effects
@@ -51,7 +50,7 @@ function_class identifiers c f =
 -- a link: 0, or 1 and a function; value number 0 has none
 -- "an index lies outside its range"
 unfoldable pub link_limit : ℕ → ℕ → ℕ → ℕ → Option ℕ
-link_limit functions v flag w = ite (eqb v 0) none (get_or (some 2 ∷ used_if flag (some functions) ∷ []) w none)
+link_limit functions v flag w = ite (eqb v 0) None (get_or (Some 2 ∷ used_if flag (Some functions) ∷ []) w None)
 
 -- the class of the link of a number
 unfoldable pub link_class : ℕ → List ℕ → ℕ → ℕ
@@ -77,16 +76,16 @@ key_uses code j = get_or (key_parts code) j 0
 unfoldable pub key_head_limit : ℕ → ℕ → ℕ → ℕ → Option ℕ
 key_head_limit identifiers functions code w =
     get_or
-    (some 2 ∷ some 20 ∷ used_if (key_uses code 0) (some 2) ∷ used_if (key_uses code 0) (some identifiers) ∷ used_if (key_uses code 1) (some 2) ∷ used_if (key_uses code 1) (some identifiers)
-    ∷ used_if (key_uses code 2) (some 6) ∷ used_if (key_uses code 2) (some reason_count) ∷ used_if (key_uses code 3) (some 2) ∷ used_if (key_uses code 3) (some functions) ∷ none ∷ used_if (key_uses code 3) any ∷ [])
+    (Some 2 ∷ Some 20 ∷ used_if (key_uses code 0) (Some 2) ∷ used_if (key_uses code 0) (Some identifiers) ∷ used_if (key_uses code 1) (Some 2) ∷ used_if (key_uses code 1) (Some identifiers)
+    ∷ used_if (key_uses code 2) (Some 6) ∷ used_if (key_uses code 2) (Some reason_count) ∷ used_if (key_uses code 3) (Some 2) ∷ used_if (key_uses code 3) (Some functions) ∷ None ∷ used_if (key_uses code 3) any ∷ [])
     w
-    none
+    None
 
 -- what word w of a cached key has to lie below, by its code and count of captures
 -- the record of 28 words: twelve, then sixteen captures
 unfoldable pub key_limit : ℕ → ℕ → ℕ → ℕ → ℕ → Option ℕ
 key_limit identifiers functions code n w =
-    ite (ltb w 12) (key_head_limit identifiers functions code w) (ite (ltb (w - 12) n) (used_if (key_uses code 3) (some identifiers)) none)
+    ite (ltb w 12) (key_head_limit identifiers functions code w) (ite (ltb (w - 12) n) (used_if (key_uses code 3) (Some identifiers)) None)
 
 -- a part that is used and absent
 -- a flag of a part that is used is 1
@@ -108,14 +107,14 @@ key_class identifiers functions c v =
 
 -- the class of a number without a key
 unfoldable pub no_key_class : List ℕ → ℕ → ℕ
-no_key_class c v = record_class Layout.cached c (λ w. none) v
+no_key_class c v = record_class Layout.cached c (λ w. None) v
 
 -- ---- diagnostics
 
 -- "message case, sentence number .., name number and label spans"; "case 1 .. with sentence 0"
 -- identity and identifier come first; there are no more identities than records
 unfoldable pub diagnostic_limit : ℕ → ℕ → ℕ → Option ℕ
-diagnostic_limit identifiers case w = get_or (some 256 ∷ some identifiers ∷ some 2 ∷ ite (eqb case 0) (some 11) none ∷ some 513 ∷ any ∷ any ∷ any ∷ any ∷ []) w none
+diagnostic_limit identifiers case w = get_or (Some 256 ∷ Some identifiers ∷ Some 2 ∷ ite (eqb case 0) (Some 11) None ∷ Some 513 ∷ any ∷ any ∷ any ∷ any ∷ []) w None
 
 -- 4 where a diagnostic of case 0 has an access label
 -- "an unused word not zero": its span is no span

@@ -1,7 +1,6 @@
 -- Which class of refusal a word, a record and unused words earn (document 01, 'Refused calls': "Order 1 to 5 over the whole input").
 -- Every test gives the class that it earns, or 0; the whole earns the lowest class of any. Assumes nothing: these are definitions.
-use Rattle.std.specs.Prelude.{ℕ, zero, suc, ◌+◌, ◌-◌, ◌*◌, ◌/◌, ◌%◌, Bool, not, List, [], ◌∷◌, eqb, ltb, get_or, length}
-use Rattle.std.proofs.Math.Option.{Option, none, some}
+use Rattle.std.specs.Prelude.{ℕ, zero, suc, ◌+◌, ◌-◌, ◌*◌, ◌/◌, ◌%◌, Bool, not, List, [], ◌∷◌, eqb, ltb, get_or, length, Option, None, Some}
 use Rattle.base_tests.specs.Tests.{ite}
 use Rattle.lent_tables.specs.declared.Table.{Table}
 use Rattle.lent_tables.specs.Words.{field, index}
@@ -23,43 +22,38 @@ earns n b = ite b n 0
 -- a word with a limit has to lie below it; one without a limit has no use, and is zero
 -- "3 a code, flag, number, index or reason bit lies outside its range", "4 .. an unused word not zero"
 unfoldable pub word_class : Option ℕ → ℕ → ℕ
-word_class none x = earns 4 (not (eqb x 0))
-word_class (some limit) x = earns 3 (not (ltb x limit))
+word_class None x = earns 4 (not (eqb x 0))
+word_class (Some limit) x = earns 3 (not (ltb x limit))
 
 -- ---- limits
-
--- a limit as the code has it: 0 for none, else 1 + the limit
-abbrev pub limit_of : ℕ → Option ℕ
-limit_of zero = none
-limit_of (suc n) = some n
 
 -- a limit for a word that is used
 -- a use is 0 or 1
 abbrev pub used_if : ℕ → Option ℕ → Option ℕ
-used_if zero l = none
+used_if zero l = None
 used_if (suc u) l = l
 
 -- any number is in range
 -- spans hold any two words, and counts are tested as a class of their own
 abbrev pub any : Option ℕ
-any = some 4294967296
+any = Some 4294967296
 
 -- what word w of a place has to lie below, for a number of identifiers
 -- "places: identifier, `Effect` in declared order from 0, reactive 0 or 1, start, end"; the Rust has eight of `Effect`
 unfoldable pub place_limit : ℕ → ℕ → Option ℕ
-place_limit identifiers w = get_or (some identifiers ∷ some 8 ∷ some 2 ∷ any ∷ any ∷ []) w none
+place_limit identifiers w = get_or (Some identifiers ∷ Some 8 ∷ Some 2 ∷ any ∷ any ∷ []) w None
 
 -- the same of word w of a run of places of which n are used
 -- words after the last place have no use
 unfoldable pub run_limit : ℕ → ℕ → ℕ → Option ℕ
-run_limit identifiers n w = ite (ltb (w / 5) n) (place_limit identifiers (w % 5)) none
+run_limit identifiers n w = ite (ltb (w / 5) n) (place_limit identifiers (w % 5)) None
 
 -- ---- words, records, and what stands after them
 
 -- n words of a list from one on that have no use
 -- what stands after the last record
 unfoldable pub stray_from : List ℕ → ℕ → ℕ → ℕ
-stray_from c from n = lowest_below n (λ k. word_class none (get_or c (from + k) 0))
+stray_from c from n = lowest_below n (λ k. word_class None (get_or c (from + k) 0))
 
 -- how many of n words from one on stand in the list
 -- a loop over them ends there: past the end every word counts as zero

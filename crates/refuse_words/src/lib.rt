@@ -1,128 +1,132 @@
-// The classes of refusal that a word, a run of unused words and a place earn, and what the words of a place have to lie below.
-// A limit is 0 for a word without use, else 1 + the number that the word has to lie below.
+// The refusals that a word, a run of unused words and a place earn, and what the words of a place have to lie below.
+// A limit is none for a word without use, else the number that the word has to lie below.
 #![tactic(auto)]
 
-ghost use Rattle.std.specs.Prelude.{◌≡◌};
+ghost use Rattle.std.specs.Prelude.{◌≡◌, ◌<◌, ℕ, Option};
+ghost use Rattle.base_tests.specs.Tests.{ite};
+ghost use Rattle.def_refusals.specs.Verdicts.{number_of, class_of};
 ghost use Rattle.refuse_words.specs.Classes as Classes;
-ghost use Rattle.refuse_words.specs.Classes.{limit_of, word_class, used_if, place_limit, run_limit, stray_from, stray_after};
+ghost use Rattle.refuse_words.specs.Classes.{lowest_below, record_class, word_class, used_if, place_limit, run_limit, stray_from, stray_after};
 
-use lent_slices::wide32;
-use lent_tables::Table;
+use def_refusals::{Refusal, Verdict};
+use lent_tables::{Table, field};
+use refuse_class::lower;
 
 // The limit of a word that any number may stand in.
-// One more than a word holds, and 1.
-pub const ANY: u64 = 4294967297;
+pub const ANY: Option<u64> = Some(4294967296);
 
-// A class where a test holds, else 0.
-// Each rule of document 01 is a test with its class.
-pub fn earns(class: u32, b: bool) -> u32
-    ensures { result ≡ Classes.earns class b }
+// A refusal where a test holds.
+// Each rule of document 01 is a test with its refusal.
+pub fn earns(refusal: Refusal, b: bool) -> Verdict
+    ensures { class_of result ≡ Classes.earns (number_of refusal) b }
 {
-    if b {
-        return class;
-    }
-    0
+    if b { Err(refusal) } else { Ok(()) }
 }
 
-// The class of a word by its limit: 4 where it has no use and is not zero, 3 where it does not lie below.
-// The language has no option, so a limit is a number.
-pub fn word_class(limit: u64, x: u32) -> u32
-    ensures { result ≡ word_class (limit_of limit) x }
+// What a word earns by its limit: Order where it has no use and is not zero, Range where it does not lie below.
+#[tactic(auto, unfolding(crate::specs::Classes::word_class))]
+pub fn word_class(limit: Option<u64>, x: u32) -> Verdict
+    ensures { class_of result ≡ word_class limit x }
 {
-    if limit == 0 {
-        if x == 0 {
-            return 0;
-        }
-        return 4;
+    match limit {
+        None => earns(Refusal::Order, x != 0),
+        Some(limit) => earns(Refusal::Range, x as u64 >= limit),
     }
-    if (x as u64) < limit - 1 {
-        return 0;
-    }
-    3
 }
 
 // A limit for a word that is used, else none.
-// A use is 0 or 1.
-pub fn used_if(u: u32, limit: u64) -> u64
-    ensures { limit_of result ≡ used_if u (limit_of limit) }
+pub fn used_if(u: bool, limit: Option<u64>) -> Option<u64>
+    ensures { result ≡ used_if (ite u 1 0) limit }
 {
-    if u == 0 {
-        return 0;
-    }
-    limit
+    if u { limit } else { None }
 }
 
 // What word w of a place has to lie below.
 // Identifier, effect, reactive, and a span of any two words.
-pub fn place_limit(identifiers: u32, w: usize) -> u64
-    ensures { limit_of result ≡ place_limit identifiers w }
+#[tactic(auto, unfolding(crate::specs::Classes::place_limit))]
+pub fn place_limit(identifiers: u32, w: usize) -> Option<u64>
+    ensures { result ≡ place_limit identifiers w }
 {
-    if w == 0 {
-        return identifiers as u64 + 1;
+    match w {
+        0 => Some(identifiers as u64),
+        1 => Some(8),
+        2 => Some(2),
+        3 | 4 => ANY,
+        _ => None,
     }
-    if w == 1 {
-        return 9;
-    }
-    if w == 2 {
-        return 3;
-    }
-    if w < 5 {
-        return ANY;
-    }
-    0
 }
 
 // What word w of a run of places has to lie below, of which n are used.
 // The words after the last place have no use.
-pub fn run_limit(identifiers: u32, n: u32, w: usize) -> u64
-    ensures { limit_of result ≡ run_limit identifiers n w }
+#[tactic(auto, unfolding(crate::specs::Classes::run_limit))]
+pub fn run_limit(identifiers: u32, n: u32, w: usize) -> Option<u64>
+    ensures { result ≡ run_limit identifiers n w }
 {
-    if w / 5 < wide32(n) {
-        return place_limit(identifiers, w % 5);
+    used_if(w / 5 < (n as usize), place_limit(identifiers, w % 5))
+}
+
+// The lowest that any of n tests earns.
+pub fn lowest<F: Fn(usize) -> Verdict>(n: usize, test: F) -> Verdict
+    requires { (k : ℕ) → k < n → F.pre test k }
+    ensures { (classes : ℕ → ℕ)
+        → ((k : ℕ) (v : _) → k < n → F.post test k v → class_of v ≡ classes k)
+        → class_of result ≡ lowest_below n classes }
+{
+    let mut worst = Ok(());
+    for k in 0..n {
+        worst = lower(worst, test(k));
     }
-    0
+    worst
+}
+
+// What a record earns: the lowest of what its words earn, by a limit for each.
+pub fn record_class<F: Fn(usize) -> Option<u64>>(
+    t: Table,
+    xs: &[u32],
+    i: usize,
+    limit: F,
+) -> Verdict
+    requires { F.IsAlwaysCallable limit }
+    ensures { (limits : ℕ → Option ℕ)
+        → ((w : ℕ) (l : _) → w < t.width → F.post limit w l → l ≡ limits w)
+        → class_of result ≡ record_class t xs.now limits i }
+{
+    lowest(
+        t.width as usize,
+        |w| word_class(limit(w), field(t, xs, i, w)),
+    )
 }
 
 // How many words of a lent list stand from one on, at most n.
 // What stands past the end of the list counts as zero.
+#[tactic(auto, unfolding(crate::specs::Classes::lent_from))]
 fn lent_from(xs: &[u32], from: usize, n: usize) -> usize
     ensures { result ≡ Classes.lent_from xs.now from n }
 {
-    if xs.len() <= from {
-        return 0;
-    }
-    if n < xs.len() - from {
-        return n;
-    }
-    xs.len() - from
+    xs.len().saturating_sub(from).min(n)
 }
 
-// The class of n words without use, from one on: 4 where one of them is not zero.
+// What n words without use earn, from one on: Order where one of them is not zero.
 // The words are gathered bit by bit, so that the loop has one read for each word and no branch.
-pub fn stray_from(xs: &[u32], from: usize, n: usize) -> u32
-    ensures { result ≡ stray_from xs.now from n }
+pub fn stray_from(xs: &[u32], from: usize, n: usize) -> Verdict
+    ensures { class_of result ≡ stray_from xs.now from n }
 {
     let m = lent_from(xs, from, n);
     let mut all: u32 = 0;
-    let mut k: usize = 0;
-    while k < m {
-        all = all | xs[from + k];
-        k += 1;
+    for k in 0..m {
+        all |= xs[from + k];
     }
-    if all == 0 {
-        return 0;
-    }
-    4
+    earns(Refusal::Order, all != 0)
 }
 
-// The class of the words of a table after its first n records.
-pub fn stray_after(t: Table, xs: &[u32], n: usize) -> u32
-    ensures { result ≡ stray_after t xs.now n }
+// What the words of a table after its first n records earn.
+pub fn stray_after(t: Table, xs: &[u32], n: usize) -> Verdict
+    ensures { class_of result ≡ stray_after t xs.now n }
 {
-    if n >= wide32(t.count) {
-        return 0;
+    if n >= (t.count as usize) {
+        return Ok(());
     }
-    let from = wide32(t.base) + n * wide32(t.width);
-    let left = (wide32(t.count) - n) * wide32(t.width);
+    let from = t.base as usize + n * (t.width as usize);
+    let left = (t.count as usize - n) * (t.width as usize);
     stray_from(xs, from, left)
 }

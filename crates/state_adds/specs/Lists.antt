@@ -1,6 +1,5 @@
 -- Two states that are lent as lists of words: what a merge makes of the lists. Assumes nothing: these are definitions.
-use Rattle.std.specs.Prelude.{ℕ, ◌/◌, min, Bool, true, false, List, length, get_or, set, replicate}
-use Rattle.std.proofs.Math.Option.{Option, none, some}
+use Rattle.std.specs.Prelude.{ℕ, ◌/◌, min, Bool, true, false, List, length, get_or, set, replicate, Option, None, Some}
 use Rattle.base_tests.specs.Tests.{ite}
 use Rattle.base_orders.specs.Options.{join_option}
 use Rattle.base_sets.specs.Members.{union}
@@ -26,8 +25,8 @@ set_adds ss ts i = adds_set (set_at ss i) (set_at ts i)
 -- value v gets an entry; nothing changes for none
 -- a join of two entries is stored so
 abbrev pub put_entry : List ℕ → ℕ → Option AbstractValue → List ℕ
-put_entry vs v none = vs
-put_entry vs v (some a) = put_value vs v a
+put_entry vs v None = vs
+put_entry vs v (Some a) = put_value vs v a
 
 -- the entry of value v is joined with that of the second list, where that adds to it
 unfoldable pub merge_value : List ℕ → ℕ → List ℕ → List ℕ
@@ -42,8 +41,8 @@ merge_values vs ws = upto (merge_value ws) 1024 0 vs
 
 -- identifier i gets a set; nothing changes for none
 abbrev pub put_some : List ℕ → ℕ → Option ℕ → List ℕ
-put_some ss i none = ss
-put_some ss i (some s) = put_set ss i s
+put_some ss i None = ss
+put_some ss i (Some s) = put_set ss i s
 
 -- the set of identifier i is joined with that of the second list, where that adds to it
 unfoldable pub merge_set : List ℕ → ℕ → List ℕ → List ℕ

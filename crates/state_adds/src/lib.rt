@@ -11,18 +11,19 @@ ghost use Rattle.state_adds.specs.Lists.{value_adds, set_adds};
 ghost use Rattle.refuse_entries.specs.Words.{entries};
 
 use lent_sets::{is_defined, row_word};
-use lent_values::{Entry, value_at};
+use lent_values::value_at;
 
 // Whether the second state adds to the entry of value v: a new one, another kind, or a new reason.
 // The test of merge and merge_from, value by value.
+#[tactic(auto, using(crate::proofs::Laws::Code::adds_absent, crate::proofs::Laws::Code::adds_new))]
 pub fn adds_value(values: &[u64], other: &[u64], v: usize) -> bool
     ensures { result ≡ adds_value (value_at values.now v) (value_at other.now v) }
 {
     match value_at(other, v) {
-        Entry::Absent => false,
-        Entry::Present(b) => match value_at(values, v) {
-            Entry::Absent => true,
-            Entry::Present(a) => !a.above(b),
+        None => false,
+        Some(b) => match value_at(values, v) {
+            None => true,
+            Some(a) => !a.above(b),
         },
     }
 }
@@ -33,43 +34,26 @@ fn adds_bits(sets: &[u64], other: &[u64], i: u32) -> bool
     ensures { result
         ≡ not (eqb (bit_or (row_number sets.now i) (row_number other.now i)) (row_number sets.now i)) }
 {
-    let mut w: u32 = 0;
-    while w < 16 {
+    (0..16).any(|w| {
         let x = row_word(sets, i, w);
-        let y = row_word(other, i, w);
-        let z = x | y;
-        if z != x {
-            return true;
-        }
-        w += 1;
-    }
-    false
+        x | row_word(other, i, w) != x
+    })
 }
 
 // Whether the second state adds to the set of identifier i: it is newly defined, or has a new member.
 // The test of merge and merge_from, place by place.
+#[tactic(auto, using(crate::proofs::Laws::Code::set_some, crate::proofs::Laws::Code::set_none))]
 pub fn adds_set(sets: &[u64], other: &[u64], i: u32) -> bool
     ensures { result ≡ adds_set (set_at sets.now i) (set_at other.now i) }
 {
-    if is_defined(other, i) {
-        return adds_bits(sets, other, i);
-    }
-    false
+    is_defined(other, i) && adds_bits(sets, other, i)
 }
 
 // Whether the second state adds to the entry of some value.
-// It goes down from 1,023, as the definition does.
 fn adds_values(values: &[u64], other: &[u64]) -> bool
     ensures { result ≡ any_below 1024 (value_adds values.now other.now) }
 {
-    let mut v: usize = 1024;
-    while 0 < v {
-        if adds_value(values, other, v - 1) {
-            return true;
-        }
-        v -= 1;
-    }
-    false
+    (0..1024).any(|v| adds_value(values, other, v))
 }
 
 // How many rows a list of that many words has, of the 512 that there are identifiers.
@@ -77,40 +61,29 @@ fn adds_values(values: &[u64], other: &[u64]) -> bool
 pub fn row_count(words: usize) -> u32
     ensures { result ≡ min 512 (words / 16) }
 {
-    if words < 8192 {
-        return (words / 16) as u32;
-    }
-    512
+    (words / 16).min(512) as u32
 }
 
 // Whether the second state adds to the set of some identifier.
-// It goes down from the last row of the second list: rows past its end are not defined and add nothing.
+// Rows past the end of the second list are not defined and add nothing.
 fn adds_sets(sets: &[u64], other: &[u64]) -> bool
     ensures { result ≡ any_below 512 (set_adds sets.now other.now) }
 {
-    let mut i: u32 = row_count(other.len() + 15);
-    while 0 < i {
-        if adds_set(sets, other, i - 1) {
-            return true;
-        }
-        i -= 1;
-    }
-    false
+    (0..row_count(other.len() + 15)).any(|i| adds_set(sets, other, i))
 }
 
 // Whether the second state adds anything to the first.
 // merge yields a state exactly then.
+#[tactic(auto, unfolding(def_transfer::specs::Merge::adds))]
 pub fn adds(values1: &[u64], sets1: &[u64], values2: &[u64], sets2: &[u64]) -> bool
     ensures { result ≡ adds (entries values1.now sets1.now) (entries values2.now sets2.now) }
 {
-    if adds_values(values1, values2) {
-        return true;
-    }
-    adds_sets(sets1, sets2)
+    adds_values(values1, values2) || adds_sets(sets1, sets2)
 }
 
 // Whether the first state is above or equal to the second.
 // It is just where the second adds nothing.
+#[tactic(auto, using(crate::proofs::Laws::Code::above_is))]
 pub fn is_above(values1: &[u64], sets1: &[u64], values2: &[u64], sets2: &[u64]) -> bool
     ensures { result ≡ above (entries values1.now sets1.now) (entries values2.now sets2.now) }
 {

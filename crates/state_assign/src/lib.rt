@@ -7,20 +7,16 @@ ghost use Rattle.state_ops.specs.Lists.{own_inserted, assigned_values, assigned_
 use lent_members::is_empty;
 use lent_set_writes::{add_set, copy_set, define, put_set};
 use lent_sets::is_defined;
-use lent_slices::{get32, wide32};
-use lent_values::{Entry, put_value, value_at};
+use lent_values::{or_default, put_value, value_at};
 
 // The own value of a place gets Mutable {Other}, unless it has an entry.
 // An assignment from a place that is not defined makes it so.
 pub fn insert_own(values: &mut [u64], from: u32)
     ensures { values.new ≡ own_inserted values.old from }
 {
-    let v = 512 + wide32(from);
-    match value_at(values, v) {
-        Entry::Absent => {
-            put_value(values, v, Entry::Absent.or_default());
-        }
-        Entry::Present(_) => {}
+    let v = 512 + (from as usize);
+    if value_at(values, v).is_none() {
+        put_value(values, v, or_default(None));
     }
 }
 
@@ -31,9 +27,9 @@ pub fn define_own(sets: &mut [u64], into: u32, from: u32)
 {
     if from < 512 {
         define(sets, into, 512 + from);
-        return;
+    } else {
+        define(sets, into, 1024);
     }
-    define(sets, into, 1024);
 }
 
 // A place gets the set of another; one that is not defined gives its own value.
@@ -44,10 +40,10 @@ pub fn assign(values: &mut [u64], sets: &mut [u64], into: u32, from: u32)
 {
     if is_defined(sets, from) {
         copy_set(sets, into, from);
-        return;
+    } else {
+        insert_own(values, from);
+        define_own(sets, into, from);
     }
-    insert_own(values, from);
-    define_own(sets, into, from);
 }
 
 // A place gets the union of the sets of its operands, unless that is empty; operands that are not defined add nothing.
@@ -56,13 +52,10 @@ pub fn infer_phi(sets: &mut [u64], place: u32, operands: &[u32])
     ensures { sets.new ≡ phi_sets sets.old place operands.now }
 {
     let mut acc = [0u64; 16];
-    let mut k: usize = 0;
-    while k < operands.len() {
-        add_set(&mut acc, sets, get32(operands, k));
-        k += 1;
+    for &i in operands {
+        add_set(&mut acc, sets, i);
     }
-    if is_empty(&acc) {
-        return;
+    if !is_empty(&acc) {
+        put_set(sets, place, &acc);
     }
-    put_set(sets, place, &acc);
 }

@@ -1,3 +1,4 @@
 pub mod Call
 pub mod More
 pub mod Plain
+pub mod Said

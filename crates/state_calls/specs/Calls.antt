@@ -1,7 +1,6 @@
 -- What a public call on a lent state comes to: a refusal that leaves all as it was, or the definition run on the lent lists.
 -- Assumes nothing: these are definitions.
-use Rattle.std.specs.Prelude.{ℕ, zero, suc, Bool, false, not, ◌||◌, List, [], ◌∷◌, length, set, replicate, eqb, ltb}
-use Rattle.std.proofs.Math.Option.{none}
+use Rattle.std.specs.Prelude.{ℕ, zero, suc, Bool, false, not, ◌||◌, List, [], ◌∷◌, length, set, replicate, eqb, ltb, None}
 use Rattle.base_tests.specs.Tests.{ite, any_of}
 use Rattle.def_kinds.specs.declared.ValueKind.TheVariants.{Mutable}
 use Rattle.def_kinds.specs.declared.AbstractValue.{AbstractValue}
@@ -16,7 +15,7 @@ use Rattle.def_effects.specs.declared.MutationResult.TheVariants as Result
 use Rattle.def_effects.specs.Places.{no_span}
 use Rattle.def_transfer.specs.Accepted.{not_anumber, not_yet_handed_out}
 use Rattle.def_transfer.specs.Monad.{Res, ok, refused, M, Done}
-use Rattle.def_transfer.specs.Tables.{Tables, State, Rest, World}
+use Rattle.def_transfer.specs.Tables.{Tables, Rest, World}
 use Rattle.def_transfer.specs.Pure as Pure
 use Rattle.def_transfer.specs.State as State
 use Rattle.def_transfer.specs.Step as Step
@@ -24,10 +23,6 @@ use Rattle.lent_sets.specs.Rows.{set_at}
 use Rattle.base_sets.specs.Members.{values_of}
 use Rattle.state_ops.specs.OnLists.{on_lists, lists}
 use Rattle.refuse_entries.specs.Words.{state_refusal, identifiers}
-use Rattle.state_calls.specs.declared.KindAnswer.{KindAnswer}
-use Rattle.state_calls.specs.declared.TestAnswer.{TestAnswer}
-use Rattle.state_calls.specs.declared.MutationAnswer.{MutationAnswer}
-use Rattle.state_calls.specs.declared.CountAnswer.{CountAnswer}
 
 -- ---- the world of a call on one state: the lent lists, the session, and an empty context, at which no operation of a state looks
 
@@ -38,8 +33,8 @@ Lent = on_lists Pure.pure
 abbrev pub context_with : Bool → Pure.Context
 context_with ref = record {
   interned = [];
-  cached = λ n. none;
-  links = λ v. none;
+  cached = λ n. None;
+  links = λ v. None;
   functions = λ f. record { context = []; inside = []; tracked = false };
   identifiers = λ i. record { ref = ref; hoisted = false; access = no_span; name = 0 };
   transitive = false;
@@ -156,23 +151,16 @@ unfoldable pub values_refusal : List ℕ → List ℕ → Session → ℕ → �
 values_refusal vs ss s i room = ite (eqb room 1024) (refusal1 vs ss s i) 1
 
 -- how many values the place has; "with a number come zero effects and count"
-unfoldable pub values_answer : List ℕ → List ℕ → Session → ℕ → List ℕ → CountAnswer
+-- nothing of the state changes
+unfoldable pub values_answer : List ℕ → List ℕ → Session → ℕ → List ℕ → Outcome ℕ
 values_answer vs ss s i out = record {
   refusal = values_refusal vs ss s i (length out);
-  count = ite (eqb (values_refusal vs ss s i (length out)) 0) (length (values_of (set_at ss i))) 0;
+  answer = ite (eqb (values_refusal vs ss s i (length out)) 0) (length (values_of (set_at ss i))) 0;
+  values = vs;
+  sets = ss;
+  session = s;
 }
 
 -- the values, ascending, and zeros behind them; zeros alone after a refusal
 unfoldable pub values_listed : List ℕ → List ℕ → Session → ℕ → List ℕ → List ℕ
 values_listed vs ss s i out = ite (eqb (values_refusal vs ss s i (length out)) 0) (written (values_of (set_at ss i)) 0 (replicate (length out) 0)) (replicate (length out) 0)
-
--- ---- the answers as structs
-
-abbrev pub kind_answer : Outcome AbstractValue → KindAnswer
-kind_answer o = record { refusal = o.refusal; value = o.answer; session = o.session }
-
-abbrev pub test_answer : Outcome Bool → TestAnswer
-test_answer o = record { refusal = o.refusal; answer = o.answer }
-
-abbrev pub mutation_answer : Outcome MutationResult → MutationAnswer
-mutation_answer o = record { refusal = o.refusal; result = o.answer; session = o.session }

@@ -7,9 +7,8 @@ ghost use Rattle.base_sets.specs.Members.{values_of};
 ghost use Rattle.state_ops.specs.Lists.{freeze_all, freezes, frozen_values};
 
 use def_kinds::{AbstractValue, ValueKind, single};
-use lent_members::next_member;
+use lent_members::members;
 use lent_sets::is_defined;
-use lent_slices::wide32;
 use lent_values::put_value;
 use state_ops::kind_of;
 
@@ -18,35 +17,25 @@ use state_ops::kind_of;
 pub fn freeze_values(values: &mut [u64], sets: &[u64], i: u32, reason: u32)
     ensures { values.new ≡ freeze_all reason (values_of (set_at sets.now i)) values.old }
 {
-    if !is_defined(sets, i) {
-        return;
-    }
-    let bits = single(reason);
     let frozen = AbstractValue {
         kind: ValueKind::Frozen,
-        reason: bits,
+        reason: single(reason),
     };
-    let mut m = next_member(sets, i, 1);
-    while m < 1024 {
-        put_value(values, wide32(m), frozen);
-        m = next_member(sets, i, m + 1);
+    for m in members(sets, i) {
+        put_value(values, m as usize, frozen);
     }
 }
 
 // Freezes a place that is defined and Mutable, Context or MaybeFrozen, and says whether it did; no access is recorded.
 // This is freeze of the Rust.
+#[tactic(auto, unfolding(state_ops::specs::Lists::freezes, state_ops::specs::Lists::frozen_values))]
 pub fn freeze(values: &mut [u64], sets: &[u64], i: u32, reason: u32) -> bool
     ensures { (result ≡ freezes values.old sets.now i)
         × (values.new ≡ frozen_values values.old sets.now i reason) }
 {
-    if !is_defined(sets, i) {
-        return false;
+    let acts = is_defined(sets, i) && kind_of(values, sets, i).kind.is_freezable();
+    if acts {
+        freeze_values(values, sets, i, reason);
     }
-    let a = kind_of(values, sets, i);
-    let k = a.kind;
-    if !k.is_freezable() {
-        return false;
-    }
-    freeze_values(values, sets, i, reason);
-    true
+    acts
 }

@@ -7,7 +7,7 @@ ghost use Rattle.def_transfer.specs.Merge.{adds};
 ghost use Rattle.state_adds.specs.Lists.{copy_words, merged_values, merged_sets};
 ghost use Rattle.refuse_entries.specs.Words.{entries};
 
-use lent_slices::{get64, set64};
+use lent_slices::{get_or, set};
 use state_adds::adds;
 use state_merge_lists::{merge_sets, merge_values};
 
@@ -16,11 +16,9 @@ use state_merge_lists::{merge_sets, merge_values};
 pub fn copy_words(into: &mut [u64], from: &[u64])
     ensures { into.new ≡ copy_words into.old from.now }
 {
-    let mut k: usize = 0;
-    while k < from.len() {
-        let x = get64(from, k);
-        set64(into, k, x);
-        k += 1;
+    for k in 0..from.len() {
+        let x = get_or(from, k, 0);
+        set(into, k, x);
     }
 }
 
@@ -29,11 +27,7 @@ pub fn copy_words(into: &mut [u64], from: &[u64])
 pub fn clear_words(words: &mut [u64])
     ensures { words.new ≡ replicate (length words.old) 0 }
 {
-    let mut k: usize = 0;
-    while k < words.len() {
-        set64(words, k, 0);
-        k += 1;
-    }
+    words.fill(0);
 }
 
 // A third state gets the join of two, where the second adds to the first; else it becomes empty. The answer says which.

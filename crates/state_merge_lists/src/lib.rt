@@ -2,20 +2,20 @@
 #![tactic(auto)]
 
 ghost use Rattle.std.specs.Prelude.{◌≡◌};
-ghost use Rattle.lent_values.specs.Cells.{option_of};
 ghost use Rattle.state_adds.specs.Lists.{put_entry, merge_value, merge_values, merge_set, merge_sets, rows_of};
 
+use def_kinds::AbstractValue;
 use lent_set_writes::{add_set, put_set};
-use lent_values::{Entry, put_value, value_at};
+use lent_values::{join_entries, put_value, value_at};
 use state_adds::{adds_set, adds_value, row_count};
 
 // Value v gets an entry; nothing changes for none.
-fn put_entry(values: &mut [u64], v: usize, e: Entry)
-    ensures { values.new ≡ put_entry values.old v (option_of e) }
+fn put_entry(values: &mut [u64], v: usize, e: Option<AbstractValue>)
+    ensures { values.new ≡ put_entry values.old v e }
 {
     match e {
-        Entry::Absent => {}
-        Entry::Present(a) => {
+        None => {}
+        Some(a) => {
             put_value(values, v, a);
         }
     }
@@ -29,7 +29,7 @@ fn merge_value(values: &mut [u64], other: &[u64], v: usize)
     if adds_value(values, other, v) {
         let a = value_at(values, v);
         let b = value_at(other, v);
-        put_entry(values, v, a.join(b));
+        put_entry(values, v, join_entries(a, b));
     }
 }
 
@@ -37,10 +37,8 @@ fn merge_value(values: &mut [u64], other: &[u64], v: usize)
 pub fn merge_values(values: &mut [u64], other: &[u64])
     ensures { values.new ≡ merge_values values.old other.now }
 {
-    let mut v: usize = 0;
-    while v < 1024 {
+    for v in 0usize..1024 {
         merge_value(values, other, v);
-        v += 1;
     }
 }
 
@@ -62,9 +60,7 @@ pub fn merge_sets(sets: &mut [u64], other: &[u64])
     ensures { sets.new ≡ merge_sets (rows_of sets.old) sets.old other.now }
 {
     let n = row_count(sets.len());
-    let mut i: u32 = 0;
-    while i < n {
+    for i in 0..n {
         merge_set(sets, other, i);
-        i += 1;
     }
 }

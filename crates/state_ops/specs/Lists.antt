@@ -1,6 +1,5 @@
 -- What the operations of a state do to the lists that it is lent as. Assumes nothing: these are definitions.
-use Rattle.std.specs.Prelude.{ℕ, Bool, true, false, ◌&&◌, List, [], ◌∷◌, eqb}
-use Rattle.std.proofs.Math.Option.{Option, none, some}
+use Rattle.std.specs.Prelude.{ℕ, Bool, true, false, ◌&&◌, List, [], ◌∷◌, eqb, Option, None, Some}
 use Rattle.base_sets.specs.Members.{singleton, union, values_of, bits_of}
 use Rattle.def_kinds.specs.declared.ValueKind.TheVariants.{Frozen}
 use Rattle.def_kinds.specs.declared.AbstractValue.{AbstractValue}
@@ -27,16 +26,16 @@ frozen_values vs ss i reason = elim (freezes vs ss i) [ true ↦ freeze_all reas
 
 -- an entry where none stands yet
 abbrev pub inserted : List ℕ → ℕ → Option AbstractValue → List ℕ
-inserted vs v none = put_value vs v default
-inserted vs v (some a) = vs
+inserted vs v None = put_value vs v default
+inserted vs v (Some a) = vs
 
 -- the own value of a place, Mutable {Other} where it had no entry
 unfoldable pub own_inserted : List ℕ → ℕ → List ℕ
 own_inserted vs from = inserted vs (from_identifier from) (value_at vs (from_identifier from))
 
 abbrev pub own_value : List ℕ → ℕ → Option ℕ → List ℕ
-own_value vs from none = own_inserted vs from
-own_value vs from (some s) = vs
+own_value vs from None = own_inserted vs from
+own_value vs from (Some s) = vs
 
 -- the values after an assignment from a place: an undefined one gets its own value
 unfoldable pub assigned_values : List ℕ → List ℕ → ℕ → List ℕ
@@ -47,8 +46,8 @@ unfoldable pub own_sets : List ℕ → ℕ → ℕ → List ℕ
 own_sets ss into from = put_set ss into (singleton (from_identifier from))
 
 abbrev pub set_or_own : List ℕ → ℕ → ℕ → Option ℕ → List ℕ
-set_or_own ss into from none = own_sets ss into from
-set_or_own ss into from (some s) = put_set ss into s
+set_or_own ss into from None = own_sets ss into from
+set_or_own ss into from (Some s) = put_set ss into s
 
 -- the sets after it
 unfoldable pub assigned_sets : List ℕ → ℕ → ℕ → List ℕ

@@ -1,7 +1,6 @@
 -- Any tables, with a state that is lent as two lists of words. Assumes nothing: these are definitions.
 use Rattle.std.specs.Prelude.{ℕ, Bool, List}
 use Rattle.def_transfer.specs.Tables.{Tables, Rest, World}
-use Rattle.def_transfer.specs.State.{set_of, value_of}
 use Rattle.lent_values.specs.Cells.{value_at, put_value}
 use Rattle.lent_sets.specs.Rows.{set_at, put_set}
 

@@ -11,26 +11,19 @@ ghost use Rattle.state_ops.specs.Use.{after_use};
 
 use def_effects::{Session, Span};
 use def_kinds::AbstractValue;
-use lent_members::next_member;
+use lent_members::members;
 use lent_sets::is_defined;
-use lent_slices::wide32;
-use lent_values::{Entry, value_at};
+use lent_values::{join_entries, or_default, value_at};
 
 // The kind of a place: the join of the entries of its values, Mutable {Other} where there is none.
 // It looks at the words of the row and the entries of its members, and records no access.
 pub fn kind_of(values: &[u64], sets: &[u64], i: u32) -> AbstractValue
     ensures { result ≡ kind_of (value_at values.now) (set_at sets.now i) }
 {
-    let mut e = Entry::Absent;
-    if !is_defined(sets, i) {
-        return e.or_default();
-    }
-    let mut m = next_member(sets, i, 1);
-    while m < 1024 {
-        e = e.join(value_at(values, wide32(m)));
-        m = next_member(sets, i, m + 1);
-    }
-    e.or_default()
+    let entry = members(sets, i).fold(None, |entry, m| {
+        join_entries(entry, value_at(values, m as usize))
+    });
+    or_default(entry)
 }
 
 // 1 + i, which is how a session holds an identifier.

@@ -1,16 +1,16 @@
 -- What a public call on two lent states comes to: a refusal that leaves all as it was, or the merge and the order of states on the lent lists.
 -- Assumes nothing: these are definitions.
-use Rattle.std.specs.Prelude.{ℕ, zero, suc, Bool, false, List, eqb, length}
+use Rattle.std.specs.Prelude.{ℕ, zero, suc, Bool, true, false, List, eqb, length, Option, None, Some, Result, Ok, Err}
 use Rattle.base_tests.specs.Tests.{ite}
 use Rattle.def_effects.specs.declared.Session.{Session}
 use Rattle.def_transfer.specs.Monad.{Done}
 use Rattle.def_transfer.specs.Merge.{above, adds, clear_access}
 use Rattle.refuse_class.specs.Class.{lower}
+use Rattle.def_refusals.specs.declared.Refusal.{Refusal}
+use Rattle.def_refusals.specs.Verdicts.{number_of}
 use Rattle.refuse_entries.specs.Words.{state_refusal, entries}
 use Rattle.state_adds.specs.Lists.{merge_values, merge_sets, rows_of, merged_values, merged_sets}
 use Rattle.state_calls.specs.Calls.{Outcome}
-use Rattle.state_calls.specs.declared.TestAnswer.{TestAnswer}
-use Rattle.state_pairs.specs.declared.MergeAnswer.{MergeAnswer}
 use Rattle.state_pairs.specs.declared.SessionAnswer.{SessionAnswer}
 
 -- ---- refusals of a call on two states
@@ -40,11 +40,45 @@ unfoldable pub refusing : {A : Type 0} → ℕ → (ℕ → A) → A → A
 refusing zero kept does = does
 refusing (suc n) kept does = kept (suc n)
 
+-- ---- what each call says: 0 or a refusal, and its answer
+
+-- whether the first state is above or equal to the second
+pub record Compared : Type 0 where
+  pub refusal : ℕ
+  pub answer : Bool
+
+-- whether the second state adds to the first, and the function-expression flag of the third
+pub record Merged : Type 0 where
+  pub refusal : ℕ
+  pub answer : Bool
+  pub flag : Bool
+
+-- the session after the call, and the function-expression flag of the first state
+pub record Joined : Type 0 where
+  pub refusal : ℕ
+  pub session : Session
+  pub flag : Bool
+
+-- what the Result of each call says: with a refusal its number, the answer no, and the session and the flag as they were lent
+abbrev pub above_said : Result Bool Refusal → Compared
+above_said (Ok b) = record { refusal = 0; answer = b }
+above_said (Err r) = record { refusal = number_of r; answer = false }
+
+-- a third state that is merged comes with its flag; one that is empty has none, so its flag is no
+abbrev pub merge_said : Result (Option Bool) Refusal → Merged
+merge_said (Ok (Some flag)) = record { refusal = 0; answer = true; flag = flag }
+merge_said (Ok None) = record { refusal = 0; answer = false; flag = false }
+merge_said (Err r) = record { refusal = number_of r; answer = false; flag = false }
+
+abbrev pub from_said : Session → Bool → Result SessionAnswer Refusal → Joined
+from_said s left (Ok a) = record { refusal = 0; session = a.session; flag = a.flag }
+from_said s left (Err r) = record { refusal = number_of r; session = s; flag = left }
+
 -- ---- the calls
 
 -- whether the first state is above or equal to the second; nothing is written
 -- "one state is above or equal to another if it has each value entry and each defined identifier of the other, .."; flag and first access don't count
-unfoldable pub is_above : List ℕ → List ℕ → List ℕ → List ℕ → Session → TestAnswer
+unfoldable pub is_above : List ℕ → List ℕ → List ℕ → List ℕ → Session → Compared
 is_above vs ss ws ts s =
     refusing (pair_refusal vs ss ws ts s) (λ n. record { refusal = n; answer = false })
     (record { refusal = 0; answer = above (entries vs ss) (entries ws ts) })
@@ -81,11 +115,11 @@ kept_flag left right = left
 unfoldable pub merged_flag : Bool → Bool → Bool → Bool
 merged_flag adds left right = ite adds (kept_flag left right) false
 
--- the answer of merge as a struct, by the flags of the two states: a refusal answers no, so its flag is no
+-- what merge says, by the flags of the two states: a refusal answers no, so its flag is no
 -- its lists are the lent ones, and the session stays
-abbrev pub merge_answer : Bool → Bool → Outcome Bool → MergeAnswer
+abbrev pub merge_answer : Bool → Bool → Outcome Bool → Merged
 merge_answer left right o = record { refusal = o.refusal; answer = o.answer; flag = merged_flag o.answer left right }
 
--- the answer of merge_from as a struct, by the flags of the two states: refused or not, the left flag is kept
-abbrev pub session_answer : Bool → Bool → Outcome Done → SessionAnswer
+-- what merge_from says, by the flags of the two states: refused or not, the left flag is kept
+abbrev pub session_answer : Bool → Bool → Outcome Done → Joined
 session_answer left right o = record { refusal = o.refusal; session = o.session; flag = kept_flag left right }

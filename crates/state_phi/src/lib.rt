@@ -6,11 +6,12 @@ ghost use Rattle.base_tests.specs.Tests.{any_of};
 ghost use Rattle.def_transfer.specs.State as State;
 ghost use Rattle.state_calls.specs.Calls as Calls;
 ghost use Rattle.state_calls.specs.Calls.{outside};
-ghost use Rattle.state_calls.specs.Plain.{MeansPlain, leaving};
+ghost use Rattle.state_calls.specs.Answers.{done_outcome};
+ghost use Rattle.state_calls.specs.Plain.{MeansPlain};
 
 use def_effects::Session;
-use lent_slices::get32;
-use state_calls::{either, outside};
+use def_refusals::Verdict;
+use state_calls::outside;
 use state_refusals::refusal_of;
 
 // Whether an operand is not in the list.
@@ -18,35 +19,25 @@ use state_refusals::refusal_of;
 fn any_outside(sets: &[u64], operands: &[u32]) -> bool
     ensures { result ≡ any_of (outside sets.now) operands.now }
 {
-    let mut k: usize = 0;
-    while k < operands.len() {
-        if outside(sets, get32(operands, k)) {
-            return true;
-        }
-        k += 1;
-    }
-    false
+    operands.iter().any(|&i| outside(sets, i))
 }
 
 // A place gets the union of its operands' sets, unless that is empty.
+#[tactic(auto, using(state_calls::proofs::Laws::More::phi_ends, state_calls::proofs::Laws::More::phi_refused, state_calls::proofs::Laws::Said::done_said, state_means::proofs::Laws::Promises::infer_phi_promise))]
 pub fn infer_phi(
     values: &[u64],
     sets: &mut [u64],
     session: Session,
     place: u32,
     operands: &[u32],
-) -> u32
-    ensures { (result ≡ (Calls.infer_phi values.now sets.old session place operands.now).refusal)
-        × (sets.new ≡ (Calls.infer_phi values.now sets.old session place operands.now).sets)
+) -> Verdict
+    ensures { (done_outcome values.now sets.new session result
+        ≡ Calls.infer_phi values.now sets.old session place operands.now)
         × MeansPlain false (State.infer_phi place operands.now) values.now sets.old session
-        (leaving result tt values.now sets.new session) }
+        (done_outcome values.now sets.new session result) }
 {
-    let a = outside(sets, place);
-    let b = any_outside(sets, operands);
-    let refusal = refusal_of(values, sets, session, either(a, b), false);
-    if refusal != 0 {
-        return refusal;
-    }
+    let out = outside(sets, place) || any_outside(sets, operands);
+    refusal_of(values, sets, session, out, false)?;
     state_assign::infer_phi(sets, place, operands);
-    refusal
+    Ok(())
 }

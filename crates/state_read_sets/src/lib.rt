@@ -2,47 +2,42 @@
 // A state is lent as 1,024 words of values and 16 words of sets for each identifier; the session comes and goes by value.
 #![tactic(auto)]
 
-ghost use Rattle.std.specs.Prelude.{◌≡◌, false, length, take, replicate};
+ghost use Rattle.std.specs.Prelude.{◌≡◌, false};
 ghost use Rattle.lent_sets.specs.Rows.{set_at};
 ghost use Rattle.base_sets.specs.Members.{values_of};
+ghost use Rattle.def_refusals.specs.Verdicts.{class_of};
 ghost use Rattle.refuse_entries.specs.Words.{state_refusal};
 ghost use Rattle.def_transfer.specs.State as State;
 ghost use Rattle.state_calls.specs.Calls as Calls;
-ghost use Rattle.state_calls.specs.Calls.{test_answer, written, values_refusal, values_answer, values_listed};
-ghost use Rattle.state_calls.specs.Plain.{MeansPlain, leaving, values_for};
+ghost use Rattle.state_calls.specs.Calls.{written, values_refusal, values_answer, values_listed};
+ghost use Rattle.state_calls.specs.Answers.{test_outcome, count_outcome, listed_outcome};
+ghost use Rattle.state_calls.specs.Plain.{MeansPlain, values_for};
 
 use def_effects::Session;
+use def_refusals::{Refusal, Verdict};
+use lent_members::{members, size};
 use lent_sets;
-use lent_slices::set32;
-use refuse_state::state_refusal;
-use state_calls::{CountAnswer, TestAnswer};
-use state_refusals::refusal1;
+use lent_slices::set;
+use state_refusals::{refusal1, state_refusal};
 
 // Whether a place is defined.
-pub fn is_defined(values: &[u64], sets: &[u64], session: Session, i: u32) -> TestAnswer
-    ensures { (result ≡ test_answer (Calls.is_defined values.now sets.now session i))
+#[tactic(auto, using(state_calls::proofs::Laws::Call::defined_ends, state_calls::proofs::Laws::Call::defined_refused, state_calls::proofs::Laws::Said::test_said, state_means::proofs::Laws::Promises::is_defined_promise))]
+pub fn is_defined(values: &[u64], sets: &[u64], session: Session, i: u32) -> Result<bool, Refusal>
+    ensures { (test_outcome values.now sets.now session result
+        ≡ Calls.is_defined values.now sets.now session i)
         × MeansPlain false (State.is_defined i) values.now sets.now session
-        (leaving result.refusal result.answer values.now sets.now session) }
+        (test_outcome values.now sets.now session result) }
 {
-    let refusal = refusal1(values, sets, session, i);
-    if refusal != 0 {
-        return TestAnswer {
-            refusal,
-            answer: false,
-        };
-    }
-    let answer = lent_sets::is_defined(sets, i);
-    TestAnswer { refusal, answer }
+    refusal1(values, sets, session, i)?;
+    Ok(lent_sets::is_defined(sets, i))
 }
 
-// The number with which a state is refused, with its session; 0 where it is accepted.
+// Whether a state is accepted, with its session; else why it is refused.
 // A state is accepted if nothing in it earns 1 to 4.
-pub fn accepted(values: &[u64], sets: &[u64], session: Session) -> u32
-    ensures { result ≡ state_refusal values.now sets.now session.next session.access }
+pub fn accepted(values: &[u64], sets: &[u64], session: Session) -> Verdict
+    ensures { class_of result ≡ state_refusal values.now sets.now session.next session.access }
 {
-    let next = session.next;
-    let access = session.access;
-    state_refusal(values, sets, next, access)
+    state_refusal(values, sets, session)
 }
 
 // The values of a place, ascending, from the first word of a list on.
@@ -50,60 +45,41 @@ pub fn accepted(values: &[u64], sets: &[u64], session: Session) -> u32
 fn write_values(sets: &[u64], i: u32, out: &mut [u32])
     ensures { out.new ≡ written (values_of (set_at sets.now i)) 0 out.old }
 {
-    if !lent_sets::is_defined(sets, i) {
-        return;
-    }
-    let mut k: usize = 0;
-    let mut m = lent_members::next_member(sets, i, 1);
-    while m < 1024 {
-        set32(out, k, m);
-        k += 1;
-        m = lent_members::next_member(sets, i, m + 1);
-    }
-}
-
-// Every word of a list becomes 0.
-// An output list is cleared before it is written, so that it is zero after a refusal.
-fn clear(words: &mut [u32])
-    ensures { words.new ≡ replicate (length words.old) 0 }
-{
-    let mut k: usize = 0;
-    while k < words.len() {
-        set32(words, k, 0);
-        k += 1;
+    for (k, m) in members(sets, i).enumerate() {
+        set(out, k, m);
     }
 }
 
 // The refusal of a call that lists the values of a place: 1 too where its list has not 1,024 words.
 // A set has at most 1,023 values, so such a list suffices.
-fn values_refusal(values: &[u64], sets: &[u64], session: Session, i: u32, room: usize) -> u32
-    ensures { result ≡ values_refusal values.now sets.now session i room }
+#[tactic(auto, using(state_calls::proofs::Laws::More::room_wrong, state_calls::proofs::Laws::More::room_right))]
+fn values_refusal(values: &[u64], sets: &[u64], session: Session, i: u32, room: usize) -> Verdict
+    ensures { class_of result ≡ values_refusal values.now sets.now session i room }
 {
     if room != 1024 {
-        return 1;
+        return Err(Refusal::Length);
     }
     refusal1(values, sets, session, i)
 }
 
 // The values of a place in ascending order, in a list of 1,024 words with zeros behind them, and how many there are.
+// The list is cleared before it is written, so that it is zero after a refusal.
 pub fn values_for(
     values: &[u64],
     sets: &[u64],
     session: Session,
     i: u32,
     out: &mut [u32],
-) -> CountAnswer
-    ensures { (result ≡ values_answer values.now sets.now session i out.old)
+) -> Result<u32, Refusal>
+    ensures { (count_outcome values.now sets.now session result
+        ≡ values_answer values.now sets.now session i out.old)
         × (out.new ≡ values_listed values.now sets.now session i out.old)
         × MeansPlain false (values_for i) values.now sets.now session
-        (leaving result.refusal (take result.count out.new) values.now sets.now session) }
+        (listed_outcome out.new values.now sets.now session result) }
 {
-    let refusal = values_refusal(values, sets, session, i, out.len());
-    clear(out);
-    if refusal != 0 {
-        return CountAnswer { refusal, count: 0 };
-    }
+    let verdict = values_refusal(values, sets, session, i, out.len());
+    out.fill(0);
+    verdict?;
     write_values(sets, i, out);
-    let count = lent_members::size(sets, i);
-    CountAnswer { refusal, count }
+    Ok(size(sets, i))
 }

@@ -2,38 +2,45 @@
 #![tactic(auto)]
 
 ghost use Rattle.std.specs.Prelude.{◌≡◌};
-ghost use Rattle.state_calls.specs.Calls.{worst, refusal_of, outside, refusal1, refusal2};
+ghost use Rattle.def_refusals.specs.Verdicts.{class_of};
+ghost use Rattle.refuse_entries.specs.Words.{state_refusal};
+ghost use Rattle.state_calls.specs.Calls.{refusal_of, outside, refusal1, refusal2};
 
 use def_effects::Session;
-use refuse_state::state_refusal;
-use state_calls::{either, outside, worst};
+use def_refusals::Verdict;
+use refuse_state;
+use state_calls::{outside, worst};
+
+// What a state with its session is refused for.
+pub fn state_refusal(values: &[u64], sets: &[u64], session: Session) -> Verdict
+    ensures { class_of result ≡ state_refusal values.now sets.now session.next session.access }
+{
+    refuse_state::state_refusal(values, sets, session.next, session.access)
+}
 
 // The refusal of a call, by its state and its arguments' classes.
-// 0 where all is well.
-pub fn refusal_of(values: &[u64], sets: &[u64], session: Session, out: bool, unfit: bool) -> u32
-    ensures { result ≡ refusal_of values.now sets.now session out unfit }
+#[tactic(auto, unfolding(state_calls::specs::Calls::refusal_of))]
+pub fn refusal_of(values: &[u64], sets: &[u64], session: Session, out: bool, unfit: bool) -> Verdict
+    ensures { class_of result ≡ refusal_of values.now sets.now session out unfit }
 {
-    worst(
-        state_refusal(values, sets, session.next, session.access),
-        out,
-        unfit,
-    )
+    worst(state_refusal(values, sets, session), out, unfit)
 }
 
 // The refusal of a call with one identifier.
-// 3 where it is not in the list.
-pub fn refusal1(values: &[u64], sets: &[u64], session: Session, i: u32) -> u32
-    ensures { result ≡ refusal1 values.now sets.now session i }
+// Range where it is not in the list.
+#[tactic(auto, unfolding(state_calls::specs::Calls::refusal1))]
+pub fn refusal1(values: &[u64], sets: &[u64], session: Session, i: u32) -> Verdict
+    ensures { class_of result ≡ refusal1 values.now sets.now session i }
 {
     refusal_of(values, sets, session, outside(sets, i), false)
 }
 
 // The refusal of a call with two identifiers.
-// 3 where one is not in the list.
-pub fn refusal2(values: &[u64], sets: &[u64], session: Session, i: u32, j: u32) -> u32
-    ensures { result ≡ refusal2 values.now sets.now session i j }
+// Range where one is not in the list.
+#[tactic(auto, unfolding(state_calls::specs::Calls::refusal2))]
+pub fn refusal2(values: &[u64], sets: &[u64], session: Session, i: u32, j: u32) -> Verdict
+    ensures { class_of result ≡ refusal2 values.now sets.now session i j }
 {
-    let a = outside(sets, i);
-    let b = outside(sets, j);
-    refusal_of(values, sets, session, either(a, b), false)
+    let out = outside(sets, i) || outside(sets, j);
+    refusal_of(values, sets, session, out, false)
 }

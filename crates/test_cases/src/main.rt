@@ -2,102 +2,87 @@
 // Kinds and reasons are printed by their numbers: Other is bit 11 of the reasons, 2048, and State bit 1, 2.
 #![tactic(auto)]
 
-use def_effects::{Session, Span};
 use def_kinds::{AbstractValue, ValueKind};
-use state_calls::{KindAnswer, TestAnswer};
-use state_pairs::MergeAnswer;
+use def_refusals::Refusal;
+use state_calls::KindAnswer;
 use std::io;
-
-// A session with every fresh number handed out and no access.
-fn session() -> Session {
-    let span = Span { start: 0, end: 0 };
-    Session {
-        next: 512,
-        access: 0,
-        span,
-        entries: 0,
-    }
-}
-
-// Document 01's number of a kind.
-fn code(kind: ValueKind) -> u64 {
-    match kind {
-        ValueKind::Mutable => 0,
-        ValueKind::Frozen => 1,
-        ValueKind::Primitive => 2,
-        ValueKind::MaybeFrozen => 3,
-        ValueKind::Global => 4,
-        ValueKind::Context => 5,
-    }
-}
+use test_bytes::session;
 
 // Value v gets a kind and reasons.
 fn put(values: &mut [u64], sets: &[u64], v: u32, kind: ValueKind, reason: u32) {
-    state_write_values::initialize(values, sets, session(), v, AbstractValue { kind, reason });
+    let _ = state_write_values::initialize(
+        values,
+        sets,
+        session(512),
+        v,
+        AbstractValue { kind, reason },
+    );
 }
 
 // Place 0 gets the values 1 and 2.
 fn both(values: &[u64], sets: &mut [u64]) {
-    state_write_sets::define(values, sets, session(), 0, 1);
-    state_write_sets::define(values, sets, session(), 1, 2);
-    state_write_sets::append_alias(values, sets, session(), 0, 1);
-}
-
-// A number with a word before it.
-fn say(rt: &impl Print, name: &str, n: u64) -> io::Result<()> {
-    print!(rt; "{name}{n}")
+    let _ = state_write_sets::define(values, sets, session(512), 0, 1);
+    let _ = state_write_sets::define(values, sets, session(512), 1, 2);
+    let _ = state_write_sets::append_alias(values, sets, session(512), 0, 1);
 }
 
 // A line: case, refusal, kind, reasons, first access.
-fn say_kind(rt: &impl Print, n: u64, a: KindAnswer) -> io::Result<()> {
-    let value = a.value;
-    let kind = value.kind;
-    let after = a.session;
-    say(rt, "case ", n)?;
-    say(rt, ": refusal ", a.refusal as u64)?;
-    say(rt, ", kind ", code(kind))?;
-    say(rt, ", reasons ", value.reason as u64)?;
-    say(rt, ", access ", after.access as u64)?;
-    println!(rt)
-}
-
-// A test's answer by its number.
-fn flag(b: bool) -> u64 {
-    if b { 1 } else { 0 }
+fn say_kind(rt: &impl Print, n: u32, answer: Result<KindAnswer, Refusal>) -> io::Result<()> {
+    match answer {
+        Ok(a) => println!(rt;
+            "case {n}: refusal 0, kind {}, reasons {}, access {}",
+            a.value.kind as u32, a.value.reason, a.session.access
+        ),
+        Err(refusal) => println!(rt;
+            "case {n}: refusal {}, kind 0, reasons 0, access 0",
+            refusal.number()
+        ),
+    }
 }
 
 // A line: case, refusal, yes or no.
-fn say_test(rt: &impl Print, n: u64, a: TestAnswer) -> io::Result<()> {
-    say(rt, "case ", n)?;
-    say(rt, ": refusal ", a.refusal as u64)?;
-    say(rt, ", answer ", flag(a.answer))?;
-    println!(rt)
+fn say_test(rt: &impl Print, n: u32, answer: Result<bool, Refusal>) -> io::Result<()> {
+    match answer {
+        Ok(yes) => println!(rt; "case {n}: refusal 0, answer {}", u32::from(yes)),
+        Err(refusal) => println!(rt; "case {n}: refusal {}, answer 0", refusal.number()),
+    }
 }
 
 // A line: case, refusal, yes or no, the third state's flag.
-fn say_merge(rt: &impl Print, n: u64, a: MergeAnswer) -> io::Result<()> {
-    say(rt, "case ", n)?;
-    say(rt, ": refusal ", a.refusal as u64)?;
-    say(rt, ", answer ", flag(a.answer))?;
-    say(rt, ", flag ", flag(a.flag))?;
-    println!(rt)
+fn say_merge(rt: &impl Print, n: u32, answer: Result<Option<bool>, Refusal>) -> io::Result<()> {
+    match answer {
+        Ok(merged) => println!(rt;
+            "case {n}: refusal 0, answer {}, flag {}",
+            u32::from(merged.is_some()),
+            u32::from(merged == Some(true))
+        ),
+        Err(refusal) => println!(rt; "case {n}: refusal {}, answer 0, flag 0", refusal.number()),
+    }
 }
 
 // 2, 3, 4: the kind of a place with two values.
-fn joined(rt: &impl Print, n: u64, first: ValueKind, second: ValueKind) -> io::Result<()> {
+fn joined(rt: &impl Print, n: u32, first: ValueKind, second: ValueKind) -> io::Result<()> {
     let mut values = [0u64; 1024];
     let mut sets = [0u64; 8192];
     put(&mut values, &sets, 1, first, 2048);
     put(&mut values, &sets, 2, second, 2048);
     both(&values, &mut sets);
-    say_kind(rt, n, state_read_kinds::kind(&values, &sets, session(), 0))
+    say_kind(
+        rt,
+        n,
+        state_read_kinds::kind(&values, &sets, session(512), 0),
+    )
 }
 
 // 5: an undefined place is Mutable {Other}, and recorded.
 fn undefined(rt: &impl Print) -> io::Result<()> {
     let values = [0u64; 1024];
     let sets = [0u64; 8192];
-    say_kind(rt, 5, state_read_kinds::kind(&values, &sets, session(), 7))
+    say_kind(
+        rt,
+        5,
+        state_read_kinds::kind(&values, &sets, session(512), 7),
+    )
 }
 
 // 6: a place that is defined, with an empty set: the same, nothing recorded. Bit 0 of its row says that it is defined.
@@ -105,7 +90,11 @@ fn empty_set(rt: &impl Print) -> io::Result<()> {
     let values = [0u64; 1024];
     let mut sets = [0u64; 8192];
     lent_set_writes::put_set(&mut sets, 7, &[0u64; 16]);
-    say_kind(rt, 6, state_read_kinds::kind(&values, &sets, session(), 7))
+    say_kind(
+        rt,
+        6,
+        state_read_kinds::kind(&values, &sets, session(512), 7),
+    )
 }
 
 // 7: a freeze of {Mutable, Primitive}: both Frozen.
@@ -118,11 +107,19 @@ fn freeze_both(rt: &impl Print) -> io::Result<()> {
     say_test(
         rt,
         7,
-        state_write_values::freeze(&mut values, &sets, session(), 0, 1),
+        state_write_values::freeze(&mut values, &sets, session(512), 0, 1),
     )?;
-    state_write_sets::define(&values, &mut sets, session(), 0, 1);
-    say_kind(rt, 7, state_read_kinds::kind(&values, &sets, session(), 0))?;
-    say_kind(rt, 7, state_read_kinds::kind(&values, &sets, session(), 1))
+    let _ = state_write_sets::define(&values, &mut sets, session(512), 0, 1);
+    say_kind(
+        rt,
+        7,
+        state_read_kinds::kind(&values, &sets, session(512), 0),
+    )?;
+    say_kind(
+        rt,
+        7,
+        state_read_kinds::kind(&values, &sets, session(512), 1),
+    )
 }
 
 // 8: a freeze of Frozen {State}: no, and the reason is kept.
@@ -130,13 +127,17 @@ fn freeze_frozen(rt: &impl Print) -> io::Result<()> {
     let mut values = [0u64; 1024];
     let mut sets = [0u64; 8192];
     put(&mut values, &sets, 1, ValueKind::Frozen, 2);
-    state_write_sets::define(&values, &mut sets, session(), 0, 1);
+    let _ = state_write_sets::define(&values, &mut sets, session(512), 0, 1);
     say_test(
         rt,
         8,
-        state_write_values::freeze(&mut values, &sets, session(), 0, 5),
+        state_write_values::freeze(&mut values, &sets, session(512), 0, 5),
     )?;
-    say_kind(rt, 8, state_read_kinds::kind(&values, &sets, session(), 0))
+    say_kind(
+        rt,
+        8,
+        state_read_kinds::kind(&values, &sets, session(512), 0),
+    )
 }
 
 // 9: a phi of undefined operands leaves its place.
@@ -144,9 +145,13 @@ fn phi_of_none(rt: &impl Print) -> io::Result<()> {
     let mut values = [0u64; 1024];
     let mut sets = [0u64; 8192];
     put(&mut values, &sets, 1, ValueKind::Context, 2048);
-    state_write_sets::define(&values, &mut sets, session(), 0, 1);
-    state_phi::infer_phi(&values, &mut sets, session(), 0, &[3u32, 4]);
-    say_kind(rt, 9, state_read_kinds::kind(&values, &sets, session(), 0))
+    let _ = state_write_sets::define(&values, &mut sets, session(512), 0, 1);
+    let _ = state_phi::infer_phi(&values, &mut sets, session(512), 0, &[3u32, 4]);
+    say_kind(
+        rt,
+        9,
+        state_read_kinds::kind(&values, &sets, session(512), 0),
+    )
 }
 
 // 14: a state merged with itself: None, so no flag either.
@@ -168,7 +173,7 @@ fn merged_with_itself(rt: &impl Print) -> io::Result<()> {
             &values,
             &sets,
             true,
-            session(),
+            session(512),
             &mut values3,
             &mut sets3,
         ),

@@ -2,350 +2,118 @@
 // The lists are docs/VECTORS.md's, part 5; their names are the arguments. Prints each job that failed, then how many were replayed.
 #![tactic(auto)]
 
-ghost use Rattle.std.specs.Prelude.{◌≤◌, ◌<◌, IfOk, length};
+ghost use Rattle.std.specs.Prelude.{◌≤◌, IfOk, length};
 
 use call_outcome::Applied;
 use def_effects::{Place, Session, Span};
-use lent_slices::{get32, get64, set32, set64, wide32};
+use def_refusals::Refusal;
+use lent_slices::get_or;
 use refuse_context::context_class;
 use std::io::Read;
-use std::rt::{Env, Runtime};
+use std::rt::Runtime;
 use std::{fs, io};
+use test_bytes::{Reading, argument, read_full};
 
-// Where the reading of a job stands, and how many differences were found in it.
-// What is compared goes through a job from its first word to its last.
-#[derive(Clone, Copy)]
-struct Cursor {
-    at: u32,
-    faults: u32,
+// What is lent to a call beside its candidates.
+#[derive(Drop)]
+struct Lent<'a> {
+    values: &'a mut [u64],
+    sets: &'a mut [u64],
+    context: &'a mut [u32],
+    output: &'a mut [u32],
+    scratch64: &'a mut [u64],
+    scratch32: &'a mut [u32],
 }
 
-// The same while a table is compared: below which of its words all is compared.
-// Between two runs all words have to be zero.
-#[derive(Clone, Copy)]
-struct Seen {
-    at: u32,
-    faults: u32,
-    done: u32,
+// A word of a table, as a job writes it.
+trait Word: Copy + PartialEq {
+    const ZERO: Self;
+
+    fn read(job: &mut Reading) -> Self;
 }
 
-// What goes on from one instruction of a job to the next, beside the tables.
-// The reading, the differences, session and flag.
-#[derive(Clone, Copy)]
-struct Going {
-    at: u32,
-    faults: u32,
-    session: Session,
-    flag: bool,
-}
+impl Word for u32 {
+    const ZERO: u32 = 0;
 
-// How a list of jobs went.
-#[derive(Clone, Copy)]
-struct Score {
-    instructions: u32,
-    failed: u32,
-}
-
-// ---- words of a job
-
-// Byte k of a job, or 0 past its end.
-// Total, so that no caller has an index to prove.
-fn byte(bytes: &[u8], k: usize) -> u8 {
-    if k < bytes.len() { bytes[k] } else { 0 }
-}
-
-// A byte as a word.
-fn wide8(x: u8) -> u32
-    ensures { result < 256 }
-{
-    x as u32
-}
-
-// Word k of a job, its lowest byte first.
-// Words past its end are 0.
-fn word(bytes: &[u8], k: u32) -> u32 {
-    let b = wide32(k) * 4;
-    let low = wide8(byte(bytes, b)) + wide8(byte(bytes, b + 1)) * 256;
-    let high = wide8(byte(bytes, b + 2)) + wide8(byte(bytes, b + 3)) * 256;
-    low + high * 65536
-}
-
-// A sum that stops at 2^32 - 1.
-fn plus(a: u32, b: u32) -> u32 {
-    if a <= 4294967295 - b {
-        return a + b;
-    }
-    4294967295
-}
-
-// A u32 as a word of 64 bits.
-fn wide64(x: u32) -> u64
-    ensures { result < 4294967296 }
-{
-    x as u64
-}
-
-// A word of 64 bits from word k on, its lower half first.
-// Values and sets are of such words.
-fn word64(bytes: &[u8], k: u32) -> u64 {
-    wide64(word(bytes, k)) + wide64(word(bytes, plus(k, 1))) * 4294967296
-}
-
-// 1 where a test fails, else 0.
-fn fault(ok: bool) -> u32 {
-    if ok { 0 } else { 1 }
-}
-
-// A yes or no by its number.
-fn flag_code(b: bool) -> u32 {
-    if b { 1 } else { 0 }
-}
-
-// The difference of the next word from a number, and the reading after it.
-// Answers are compared word by word.
-fn expect(bytes: &[u8], c: Cursor, x: u32) -> Cursor {
-    Cursor {
-        at: plus(c.at, 1),
-        faults: plus(c.faults, fault(word(bytes, c.at) == x)),
+    fn read(job: &mut Reading) -> u32 {
+        job.word()
     }
 }
 
-// ---- loading runs of words into a table
+// Values, sets and their scratch; its lower half comes first.
+impl Word for u64 {
+    const ZERO: u64 = 0;
 
-// n words of a job from `at` on are copied into a list, from `first` on.
+    fn read(job: &mut Reading) -> u64 {
+        u64::from_le_bytes(job.bytes())
+    }
+}
+
+// ---- tables: the count of their runs, and each run, which is its first index, its length and its words; all other words are zero
+
+// Loads a table into a list that is zero.
 // What passes the end of the list is left.
-fn load_words32(bytes: &[u8], at: u32, list: &mut [u32], first: u32, n: u32) {
-    let mut k: u32 = 0;
-    while k < n {
-        set32(list, wide32(first) + wide32(k), word(bytes, plus(at, k)));
-        k += 1;
+fn load<T: Word>(job: &mut Reading, list: &mut [T]) {
+    for _ in 0..job.word() {
+        let first = job.word() as usize;
+        for k in 0..job.word() as usize {
+            let x = T::read(job);
+            if let Some(place) = list.get_mut(first + k) {
+                *place = x;
+            }
+        }
     }
 }
-
-// The same with words of 64 bits, two words of the job each.
-fn load_words64(bytes: &[u8], at: u32, list: &mut [u64], first: u32, n: u32) {
-    let mut k: u32 = 0;
-    while k < n {
-        let from = plus(at, plus(k, k));
-        set64(list, wide32(first) + wide32(k), word64(bytes, from));
-        k += 1;
-    }
-}
-
-// One run: first index, length, words. Answers where the reading stands after it.
-// A table is written as the runs of its words that are not zero.
-fn load_run32(bytes: &[u8], at: u32, list: &mut [u32]) -> u32 {
-    let n = word(bytes, plus(at, 1));
-    load_words32(bytes, plus(at, 2), list, word(bytes, at), n);
-    plus(plus(at, 2), n)
-}
-
-// The same with words of 64 bits.
-fn load_run64(bytes: &[u8], at: u32, list: &mut [u64]) -> u32 {
-    let n = word(bytes, plus(at, 1));
-    load_words64(bytes, plus(at, 2), list, word(bytes, at), n);
-    plus(plus(at, 2), plus(n, n))
-}
-
-// A table: the count of its runs, and the runs. Answers where the reading stands after them.
-fn load32(bytes: &[u8], at: u32, list: &mut [u32]) -> u32 {
-    let n = word(bytes, at);
-    let mut next = plus(at, 1);
-    let mut k: u32 = 0;
-    while k < n {
-        next = load_run32(bytes, next, list);
-        k += 1;
-    }
-    next
-}
-
-// The same with words of 64 bits.
-fn load64(bytes: &[u8], at: u32, list: &mut [u64]) -> u32 {
-    let n = word(bytes, at);
-    let mut next = plus(at, 1);
-    let mut k: u32 = 0;
-    while k < n {
-        next = load_run64(bytes, next, list);
-        k += 1;
-    }
-    next
-}
-
-// ---- comparing a table with runs of words
 
 // Whether the words of a list from one to before another are zero.
-// What stands between two runs, and after the last.
-fn zero32(list: &[u32], from: u32, to: u32) -> bool {
-    let mut k = from;
-    while k < to {
-        if get32(list, wide32(k)) != 0 {
-            return false;
-        }
-        k += 1;
-    }
-    true
+// Lists that are shorter are zero past their end.
+fn is_zero<T: Word>(list: &[T], from: usize, to: usize) -> bool {
+    let end = to.min(list.len());
+    from >= end || list[from..end].iter().all(|x| *x == T::ZERO)
 }
 
-// The same with words of 64 bits.
-// For values, sets and their scratch.
-fn zero64(list: &[u64], from: u32, to: u32) -> bool {
-    let mut k = from;
-    while k < to {
-        if get64(list, wide32(k)) != 0 {
-            return false;
-        }
-        k += 1;
-    }
-    true
-}
-
-// Whether n words of a list from `first` on are those of a job from `at` on.
-// A run's words.
-fn same_words32(bytes: &[u8], at: u32, list: &[u32], first: u32, n: u32) -> bool {
-    let mut k: u32 = 0;
-    while k < n {
-        if get32(list, wide32(first) + wide32(k)) != word(bytes, plus(at, k)) {
-            return false;
-        }
-        k += 1;
-    }
-    true
-}
-
-// The same with words of 64 bits, two words of the job each.
-fn same_words64(bytes: &[u8], at: u32, list: &[u64], first: u32, n: u32) -> bool {
-    let mut k: u32 = 0;
-    while k < n {
-        let from = plus(at, plus(k, k));
-        if get64(list, wide32(first) + wide32(k)) != word64(bytes, from) {
-            return false;
-        }
-        k += 1;
-    }
-    true
-}
-
-// One run is compared, and the words before it up to where all is compared, which have to be zero.
+// Compares a list with the next run, and with zero from where all is compared up to the run; where all is compared after it.
 // Runs stand in the order of their indices.
-fn same_run32(bytes: &[u8], s: Seen, list: &[u32]) -> Seen {
-    let first = word(bytes, s.at);
-    let n = word(bytes, plus(s.at, 1));
-    let at = plus(s.at, 2);
-    let gap = fault(zero32(list, s.done, first));
-    let run = fault(same_words32(bytes, at, list, first, n));
-    Seen {
-        at: plus(at, n),
-        faults: plus(s.faults, plus(gap, run)),
-        done: plus(first, n),
+fn same_run<T: Word>(job: &mut Reading, list: &[T], done: usize) -> usize {
+    let first = job.word() as usize;
+    let n = job.word() as usize;
+    job.check(is_zero(list, done, first));
+    for k in 0..n {
+        let x = T::read(job);
+        job.check(list.get(first + k).copied().unwrap_or(T::ZERO) == x);
     }
+    first + n
 }
 
-// The same with words of 64 bits.
-fn same_run64(bytes: &[u8], s: Seen, list: &[u64]) -> Seen {
-    let first = word(bytes, s.at);
-    let n = word(bytes, plus(s.at, 1));
-    let at = plus(s.at, 2);
-    let gap = fault(zero64(list, s.done, first));
-    let run = fault(same_words64(bytes, at, list, first, n));
-    Seen {
-        at: plus(at, plus(n, n)),
-        faults: plus(s.faults, plus(gap, run)),
-        done: plus(first, n),
+// Compares the first `limit` words of a list with a table.
+// So nothing stands there but what is expected.
+fn same<T: Word>(job: &mut Reading, list: &[T], limit: usize) {
+    let mut done = 0;
+    for _ in 0..job.word() {
+        done = same_run(job, list, done);
     }
-}
-
-// The first `limit` words of a list are compared with runs: each run's words, and zero everywhere else.
-// So that nothing stands there but what is expected.
-fn same32(bytes: &[u8], c: Cursor, list: &[u32], limit: u32) -> Cursor {
-    let n = word(bytes, c.at);
-    let mut s = Seen {
-        at: plus(c.at, 1),
-        faults: c.faults,
-        done: 0,
-    };
-    let mut k: u32 = 0;
-    while k < n {
-        s = same_run32(bytes, s, list);
-        k += 1;
-    }
-    Cursor {
-        at: s.at,
-        faults: plus(s.faults, fault(zero32(list, s.done, limit))),
-    }
-}
-
-// The same with words of 64 bits.
-fn same64(bytes: &[u8], c: Cursor, list: &[u64], limit: u32) -> Cursor {
-    let n = word(bytes, c.at);
-    let mut s = Seen {
-        at: plus(c.at, 1),
-        faults: c.faults,
-        done: 0,
-    };
-    let mut k: u32 = 0;
-    while k < n {
-        s = same_run64(bytes, s, list);
-        k += 1;
-    }
-    Cursor {
-        at: s.at,
-        faults: plus(s.faults, fault(zero64(list, s.done, limit))),
-    }
+    job.check(is_zero(list, done, limit));
 }
 
 // ---- interned effects, which are recorded by their keys and not by their numbers
 
-// Whether record k of the interned effects is a given one of 98 words.
+// Whether record k of the interned effects is a given one.
 // They stand from word 37,830 of a context on.
-fn is_record(context: &[u32], k: u32, record: &[u32]) -> bool {
-    let base = 37830 + wide32(k) * 98;
-    let mut w: usize = 0;
-    while w < 98 {
-        if get32(context, base + w) != get32(record, w) {
+fn is_record(context: &[u32], k: u32, record: &[u32; 98]) -> bool {
+    let base = 37830 + k as usize * 98;
+    for (w, x) in record.iter().enumerate() {
+        if get_or(context, base + w, 0) != *x {
             return false;
         }
-        w += 1;
     }
     true
 }
 
 // Whether a given record is the interned effect that comes j-th by its key, and its number one of the first n.
 // The order of their numbers stands from word 35,269 of a context on.
-fn comes(context: &[u32], n: u32, j: u32, record: &[u32]) -> bool {
-    let k = get32(context, 35269 + wide32(j));
-    if k >= n {
-        return false;
-    }
-    is_record(context, k, record)
-}
-
-// The next record of a job is compared with the interned effect that comes j-th of n.
-fn same_record(bytes: &[u8], c: Cursor, context: &[u32], n: u32, j: u32) -> Cursor {
-    let mut record = [0u32; 98];
-    let at = load32(bytes, c.at, &mut record);
-    Cursor {
-        at,
-        faults: plus(c.faults, fault(comes(context, n, j, &record))),
-    }
-}
-
-// As many records of a job as it says are compared along the order, and nothing stands after as many places and effects.
-// Recorded effects ascend by their keys and differ from each other, so these are all of them, and the order is the one of their keys.
-fn same_records(bytes: &[u8], c: Cursor, context: &[u32], limit: u32) -> Cursor {
-    let n = word(bytes, c.at);
-    let mut s = Cursor {
-        at: plus(c.at, 1),
-        faults: c.faults,
-    };
-    let mut k: u32 = 0;
-    while k < n {
-        s = same_record(bytes, s, context, n, k);
-        k += 1;
-    }
-    Cursor {
-        at: s.at,
-        faults: plus(s.faults, fault(rest_zero(context, limit, n))),
-    }
+fn comes(context: &[u32], n: u32, j: u32, record: &[u32; 98]) -> bool {
+    let k = get_or(context, 35269 + j as usize, 0);
+    k < n && is_record(context, k, record)
 }
 
 // Whether a context is zero after n places of the order and after n interned effects.
@@ -354,585 +122,215 @@ fn rest_zero(context: &[u32], limit: u32, n: u32) -> bool {
     if limit >= 238534 {
         return n == 0;
     }
-    if n > 2048 {
-        return false;
-    }
-    if zero32(context, plus(limit, n), 37317) {
-        return zero32(context, 37830 + n * 98, 238534);
-    }
-    false
+    n <= 2048
+        && is_zero(context, limit as usize + n as usize, 37317)
+        && is_zero(context, 37830 + n as usize * 98, 238534)
 }
 
-// The count of cached keys and their order are compared with the next run of a job, which begins with the count; after it all is zero.
-// They stand from word 37,317 of a context on, up to the interned effects. Numbers are recorded, so that each place is known.
-fn same_keys(bytes: &[u8], c: Cursor, context: &[u32]) -> Cursor {
-    let start = Seen {
-        at: c.at,
-        faults: c.faults,
-        done: 37317,
-    };
-    let run = same_run32(bytes, start, context);
-    Cursor {
-        at: run.at,
-        faults: plus(run.faults, fault(zero32(context, run.done, 37830))),
+// Compares as many records of a job as it says along the order, and nothing stands after as many places and effects.
+// Recorded effects ascend by their keys and differ from each other, so these are all of them, and the order is the one of their keys.
+fn same_records(job: &mut Reading, context: &[u32], limit: u32) {
+    let n = job.word();
+    for j in 0..n {
+        let mut record = [0u32; 98];
+        load(job, &mut record);
+        job.check(comes(context, n, j, &record));
     }
+    job.check(rest_zero(context, limit, n));
+}
+
+// Compares the count of cached keys and their order with the next run of a job, which begins with the count; after it all is zero.
+// They stand from word 37,317 of a context on, up to the interned effects. Numbers are recorded, so that each place is known.
+fn same_keys(job: &mut Reading, context: &[u32]) {
+    let done = same_run(job, context, 37317);
+    job.check(is_zero(context, done, 37830));
 }
 
 // Whether a context that is left after a job would be accepted by another call.
 // Not asked where it was compared whole: that of a refused call may be as wrong as it was lent.
 fn left_accepted(context: &[u32], limit: u32, next: u32) -> bool {
-    if limit >= 238534 {
-        return true;
-    }
-    let identifiers = get32(context, 1);
-    let functions = get32(context, 2);
-    context_class(context, identifiers, functions, next) == 0
+    let identifiers = get_or(context, 1, 0);
+    let functions = get_or(context, 2, 0);
+    limit >= 238534 || context_class(context, identifiers, functions, next).is_ok()
 }
 
-// ---- the call
+// ---- an instruction
 
-// A place from five words of a job.
-// Identifier, effect, reactive, span.
-fn place_at(bytes: &[u8], at: u32) -> Place {
-    let span = Span {
-        start: word(bytes, plus(at, 3)),
-        end: word(bytes, plus(at, 4)),
-    };
+// A span: start, end.
+fn read_span(job: &mut Reading) -> Span {
+    Span {
+        start: job.word(),
+        end: job.word(),
+    }
+}
+
+// A place: identifier, effect, reactive, span.
+fn read_place(job: &mut Reading) -> Place {
     Place {
-        identifier: word(bytes, at),
-        effect: word(bytes, plus(at, 1)),
-        reactive: word(bytes, plus(at, 2)),
-        span,
+        identifier: job.word(),
+        effect: job.word(),
+        reactive: job.word(),
+        span: read_span(job),
     }
 }
 
-// A session from five words of a job.
-// Next number, first access and its span, walk entries.
-fn session_at(bytes: &[u8], at: u32) -> Session {
-    let span = Span {
-        start: word(bytes, plus(at, 2)),
-        end: word(bytes, plus(at, 3)),
-    };
+// A session: next number, first access and its span, walk entries.
+fn read_session(job: &mut Reading) -> Session {
     Session {
-        next: word(bytes, at),
-        access: word(bytes, plus(at, 1)),
-        span,
-        entries: word(bytes, plus(at, 4)),
+        next: job.word(),
+        access: job.word(),
+        span: read_span(job),
+        entries: job.word(),
     }
 }
 
-// Every word becomes FFFFFFFF.
-// The call may be lent an output list and scratch with any numbers in them.
-fn spoil32(list: &mut [u32]) {
-    let mut k: usize = 0;
-    while k < list.len() {
-        set32(list, k, 4294967295);
-        k += 1;
-    }
+// The first n of a list, and no more than it has.
+// A job says how many words are lent.
+fn first_of<T>(list: &mut [T], n: u32) -> &mut [T] {
+    let n = (n as usize).min(list.len());
+    &mut list[..n]
 }
 
-// The same with words of 64 bits.
-fn spoil64(list: &mut [u64]) {
-    let mut k: usize = 0;
-    while k < list.len() {
-        set64(list, k, 18446744073709551615);
-        k += 1;
-    }
-}
-
-// Output list and scratch get numbers that are not zero.
-fn spoil(output: &mut [u32], scratch64: &mut [u64], scratch32: &mut [u32]) {
-    spoil32(output);
-    spoil64(scratch64);
-    spoil32(scratch32);
-}
-
-// How many words of a list are meant, and no more than it has.
-// A list is lent as its first words.
-fn most32(n: u32, list: &[u32]) -> usize
-    ensures { result ≤ length list.now }
-{
-    let k = wide32(n);
-    if k < list.len() { k } else { list.len() }
-}
-
-// The same with words of 64 bits.
-// For values, sets and their scratch.
-fn most64(n: u32, list: &[u64]) -> usize
-    ensures { result ≤ length list.now }
-{
-    let k = wide32(n);
-    if k < list.len() { k } else { list.len() }
-}
-
-// The call for the instruction at a place of a job, with its candidates.
-// Lvalue and own function stand in the job's words.
-fn call(
-    bytes: &[u8],
-    at: u32,
-    session: Session,
-    flag: bool,
-    values: &mut [u64],
-    sets: &mut [u64],
-    context: &mut [u32],
-    candidates: &[u32],
-    output: &mut [u32],
-    scratch64: &mut [u64],
-    scratch32: &mut [u32],
-) -> Applied {
-    call_apply::apply_signature(
-        values,
-        sets,
-        flag,
-        context,
-        session,
-        candidates,
-        place_at(bytes, at),
-        word(bytes, plus(at, 5)),
-        output,
-        scratch64,
-        scratch32,
-    )
-}
-
-// The same with the candidates in a list that may be longer.
-// The job says how many words are lent.
-fn call_cut(
-    bytes: &[u8],
-    at: u32,
-    session: Session,
-    flag: bool,
-    values: &mut [u64],
-    sets: &mut [u64],
-    context: &mut [u32],
-    candidates: &[u32],
-    output: &mut [u32],
-    scratch64: &mut [u64],
-    scratch32: &mut [u32],
-) -> Applied {
-    let n = most32(word(bytes, plus(at, 6)), candidates);
-    call(
-        bytes,
-        at,
-        session,
-        flag,
-        values,
-        sets,
-        context,
-        &candidates[..n],
-        output,
-        scratch64,
-        scratch32,
-    )
-}
-
-// ---- what an instruction must answer
-
-// Whether both lists of scratch are zero.
-// "Scratch is zero after each call."
-fn scratch_zero(scratch64: &[u64], scratch32: &[u32]) -> bool {
-    if zero64(scratch64, 0, 9280) {
-        return zero32(scratch32, 0, 25360);
-    }
-    false
-}
-
-// What a call answered is compared: refusal, count and entries, every word of the output list, and scratch.
-// The output list is compared whole.
-fn check_answer(
-    bytes: &[u8],
-    c: Cursor,
-    a: Applied,
-    output: &[u32],
-    scratch64: &[u64],
-    scratch32: &[u32],
-) -> Cursor {
-    let refusal = expect(bytes, c, a.refusal);
-    let count = expect(bytes, refusal, a.count);
-    let entries = expect(bytes, count, a.entries);
-    let list = same32(bytes, entries, output, 109800);
-    Cursor {
-        at: list.at,
-        faults: plus(list.faults, fault(scratch_zero(scratch64, scratch32))),
-    }
-}
-
-// One instruction with its candidates: output list and scratch are spoiled, the call made, its answer compared.
-// `rest` is where the expected answer stands.
-fn replay_call(
-    bytes: &[u8],
-    g: Going,
-    rest: u32,
-    values: &mut [u64],
-    sets: &mut [u64],
-    context: &mut [u32],
-    candidates: &[u32],
-    output: &mut [u32],
-    scratch64: &mut [u64],
-    scratch32: &mut [u32],
-) -> Going {
-    let session = g.session;
-    spoil(output, scratch64, scratch32);
-    let a = call_cut(
-        bytes, g.at, session, g.flag, values, sets, context, candidates, output, scratch64,
-        scratch32,
-    );
-    let c = Cursor {
-        at: rest,
-        faults: g.faults,
+// Compares what a call answered: refusal, count and entries, every word of the output list, and scratch, which is zero after each call.
+fn check_answer(job: &mut Reading, answer: Result<Applied, Refusal>, lent: &Lent) {
+    let (refusal, count, entries) = match answer {
+        Ok(a) => (0, a.count, a.entries),
+        Err(refusal) => (refusal.number(), 0, 0),
     };
-    let after = check_answer(bytes, c, a, output, scratch64, scratch32);
-    let next = a.session;
-    Going {
-        at: after.at,
-        faults: after.faults,
-        session: next,
-        flag: a.flag,
-    }
+    job.expect(refusal);
+    job.expect(count);
+    job.expect(entries);
+    same(job, lent.output, 109800);
+    job.check(is_zero(lent.scratch64, 0, 9280) && is_zero(lent.scratch32, 0, 25360));
 }
 
 // One instruction of a job: lvalue, own function, length and runs of its candidates, and what it must answer.
-// The candidates go into a list that is zero at first, with room for 66.
+// Output list and scratch may be lent with any numbers in them, so they get some that are not zero.
 fn replay_instruction(
-    bytes: &[u8],
-    g: Going,
-    values: &mut [u64],
-    sets: &mut [u64],
-    context: &mut [u32],
-    output: &mut [u32],
-    scratch64: &mut [u64],
-    scratch32: &mut [u32],
-) -> Going {
+    job: &mut Reading,
+    lent: &mut Lent,
+    flag: bool,
+    now: Session,
+) -> Result<Applied, Refusal> {
+    let lvalue = read_place(job);
+    let own = job.word();
+    let n = job.word();
     let mut candidates = [0u32; 6468];
-    let rest = load32(bytes, plus(g.at, 7), &mut candidates);
-    replay_call(
-        bytes,
-        g,
-        rest,
-        values,
-        sets,
-        context,
-        &candidates,
-        output,
-        scratch64,
-        scratch32,
-    )
-}
-
-// The instructions of a job, one after the other over one state, context and session.
-// A refused one leaves all three as they were.
-fn replay_instructions(
-    bytes: &[u8],
-    start: Going,
-    n: u32,
-    values: &mut [u64],
-    sets: &mut [u64],
-    context: &mut [u32],
-    output: &mut [u32],
-    scratch64: &mut [u64],
-    scratch32: &mut [u32],
-) -> Going {
-    let mut g = start;
-    let mut left = n;
-    while left > 0 {
-        g = replay_instruction(
-            bytes, g, values, sets, context, output, scratch64, scratch32,
-        );
-        left -= 1;
-    }
-    g
+    load(job, &mut candidates);
+    lent.output.fill(u32::MAX);
+    lent.scratch64.fill(u64::MAX);
+    lent.scratch32.fill(u32::MAX);
+    let answer = call_apply::apply_signature(
+        lent.values,
+        lent.sets,
+        flag,
+        lent.context,
+        now,
+        first_of(&mut candidates, n),
+        lvalue,
+        own,
+        lent.output,
+        lent.scratch64,
+        lent.scratch32,
+    );
+    check_answer(job, answer, lent);
+    answer
 }
 
 // ---- a job
 
-// The flag and the session are compared with what a job expects.
-fn check_session(bytes: &[u8], c: Cursor, flag: bool, s: Session) -> Cursor {
-    let span = s.span;
-    let first = expect(bytes, c, flag_code(flag));
-    let next = expect(bytes, first, s.next);
-    let access = expect(bytes, next, s.access);
-    let start = expect(bytes, access, span.start);
-    let end = expect(bytes, start, span.end);
-    expect(bytes, end, s.entries)
+// Compares the flag and the session with what a job expects.
+fn check_session(job: &mut Reading, flag: bool, now: Session) {
+    job.expect(u32::from(flag));
+    job.expect(now.next);
+    job.expect(now.access);
+    job.expect(now.span.start);
+    job.expect(now.span.end);
+    job.expect(now.entries);
 }
 
-// The tables are compared with what a job expects: values, sets, the context below a limit, the order of its keys, its interned effects with theirs.
-// Lists that are shorter are zero past their end.
-fn check_tables(
-    bytes: &[u8],
-    c: Cursor,
-    values: &[u64],
-    sets: &[u64],
-    context: &[u32],
-    next: u32,
-) -> Cursor {
-    let entries = same64(bytes, c, values, 1040);
-    let rows = same64(bytes, entries, sets, 8224);
-    let limit = word(bytes, rows.at);
-    let start = Cursor {
-        at: plus(rows.at, 1),
-        faults: rows.faults,
-    };
-    let fixed = same32(bytes, start, context, limit);
-    let keys = same_keys(bytes, fixed, context);
-    let effects = same_records(bytes, keys, context, limit);
-    Cursor {
-        at: effects.at,
-        faults: plus(effects.faults, fault(left_accepted(context, limit, next))),
-    }
+// Compares the tables with what a job expects: values, sets, the context below a limit, the order of its keys, its interned effects with theirs.
+fn check_tables(job: &mut Reading, lent: &Lent, next: u32) {
+    same(job, lent.values, 1040);
+    same(job, lent.sets, 8224);
+    let limit = job.word();
+    same(job, lent.context, limit as usize);
+    same_keys(job, lent.context);
+    same_records(job, lent.context, limit);
+    job.check(left_accepted(lent.context, limit, next));
 }
 
-// Whether the reading came to the end of a job without a difference.
-// A job that is read wrong does not pass.
-fn check_end(
-    bytes: &[u8],
-    g: Going,
-    size: u32,
-    values: &[u64],
-    sets: &[u64],
-    context: &[u32],
-) -> bool {
-    let session = g.session;
-    let start = Cursor {
-        at: g.at,
-        faults: g.faults,
-    };
-    let after = check_session(bytes, start, g.flag, session);
-    let end = check_tables(bytes, after, values, sets, context, session.next);
-    if end.at != size {
-        return false;
-    }
-    end.faults == 0
-}
-
-// How many instructions a job has.
-// The word after its lengths, flag and session.
-fn instructions_of(bytes: &[u8]) -> u32 {
-    word(bytes, 12)
-}
-
-// The tables of a job are loaded into lists that are zero. Answers where the reading stands after them.
-// Thirteen words stand before: six lengths, flag, session and the count of instructions.
-fn load_tables(bytes: &[u8], values: &mut [u64], sets: &mut [u64], context: &mut [u32]) -> u32 {
-    let entries = load64(bytes, 13, values);
-    let rows = load64(bytes, entries, sets);
-    load32(bytes, rows, context)
-}
-
-// A job on lent lists: its tables are loaded, its instructions replayed, and what stands at the end is compared.
-fn replay_lent(
-    bytes: &[u8],
-    size: u32,
-    values: &mut [u64],
-    sets: &mut [u64],
-    context: &mut [u32],
-    output: &mut [u32],
-    scratch64: &mut [u64],
-    scratch32: &mut [u32],
-) -> bool {
-    let at = load_tables(bytes, values, sets, context);
-    let session = session_at(bytes, 7);
-    let start = Going {
-        at,
-        faults: 0,
-        session,
-        flag: word(bytes, 6) == 1,
-    };
-    let g = replay_instructions(
-        bytes,
-        start,
-        instructions_of(bytes),
-        values,
-        sets,
-        context,
-        output,
-        scratch64,
-        scratch32,
-    );
-    check_end(bytes, g, size, values, sets, context)
-}
-
-// ---- lists of the lengths that a job says, zero at first, with room for a few words more
-
-// Scratch for the words of a context, 25,347 of them.
-fn with_scratch32(
-    bytes: &[u8],
-    size: u32,
-    values: &mut [u64],
-    sets: &mut [u64],
-    context: &mut [u32],
-    output: &mut [u32],
-    scratch64: &mut [u64],
-) -> bool {
-    let mut scratch32 = [0u32; 25360];
-    let n = most32(word(bytes, 5), &scratch32);
-    replay_lent(
-        bytes,
-        size,
-        values,
-        sets,
-        context,
-        output,
-        scratch64,
-        &mut scratch32[..n],
-    )
-}
-
-// Scratch for the words of a state, 1,024 and as many as the sets have.
-fn with_scratch64(
-    bytes: &[u8],
-    size: u32,
-    values: &mut [u64],
-    sets: &mut [u64],
-    context: &mut [u32],
-    output: &mut [u32],
-) -> bool {
-    let mut scratch64 = [0u64; 9280];
-    let n = most64(word(bytes, 4), &scratch64);
-    with_scratch32(
-        bytes,
-        size,
-        values,
-        sets,
-        context,
-        output,
-        &mut scratch64[..n],
-    )
-}
-
-// The output list, 1,120 records of 98 words.
-fn with_output(
-    bytes: &[u8],
-    size: u32,
-    values: &mut [u64],
-    sets: &mut [u64],
-    context: &mut [u32],
-) -> bool {
-    let mut output = [0u32; 109800];
-    let n = most32(word(bytes, 3), &output);
-    with_scratch64(bytes, size, values, sets, context, &mut output[..n])
-}
-
-// The context: 37,830 words and as many records of 98 as the job has room for, 238,534 words at the most.
-// Its array has room for a record more than that, which a damaged job lends.
-fn with_context(bytes: &[u8], size: u32, values: &mut [u64], sets: &mut [u64]) -> bool {
-    let mut context = [0u32; 238656];
-    let n = most32(word(bytes, 2), &context);
-    with_output(bytes, size, values, sets, &mut context[..n])
-}
-
-// The sets of a state, sixteen words for each identifier.
-fn with_sets(bytes: &[u8], size: u32, values: &mut [u64]) -> bool {
-    let mut sets = [0u64; 8224];
-    let n = most64(word(bytes, 1), &sets);
-    with_context(bytes, size, values, &mut sets[..n])
-}
-
-// The values of a state, 1,024 words.
-fn replay_job(bytes: &[u8], size: u32) -> bool {
+// A job: the lengths of what is lent, flag, session, the count of its instructions, the tables, the instructions, one after the other over one state,
+// context and session, and what stands at the end. A refused instruction leaves all three as they were. Answers how many instructions there are.
+// The lists are zero at first, with room for a few words more than can be lent; the context's has room for a record more, which a damaged job lends.
+fn replay_job(job: &mut Reading) -> u32 {
     let mut values = [0u64; 1040];
-    let n = most64(word(bytes, 0), &values);
-    with_sets(bytes, size, &mut values[..n])
+    let mut sets = [0u64; 8224];
+    let mut context = [0u32; 238656];
+    let mut output = [0u32; 109800];
+    let mut scratch64 = [0u64; 9280];
+    let mut scratch32 = [0u32; 25360];
+    let mut lent = Lent {
+        values: first_of(&mut values, job.word()),
+        sets: first_of(&mut sets, job.word()),
+        context: first_of(&mut context, job.word()),
+        output: first_of(&mut output, job.word()),
+        scratch64: first_of(&mut scratch64, job.word()),
+        scratch32: first_of(&mut scratch32, job.word()),
+    };
+    let mut flag = job.word() == 1;
+    let mut now = read_session(job);
+    let n = job.word();
+    load(job, lent.values);
+    load(job, lent.sets);
+    load(job, lent.context);
+    for _ in 0..n {
+        if let Ok(a) = replay_instruction(job, &mut lent, flag, now) {
+            now = a.session;
+            flag = a.flag;
+        }
+    }
+    check_session(job, flag, now);
+    check_tables(job, &lent, now.next);
+    n
 }
 
 // ---- a list of jobs
-
-// Writes the number of a job that failed.
-// From 0 on, as in the list.
-fn say_failed(rt: &impl Print, k: u32) -> io::Result<()> {
-    println!(rt; "failed: job {k}")
-}
-
-// One job; 1 where it failed, else 0.
-fn replay_named(rt: &impl Print, bytes: &[u8], size: u32, k: u32) -> io::Result<u32> {
-    if replay_job(bytes, size) {
-        return Ok(0);
-    }
-    say_failed(rt, k)?;
-    Ok(1)
-}
-
-// Reads until the buffer is full or the input ends, and answers how many bytes there were.
-fn read_full(input: &mut impl Read, buffer: &mut [u8]) -> io::Result<usize>
-    ensures { IfOk result (λ n. n ≤ length buffer.new) }
-{
-    let mut done = 0;
-    while done < buffer.len() {
-        let n = input.read(&mut buffer[done..])?;
-        if n == 0 {
-            break;
-        }
-        done += n;
-    }
-    Ok(done)
-}
 
 // The next word of a file.
 fn read_word(file: &mut impl Read) -> io::Result<u32> {
     let mut bytes = [0u8; 4];
     read_full(file, &mut bytes)?;
-    Ok(word(&bytes, 0))
+    Ok(u32::from_le_bytes(bytes))
 }
 
-// Reads the words of a job.
-// Those that the list has no room for are not read, so that such a job fails.
-fn read_job(file: &mut impl Read, bytes: &mut [u8], size: u32) -> io::Result<()> {
-    let k = most8(size, bytes);
-    read_full(file, &mut bytes[..k])?;
-    Ok(())
-}
-
-// How many bytes the words of a job have, and no more than a list has.
-fn most8(size: u32, bytes: &[u8]) -> usize
-    ensures { result ≤ length bytes.now }
+// Reads the next job, its length in words before it, and answers how many bytes it has.
+// The largest recorded job fits 393,216 bytes; what there is no room for is not read, so that such a job fails.
+fn read_job(file: &mut impl Read, bytes: &mut [u8]) -> io::Result<usize>
+    ensures { IfOk result (λ n. n ≤ length bytes.new) }
 {
-    let k = wide32(size) * 4;
-    if k < bytes.len() { k } else { bytes.len() }
+    let size = read_word(file)? as usize * 4;
+    let end = size.min(bytes.len());
+    read_full(file, &mut bytes[..end])?;
+    Ok(end)
 }
 
-// The next job of a file; how the list went with it.
-// In 393,216 bytes, which the largest recorded job fits.
-fn replay_next(rt: &impl Print, file: &mut impl Read, k: u32, before: Score) -> io::Result<Score> {
-    let mut bytes = [0u8; 393216];
-    let size = read_word(file)?;
-    read_job(file, &mut bytes, size)?;
-    let failed = replay_named(rt, &bytes, size, k)?;
-    Ok(Score {
-        instructions: plus(before.instructions, instructions_of(&bytes)),
-        failed: plus(before.failed, failed),
-    })
-}
-
-// All jobs of a file.
-fn replay_all(rt: &impl Print, file: &mut impl Read, n: u32) -> io::Result<Score> {
-    let mut score = Score {
-        instructions: 0,
-        failed: 0,
-    };
-    let mut k: u32 = 0;
-    while k < n {
-        score = replay_next(rt, file, k, score)?;
-        k += 1;
-    }
-    Ok(score)
-}
-
-// Replays a list and says how it went.
+// Replays a list, names the jobs that failed, and says how it went. A job passes that was read to its end without a difference.
 fn replay_list(rt: &impl Print, file: &mut impl Read) -> io::Result<()> {
     let n = read_word(file)?;
-    let score = replay_all(rt, file, n)?;
-    println!(rt;
-        "{n} jobs, {} instructions replayed, {} failed",
-        score.instructions, score.failed
-    )
-}
-
-// Argument i, or an empty text where it is missing, too long or no text.
-fn argument<'a>(rt: &impl Env, i: usize, buffer: &'a mut [u8]) -> &'a str {
-    match rt.arg(i, buffer) {
-        Ok(n) => str::from_utf8(&buffer[..n]).unwrap_or(""),
-        Err(_) => "",
+    let mut instructions: u32 = 0;
+    let mut failed: u32 = 0;
+    for k in 0..n {
+        let mut bytes = [0u8; 393216];
+        let size = read_job(file, &mut bytes)?;
+        let mut job = Reading::new(&bytes[..size]);
+        instructions = instructions.saturating_add(replay_job(&mut job));
+        if job.faults != 0 || !job.rest.is_empty() {
+            println!(rt; "failed: job {k}")?;
+            failed = failed.saturating_add(1);
+        }
     }
+    println!(rt; "{n} jobs, {instructions} instructions replayed, {failed} failed")
 }
 
 // The list that an argument names.

@@ -2,277 +2,150 @@
 // The list is docs/VECTORS.md's, part 3 and 4; its name is the first argument. Prints each record that failed, then how many were replayed.
 #![tactic(auto)]
 
-ghost use Rattle.std.specs.Prelude.{◌≤◌, ◌<◌, IfOk, length};
-
-use def_effects::{MutateVariant, MutationResult, Session, Span};
+use def_effects::{MutateVariant, Session, Span};
 use def_kinds::{AbstractValue, ValueKind};
-use lent_slices::{get32, set32, wide32};
-use lent_values::{Entry, put_value, value_at};
+use def_refusals::Refusal;
+use lent_slices::{get_or, set};
+use lent_values::{put_value, value_at};
+use state_calls::KindAnswer;
 use std::io::Read;
-use std::rt::Env;
 use std::{fs, io};
+use test_bytes::{Reading, argument, read_full};
 
-// Byte k of the file, or 0 past its end.
-fn byte(bytes: &[u8], k: usize) -> u8 {
-    if k < bytes.len() { bytes[k] } else { 0 }
+// A state in lent tables, with its flag.
+#[derive(Drop)]
+struct State {
+    values: [u64; 1024],
+    sets: [u64; 8192],
+    flag: bool,
 }
 
-// The same as a word.
-fn wide8(x: u8) -> u32
-    ensures { result < 256 }
-{
-    x as u32
-}
-
-// Two bytes, the lower one first.
-fn half(bytes: &[u8], k: usize) -> u32
-    requires { k < 1000000 }
-    ensures { result < 65536 }
-{
-    wide8(byte(bytes, k)) + wide8(byte(bytes, k + 1)) * 256
-}
-
-// Word k of the file, of the first 65,536.
-fn word(bytes: &[u8], k: u32) -> u32 {
-    if k < 65536 {
-        let b = wide32(k) * 4;
-        return half(bytes, b) + half(bytes, b + 2) * 65536;
-    }
-    0
-}
-
-// One more, up to 65,536.
-fn one_more(k: u32) -> u32 {
-    if k < 65536 { k + 1 } else { k }
-}
-
-// The next word: where the reading stands is the first word of `at`.
-fn take(bytes: &[u8], at: &mut [u32]) -> u32 {
-    let k = get32(at, 0);
-    set32(at, 0, one_more(k));
-    word(bytes, k)
-}
-
-// Whether the next word is x; the second word of `at` counts those that are not.
-fn expect(bytes: &[u8], at: &mut [u32], x: u32) {
-    let y = take(bytes, at);
-    same(at, x, y);
-}
-
-// Counts a difference.
-fn fault(at: &mut [u32]) {
-    let n = get32(at, 1);
-    if n < 1000000 {
-        set32(at, 1, n + 1);
-    }
-}
-
-// Counts a refusal as a difference: no recorded operation is refused.
-fn refused(at: &mut [u32], refusal: u32) {
-    if refusal != 0 {
-        fault(at);
-    }
-}
-
-// Counts a difference of two numbers.
-fn same(at: &mut [u32], x: u32, y: u32) {
-    if x != y {
-        fault(at);
-    }
-}
-
-// Document 01's number of a kind, as a word.
-fn kind_code(kind: ValueKind) -> u32 {
-    match kind {
-        ValueKind::Mutable => 0,
-        ValueKind::Frozen => 1,
-        ValueKind::Primitive => 2,
-        ValueKind::MaybeFrozen => 3,
-        ValueKind::Global => 4,
-        ValueKind::Context => 5,
-    }
-}
+// ---- loading
 
 // An entry of a state: value number, kind, reasons.
-fn load_value(bytes: &[u8], at: &mut [u32], values: &mut [u64]) {
-    let v = take(bytes, at);
-    let k = take(bytes, at);
-    let reason = take(bytes, at);
-    let kind = ValueKind::of_code((k % 256) as u8);
-    put_value(values, wide32(v), AbstractValue { kind, reason });
-}
-
-// Some entries.
-fn load_values(bytes: &[u8], at: &mut [u32], values: &mut [u64], n: u32) {
-    let mut k: u32 = 0;
-    while k < n {
-        load_value(bytes, at, values);
-        k += 1;
-    }
+fn load_value(record: &mut Reading, values: &mut [u64]) {
+    let v = record.word();
+    let kind = ValueKind::of_code((record.word() % 256) as u8);
+    let reason = record.word();
+    put_value(values, v as usize, AbstractValue { kind, reason });
 }
 
 // A pair of a state: identifier and one of its values, or 0 for an empty set.
 // The bit of value 0 says that the identifier is defined, and so it is in either case.
-fn load_pair(bytes: &[u8], at: &mut [u32], sets: &mut [u64]) {
-    let i = take(bytes, at);
-    let v = take(bytes, at);
-    let mut acc = [0u64; 16];
-    lent_set_writes::add_set(&mut acc, sets, i);
-    lent_sets::add_value(&mut acc, v);
-    lent_set_writes::put_set(sets, i, &acc);
+fn load_pair(record: &mut Reading, sets: &mut [u64]) {
+    let i = record.word();
+    let v = record.word();
+    let mut row = [0u64; 16];
+    lent_set_writes::add_set(&mut row, sets, i);
+    lent_sets::add_value(&mut row, v);
+    lent_set_writes::put_set(sets, i, &row);
 }
 
-// Some pairs.
-fn load_pairs(bytes: &[u8], at: &mut [u32], sets: &mut [u64], n: u32) {
-    let mut k: u32 = 0;
-    while k < n {
-        load_pair(bytes, at, sets);
-        k += 1;
+// A state with its flag and so many entries and pairs.
+fn load_state(record: &mut Reading, flag: u32, entries: u32, pairs: u32) -> State {
+    let mut values = [0u64; 1024];
+    let mut sets = [0u64; 8192];
+    for _ in 0..entries {
+        load_value(record, &mut values);
+    }
+    for _ in 0..pairs {
+        load_pair(record, &mut sets);
+    }
+    State {
+        values,
+        sets,
+        flag: flag == 1,
     }
 }
 
 // Some words into a list, from its first place on; what passes its end is read and left.
-fn load_words(bytes: &[u8], at: &mut [u32], list: &mut [u32], n: u32) {
-    let mut k: u32 = 0;
-    while k < n {
-        let x = take(bytes, at);
-        set32(list, wide32(k), x);
-        k += 1;
+fn load_words(record: &mut Reading, list: &mut [u32], n: u32) {
+    for k in 0..n {
+        set(list, k as usize, record.word());
     }
 }
 
-// A state that is lent anew: cleared, then its entries and pairs.
-fn load_state(
-    bytes: &[u8],
-    at: &mut [u32],
-    values: &mut [u64],
-    sets: &mut [u64],
-    entries: u32,
-    pairs: u32,
-) {
-    load_values(bytes, at, values, entries);
-    load_pairs(bytes, at, sets, pairs);
+// ---- what an operation must answer
+
+// Compares the answer's next words with the entries of a state, ascending.
+fn check_values(record: &mut Reading, values: &[u64]) {
+    let n = record.word();
+    let mut found = 0;
+    for v in 0..1024 {
+        if let Some(a) = value_at(values, v as usize) {
+            record.expect(v);
+            record.expect(a.kind as u32);
+            record.expect(a.reason);
+            found += 1;
+        }
+    }
+    record.check(found == n);
 }
 
-// Whether the answer's next words are the entry of value v, if it has one.
-fn check_value(bytes: &[u8], at: &mut [u32], values: &[u64], v: u32) -> bool {
-    match value_at(values, wide32(v)) {
-        Entry::Absent => false,
-        Entry::Present(a) => {
-            let kind = a.kind;
-            expect(bytes, at, v);
-            expect(bytes, at, kind_code(kind));
-            expect(bytes, at, a.reason);
-            true
+// Compares the answer's next words with the set of identifier i, ascending.
+fn check_set(record: &mut Reading, sets: &[u64], i: u32) {
+    record.expect(i);
+    record.expect(lent_members::size(sets, i));
+    for v in 1..1024 {
+        if lent_members::next_member(sets, i, v) == v {
+            record.expect(v);
         }
     }
 }
 
-// One more where a test passed; no list has as many as a word can count.
-fn more(n: u32, b: bool) -> u32 {
-    if b {
-        if n < 1000000 { n + 1 } else { n }
-    } else {
-        n
+// Compares the answer's next words with the sets of a state, ascending.
+fn check_sets(record: &mut Reading, sets: &[u64]) {
+    let n = record.word();
+    let mut found = 0;
+    for i in 0..512 {
+        if lent_sets::is_defined(sets, i) {
+            check_set(record, sets, i);
+            found += 1;
+        }
+    }
+    record.check(found == n);
+}
+
+// Compares what follows in the answer with a session's first access and a state.
+fn check_rest(record: &mut Reading, now: Session, state: &State) {
+    record.check(state_read_sets::accepted(&state.values, &state.sets, now).is_ok());
+    record.expect(now.access);
+    record.expect(now.span.start);
+    record.expect(now.span.end);
+    record.expect(u32::from(state.flag));
+    check_values(record, &state.values);
+    check_sets(record, &state.sets);
+}
+
+// Compares the answer with some words, that were computed by a call that was not refused: no recorded operation is refused.
+fn expect_words(record: &mut Reading, is_answered: bool, words: &[u32]) {
+    record.check(is_answered);
+    let n = record.word();
+    record.check(n as usize == words.len());
+    for x in words {
+        record.expect(*x);
     }
 }
 
-// Whether the answer's next words are the entries of a state, ascending.
-fn check_values(bytes: &[u8], at: &mut [u32], values: &[u64]) {
-    let n = take(bytes, at);
-    let mut found: u32 = 0;
-    let mut v: u32 = 0;
-    while v < 1024 {
-        found = more(found, check_value(bytes, at, values, v));
-        v += 1;
-    }
-    same(at, found, n);
+// The same of a kind with its reasons.
+fn expect_kind(record: &mut Reading, answer: Result<KindAnswer, Refusal>) {
+    let words = match answer {
+        Ok(a) => [a.value.kind as u32, a.value.reason],
+        Err(_) => [0, 0],
+    };
+    expect_words(record, answer.is_ok(), &words);
 }
 
-// Whether the answer's next word is v, if that is in the set of identifier i.
-fn expect_member(bytes: &[u8], at: &mut [u32], sets: &[u64], i: u32, v: u32) {
-    if lent_members::next_member(sets, i, v) == v {
-        expect(bytes, at, v);
-    }
+// The same of a yes or no.
+fn expect_test(record: &mut Reading, answer: Result<bool, Refusal>) {
+    expect_words(
+        record,
+        answer.is_ok(),
+        &[u32::from(answer.unwrap_or(false))],
+    );
 }
 
-// Whether the answer's next words are the set of identifier i, ascending.
-fn check_set(bytes: &[u8], at: &mut [u32], sets: &[u64], i: u32) {
-    expect(bytes, at, i);
-    expect(bytes, at, lent_members::size(sets, i));
-    let mut v: u32 = 1;
-    while v < 1024 {
-        expect_member(bytes, at, sets, i, v);
-        v += 1;
-    }
-}
-
-// The same of an identifier that is defined; whether it is.
-fn check_defined(bytes: &[u8], at: &mut [u32], sets: &[u64], i: u32) -> bool {
-    if !lent_sets::is_defined(sets, i) {
-        return false;
-    }
-    check_set(bytes, at, sets, i);
-    true
-}
-
-// Whether the answer's next words are the sets of a state, ascending.
-fn check_sets(bytes: &[u8], at: &mut [u32], sets: &[u64]) {
-    let n = take(bytes, at);
-    let mut found: u32 = 0;
-    let mut i: u32 = 0;
-    while i < 512 {
-        found = more(found, check_defined(bytes, at, sets, i));
-        i += 1;
-    }
-    same(at, found, n);
-}
-
-// Whether the answer goes on with a session's first access and a state.
-fn check_rest(
-    bytes: &[u8],
-    at: &mut [u32],
-    session: Session,
-    flag: u32,
-    values: &[u64],
-    sets: &[u64],
-) {
-    let span = session.span;
-    refused(at, state_read_sets::accepted(values, sets, session));
-    expect(bytes, at, session.access);
-    expect(bytes, at, span.start);
-    expect(bytes, at, span.end);
-    expect(bytes, at, flag);
-    check_values(bytes, at, values);
-    check_sets(bytes, at, sets);
-}
-
-// Whether the answer is one word, a number that was computed by a call that was not refused.
-fn expect_one(bytes: &[u8], at: &mut [u32], refusal: u32, x: u32) {
-    refused(at, refusal);
-    expect(bytes, at, 1);
-    expect(bytes, at, x);
-}
-
-// Whether the answer has no words, of a call that was not refused.
-fn expect_none(bytes: &[u8], at: &mut [u32], refusal: u32) {
-    refused(at, refusal);
-    expect(bytes, at, 0);
-}
-
-// Whether the answer is a kind, of a call that was not refused.
-fn expect_kind(bytes: &[u8], at: &mut [u32], refusal: u32, a: AbstractValue) {
-    refused(at, refusal);
-    let kind = a.kind;
-    expect(bytes, at, 2);
-    expect(bytes, at, kind_code(kind));
-    expect(bytes, at, a.reason);
-}
-
-// A test's answer by its number.
-fn flag_of(b: bool) -> u32 {
-    if b { 1 } else { 0 }
-}
+// ---- operations
 
 // The variant of a number: 0 Mutate, 1 MutateConditionally, 2 MutateTransitive, else MutateTransitiveConditionally.
 fn variant_of(n: u32) -> MutateVariant {
@@ -284,675 +157,217 @@ fn variant_of(n: u32) -> MutateVariant {
     }
 }
 
-// Document 01's number of a mutation's answer.
-fn result_code(r: MutationResult) -> u32 {
-    match r {
-        MutationResult::None => 0,
-        MutationResult::Mutate => 1,
-        MutationResult::MutateFrozen => 2,
-        MutationResult::MutateGlobal => 3,
-        MutationResult::MutateRef => 4,
-    }
-}
-
-// How many words of a list are meant, and no more than it has.
-fn most(n: u32, list: &[u32]) -> usize
-    ensures { result ≤ length list.now }
-{
-    let k = wide32(n);
-    if k < list.len() { k } else { list.len() }
-}
-
-// The session of a recorded operation: all fresh numbers are handed out.
-fn session_of(access: u32, start: u32, end: u32) -> Session {
-    let span = Span { start, end };
-    Session {
-        next: 512,
-        access,
-        span,
-        entries: 0,
-    }
-}
-
-// Whether a kind may be written: Mutable and Context.
-fn may_be_written(kind: ValueKind) -> u32 {
-    match kind {
-        ValueKind::Mutable => 1,
-        ValueKind::Frozen => 0,
-        ValueKind::Primitive => 0,
-        ValueKind::MaybeFrozen => 0,
-        ValueKind::Global => 0,
-        ValueKind::Context => 1,
-    }
-}
-
 // The write test of a place, compared with the kind that was compared with the recorded one.
-fn check_write(
-    at: &mut [u32],
-    values: &[u64],
-    sets: &[u64],
-    session: Session,
-    i: u32,
-    a: AbstractValue,
-) {
-    let kind = a.kind;
-    let w = state_read_kinds::may_write(values, sets, session, i);
-    refused(at, w.refusal);
-    same(at, flag_of(w.answer), may_be_written(kind));
+fn check_write(record: &mut Reading, state: &State, now: Session, i: u32, kind: ValueKind) {
+    let w = state_read_kinds::may_write(&state.values, &state.sets, now, i);
+    record.check(w.is_ok());
+    record.check(w.unwrap_or(false) == matches!(kind, ValueKind::Mutable | ValueKind::Context));
 }
 
-// 1: the kind of a place, without a span.
-fn run_kind(
-    bytes: &[u8],
-    at: &mut [u32],
-    values: &[u64],
-    sets: &[u64],
-    session: Session,
-    flag: u32,
-    args: &[u32],
-) {
-    let a = state_read_kinds::kind(values, sets, session, get32(args, 0));
-    let value = a.value;
-    let after = a.session;
-    expect_kind(bytes, at, a.refusal, value);
-    check_write(at, values, sets, session, get32(args, 0), value);
-    check_rest(bytes, at, after, flag, values, sets);
-}
-
-// 2: the kind of a place, with a span.
-fn run_kind_with_span(
-    bytes: &[u8],
-    at: &mut [u32],
-    values: &[u64],
-    sets: &[u64],
-    session: Session,
-    flag: u32,
-    args: &[u32],
-) {
-    let span = Span {
-        start: get32(args, 1),
-        end: get32(args, 2),
-    };
-    let a = state_read_kinds::kind_with_span(values, sets, session, get32(args, 0), span);
-    let value = a.value;
-    let after = a.session;
-    expect_kind(bytes, at, a.refusal, value);
-    check_rest(bytes, at, after, flag, values, sets);
-}
-
-// 3: initialize.
-fn run_initialize(
-    bytes: &[u8],
-    at: &mut [u32],
-    values: &mut [u64],
-    sets: &[u64],
-    session: Session,
-    flag: u32,
-    args: &[u32],
-) {
-    let kind = ValueKind::of_code((get32(args, 1) % 256) as u8);
-    let reason = get32(args, 2);
-    let refusal = state_write_values::initialize(
-        values,
-        sets,
-        session,
-        get32(args, 0),
-        AbstractValue { kind, reason },
-    );
-    expect_none(bytes, at, refusal);
-    check_rest(bytes, at, session, flag, values, sets);
-}
-
-// 4: define.
-fn run_define(
-    bytes: &[u8],
-    at: &mut [u32],
-    values: &[u64],
-    sets: &mut [u64],
-    session: Session,
-    flag: u32,
-    args: &[u32],
-) {
-    let refusal = state_write_sets::define(values, sets, session, get32(args, 0), get32(args, 1));
-    expect_none(bytes, at, refusal);
-    check_rest(bytes, at, session, flag, values, sets);
-}
-
-// 5: assign.
-fn run_assign(
-    bytes: &[u8],
-    at: &mut [u32],
-    values: &mut [u64],
-    sets: &mut [u64],
-    session: Session,
-    flag: u32,
-    args: &[u32],
-) {
-    let refusal = state_write_sets::assign(values, sets, session, get32(args, 0), get32(args, 1));
-    expect_none(bytes, at, refusal);
-    check_rest(bytes, at, session, flag, values, sets);
-}
-
-// 6: append_alias.
-fn run_append(
-    bytes: &[u8],
-    at: &mut [u32],
-    values: &[u64],
-    sets: &mut [u64],
-    session: Session,
-    flag: u32,
-    args: &[u32],
-) {
-    let refusal = state_write_sets::append_alias(
-        values,
-        sets,
-        session,
-        get32(args, 0),
-        get32(args, 1),
-    );
-    expect_none(bytes, at, refusal);
-    check_rest(bytes, at, session, flag, values, sets);
-}
-
-// 7: is_defined.
-fn run_is_defined(
-    bytes: &[u8],
-    at: &mut [u32],
-    values: &[u64],
-    sets: &[u64],
-    session: Session,
-    flag: u32,
-    args: &[u32],
-) {
-    let a = state_read_sets::is_defined(values, sets, session, get32(args, 0));
-    expect_one(bytes, at, a.refusal, flag_of(a.answer));
-    check_rest(bytes, at, session, flag, values, sets);
-}
-
-// 8: the values of a place, in a list of 1,024 words.
-fn run_values_for(
-    bytes: &[u8],
-    at: &mut [u32],
-    values: &[u64],
-    sets: &[u64],
-    session: Session,
-    flag: u32,
-    args: &[u32],
-) {
-    let mut out = [0u32; 1024];
-    let a = state_read_sets::values_for(values, sets, session, get32(args, 0), &mut out);
-    refused(at, a.refusal);
-    expect(bytes, at, a.count);
-    expect_list(bytes, at, &out, a.count);
-    check_rest(bytes, at, session, flag, values, sets);
-}
-
-// Whether the answer's next words are the first of a list.
-fn expect_list(bytes: &[u8], at: &mut [u32], list: &[u32], n: u32) {
-    let mut k: u32 = 0;
-    while k < n {
-        expect(bytes, at, get32(list, wide32(k)));
-        k += 1;
-    }
-}
-
-// 9: freeze.
-fn run_freeze(
-    bytes: &[u8],
-    at: &mut [u32],
-    values: &mut [u64],
-    sets: &[u64],
-    session: Session,
-    flag: u32,
-    args: &[u32],
-) {
-    let a = state_write_values::freeze(values, sets, session, get32(args, 0), get32(args, 1));
-    expect_one(bytes, at, a.refusal, flag_of(a.answer));
-    check_rest(bytes, at, session, flag, values, sets);
-}
-
-// 10: the mutation answer, with the ref flag of its place.
-fn run_mutate(
-    bytes: &[u8],
-    at: &mut [u32],
-    values: &[u64],
-    sets: &[u64],
-    session: Session,
-    flag: u32,
-    args: &[u32],
+// An operation on one state, compared with the first words of its answer; the session after it.
+// `operands` are those of a phi, whose place is the first argument.
+fn run(
+    record: &mut Reading,
+    operation: u32,
+    state: &mut State,
+    now: Session,
     refs: &[u32],
-) {
-    let i = get32(args, 1);
-    let span = Span {
-        start: get32(args, 2),
-        end: get32(args, 3),
-    };
-    let ref_flag = get32(refs, wide32(i)) == 1;
-    let variant = variant_of(get32(args, 0));
-    let a = state_read_kinds::mutate(values, sets, session, ref_flag, variant, i, span);
-    let result = a.result;
-    let after = a.session;
-    expect_one(bytes, at, a.refusal, result_code(result));
-    check_rest(bytes, at, after, flag, values, sets);
-}
-
-// 11: phi, whose place is the first argument and whose operands are the others.
-fn run_phi(
-    bytes: &[u8],
-    at: &mut [u32],
-    values: &[u64],
-    sets: &mut [u64],
-    session: Session,
-    flag: u32,
-    args: &[u32],
+    arguments: [u32; 4],
     operands: &[u32],
-) {
-    let refusal = state_phi::infer_phi(values, sets, session, get32(args, 0), operands);
-    expect_none(bytes, at, refusal);
-    check_rest(bytes, at, session, flag, values, sets);
-}
-
-// Whether the first state is above or equal to the second, compared with a merge's answer: it is just where the second adds nothing.
-fn check_above(
-    at: &mut [u32],
-    values1: &[u64],
-    sets1: &[u64],
-    values2: &[u64],
-    sets2: &[u64],
-    session: Session,
-    merged: bool,
-) {
-    let a = state_merge_calls::is_above(values1, sets1, values2, sets2, session);
-    refused(at, a.refusal);
-    same(at, flag_of(a.answer), flag_of(!merged));
+) -> Session {
+    let [first, second, third, fourth] = arguments;
+    let values = &mut state.values;
+    let sets = &mut state.sets;
+    match operation {
+        1 => {
+            let answer = state_read_kinds::kind(values, sets, now, first);
+            expect_kind(record, answer);
+            if let Ok(a) = answer {
+                check_write(record, state, now, first, a.value.kind);
+                return a.session;
+            }
+        }
+        2 => {
+            let span = Span {
+                start: second,
+                end: third,
+            };
+            let answer = state_read_kinds::kind_with_span(values, sets, now, first, span);
+            expect_kind(record, answer);
+            if let Ok(a) = answer {
+                return a.session;
+            }
+        }
+        3 => {
+            let kind = ValueKind::of_code((second % 256) as u8);
+            let a = AbstractValue {
+                kind,
+                reason: third,
+            };
+            let done = state_write_values::initialize(values, sets, now, first, a);
+            expect_words(record, done.is_ok(), &[]);
+        }
+        4 => {
+            let done = state_write_sets::define(values, sets, now, first, second);
+            expect_words(record, done.is_ok(), &[]);
+        }
+        5 => {
+            let done = state_write_sets::assign(values, sets, now, first, second);
+            expect_words(record, done.is_ok(), &[]);
+        }
+        6 => {
+            let done = state_write_sets::append_alias(values, sets, now, first, second);
+            expect_words(record, done.is_ok(), &[]);
+        }
+        7 => {
+            expect_test(
+                record,
+                state_read_sets::is_defined(values, sets, now, first),
+            );
+        }
+        8 => {
+            let mut list = [0u32; 1024];
+            let a = state_read_sets::values_for(values, sets, now, first, &mut list);
+            let n = (a.unwrap_or(0) as usize).min(list.len());
+            expect_words(record, a.is_ok(), &list[..n]);
+        }
+        9 => {
+            expect_test(
+                record,
+                state_write_values::freeze(values, sets, now, first, second),
+            );
+        }
+        10 => {
+            let span = Span {
+                start: third,
+                end: fourth,
+            };
+            let is_ref = get_or(refs, second as usize, 0) == 1;
+            let variant = variant_of(first);
+            let answer = state_read_kinds::mutate(values, sets, now, is_ref, variant, second, span);
+            let word = match answer {
+                Ok(a) => a.result as u32,
+                Err(_) => 0,
+            };
+            expect_words(record, answer.is_ok(), &[word]);
+            if let Ok(a) = answer {
+                return a.session;
+            }
+        }
+        11 => {
+            let done = state_phi::infer_phi(values, sets, now, first, operands);
+            expect_words(record, done.is_ok(), &[]);
+        }
+        _ => record.check(false),
+    }
+    now
 }
 
 // 12: merge into a third state, by the flags of both; its flag is compared too.
-fn run_merge(
-    bytes: &[u8],
-    at: &mut [u32],
-    values1: &[u64],
-    sets1: &[u64],
-    flag1: u32,
-    values2: &[u64],
-    sets2: &[u64],
-    flag2: u32,
-    session: Session,
-) {
-    let mut values3 = [0u64; 1024];
-    let mut sets3 = [0u64; 8192];
+// The first state is above or equal to the second just where the second adds nothing.
+fn run_merge(record: &mut Reading, one: &State, other: &State, now: Session) {
+    let mut merged = State {
+        values: [0; 1024],
+        sets: [0; 8192],
+        flag: false,
+    };
     let a = state_merge_calls::merge(
-        values1,
-        sets1,
-        flag1 == 1,
-        values2,
-        sets2,
-        flag2 == 1,
-        session,
-        &mut values3,
-        &mut sets3,
+        &one.values,
+        &one.sets,
+        one.flag,
+        &other.values,
+        &other.sets,
+        other.flag,
+        now,
+        &mut merged.values,
+        &mut merged.sets,
     );
-    expect_one(bytes, at, a.refusal, flag_of(a.answer));
-    check_above(at, values1, sets1, values2, sets2, session, a.answer);
-    check_rest(bytes, at, session, flag_of(a.flag), &values3, &sets3);
+    let flag = a.unwrap_or(None);
+    merged.flag = flag.unwrap_or(false);
+    expect_words(record, a.is_ok(), &[u32::from(flag.is_some())]);
+    let above = state_merge_calls::is_above(
+        &one.values,
+        &one.sets,
+        &other.values,
+        &other.sets,
+        now,
+    );
+    record.check(above.is_ok());
+    record.check(above.unwrap_or(false) != flag.is_some());
+    check_rest(record, now, &merged);
 }
 
 // 13: merge_from, by the flags of both; the flag after it is compared too.
-fn run_merge_from(
-    bytes: &[u8],
-    at: &mut [u32],
-    values1: &mut [u64],
-    sets1: &mut [u64],
-    flag1: u32,
-    values2: &[u64],
-    sets2: &[u64],
-    flag2: u32,
-    session: Session,
-) {
+fn run_merge_from(record: &mut Reading, one: &mut State, other: &State, now: Session) {
     let a = state_merge_calls::merge_from(
-        values1,
-        sets1,
-        flag1 == 1,
-        values2,
-        sets2,
-        flag2 == 1,
-        session,
+        &mut one.values,
+        &mut one.sets,
+        one.flag,
+        &other.values,
+        &other.sets,
+        other.flag,
+        now,
     );
-    let after = a.session;
-    expect_none(bytes, at, a.refusal);
-    check_rest(bytes, at, after, flag_of(a.flag), values1, sets1);
-}
-
-// One operation that looks at a state and leaves it.
-fn run_reading(
-    bytes: &[u8],
-    at: &mut [u32],
-    op: u32,
-    values: &[u64],
-    sets: &[u64],
-    session: Session,
-    flag: u32,
-    args: &[u32],
-    refs: &[u32],
-) {
-    if op == 1 {
-        run_kind(bytes, at, values, sets, session, flag, args);
-        return;
-    }
-    if op == 2 {
-        run_kind_with_span(bytes, at, values, sets, session, flag, args);
-        return;
-    }
-    if op == 7 {
-        run_is_defined(bytes, at, values, sets, session, flag, args);
-        return;
-    }
-    if op == 8 {
-        run_values_for(bytes, at, values, sets, session, flag, args);
-        return;
-    }
-    if op == 10 {
-        run_mutate(bytes, at, values, sets, session, flag, args, refs);
-        return;
-    }
-    fault(at);
-}
-
-// One operation that changes a state.
-fn run_writing(
-    bytes: &[u8],
-    at: &mut [u32],
-    op: u32,
-    values: &mut [u64],
-    sets: &mut [u64],
-    session: Session,
-    flag: u32,
-    args: &[u32],
-    operands: &[u32],
-) {
-    if op == 3 {
-        run_initialize(bytes, at, values, sets, session, flag, args);
-        return;
-    }
-    if op == 4 {
-        run_define(bytes, at, values, sets, session, flag, args);
-        return;
-    }
-    if op == 5 {
-        run_assign(bytes, at, values, sets, session, flag, args);
-        return;
-    }
-    if op == 6 {
-        run_append(bytes, at, values, sets, session, flag, args);
-        return;
-    }
-    if op == 9 {
-        run_freeze(bytes, at, values, sets, session, flag, args);
-        return;
-    }
-    if op == 11 {
-        run_phi(bytes, at, values, sets, session, flag, args, operands);
-        return;
-    }
-    fault(at);
-}
-
-// Whether an operation changes a state.
-fn writes(op: u32) -> bool {
-    match op {
-        3 => true,
-        4 => true,
-        5 => true,
-        6 => true,
-        9 => true,
-        11 => true,
-        _ => false,
-    }
-}
-
-// One operation.
-fn run(
-    bytes: &[u8],
-    at: &mut [u32],
-    op: u32,
-    values1: &mut [u64],
-    sets1: &mut [u64],
-    flag1: u32,
-    values2: &[u64],
-    sets2: &[u64],
-    flag2: u32,
-    session: Session,
-    args: &[u32],
-    operands: &[u32],
-    refs: &[u32],
-) {
-    if op == 12 {
-        run_merge(
-            bytes, at, values1, sets1, flag1, values2, sets2, flag2, session,
-        );
-        return;
-    }
-    if op == 13 {
-        run_merge_from(
-            bytes, at, values1, sets1, flag1, values2, sets2, flag2, session,
-        );
-        return;
-    }
-    if writes(op) {
-        run_writing(
-            bytes, at, op, values1, sets1, session, flag1, args, operands,
-        );
-        return;
-    }
-    run_reading(bytes, at, op, values1, sets1, session, flag1, args, refs);
-}
-
-// One less, and 0 of 0.
-fn one_less(n: u32) -> u32 {
-    if n == 0 { 0 } else { n - 1 }
-}
-
-// The operands of a phi: the arguments past the first.
-fn load_operands(args: &[u32], operands: &mut [u32], n: u32) {
-    let mut k: u32 = 0;
-    while k < n {
-        set32(operands, wide32(k), get32(args, wide32(k) + 1));
-        k += 1;
-    }
-}
-
-// The ref flags and the two states of a record, by the counts in its head.
-fn load_both(
-    bytes: &[u8],
-    at: &mut [u32],
-    head: &[u32],
-    refs: &mut [u32],
-    values1: &mut [u64],
-    sets1: &mut [u64],
-    values2: &mut [u64],
-    sets2: &mut [u64],
-) {
-    load_words(bytes, at, refs, get32(head, 8));
-    load_state(bytes, at, values1, sets1, get32(head, 9), get32(head, 10));
-    load_state(bytes, at, values2, sets2, get32(head, 11), get32(head, 12));
-}
-
-// The operation of a record with those of its arguments that are operands.
-fn run_with_operands(
-    bytes: &[u8],
-    at: &mut [u32],
-    head: &[u32],
-    refs: &[u32],
-    args: &[u32],
-    operands: &[u32],
-    values1: &mut [u64],
-    sets1: &mut [u64],
-    values2: &[u64],
-    sets2: &[u64],
-) {
-    let session = session_of(get32(head, 3), get32(head, 4), get32(head, 5));
-    take(bytes, at);
-    run(
-        bytes,
-        at,
-        get32(head, 2),
-        values1,
-        sets1,
-        get32(head, 6),
-        values2,
-        sets2,
-        get32(head, 7),
-        session,
-        args,
-        operands,
-        refs,
-    );
-}
-
-// The same with the operands in a list that may be longer.
-fn run_cut(
-    bytes: &[u8],
-    at: &mut [u32],
-    head: &[u32],
-    refs: &[u32],
-    args: &[u32],
-    operands: &[u32],
-    values1: &mut [u64],
-    sets1: &mut [u64],
-    values2: &[u64],
-    sets2: &[u64],
-) {
-    let m = most(one_less(get32(head, 13)), operands);
-    run_with_operands(
-        bytes,
-        at,
-        head,
-        refs,
-        args,
-        &operands[..m],
-        values1,
-        sets1,
-        values2,
-        sets2,
-    );
-}
-
-// The operation of a record with its arguments.
-fn run_with_args(
-    bytes: &[u8],
-    at: &mut [u32],
-    head: &[u32],
-    refs: &[u32],
-    args: &[u32],
-    values1: &mut [u64],
-    sets1: &mut [u64],
-    values2: &[u64],
-    sets2: &[u64],
-) {
-    let mut operands = [0u32; 1024];
-    load_operands(args, &mut operands, one_less(get32(head, 13)));
-    run_cut(
-        bytes, at, head, refs, args, &operands, values1, sets1, values2, sets2,
-    );
-}
-
-// The rest of a record whose head is read.
-fn replay_rest(
-    bytes: &[u8],
-    at: &mut [u32],
-    head: &[u32],
-    values1: &mut [u64],
-    sets1: &mut [u64],
-    values2: &mut [u64],
-    sets2: &mut [u64],
-) {
-    let mut refs = [0u32; 512];
-    let mut args = [0u32; 1024];
-    load_both(bytes, at, head, &mut refs, values1, sets1, values2, sets2);
-    load_words(bytes, at, &mut args, get32(head, 13));
-    run_with_args(
-        bytes, at, head, &refs, &args, values1, sets1, values2, sets2,
-    );
-}
-
-// One record: its head of 14 words (the count of input words before VECTORS.md's 13), two states, the arguments, and the answer with which the call's is compared.
-fn replay_record(
-    bytes: &[u8],
-    at: &mut [u32],
-    values1: &mut [u64],
-    sets1: &mut [u64],
-    values2: &mut [u64],
-    sets2: &mut [u64],
-) {
-    let mut head = [0u32; 14];
-    load_words(bytes, at, &mut head, 14);
-    replay_rest(bytes, at, &head, values1, sets1, values2, sets2);
-}
-
-// One record on states that are empty at first.
-fn replay_fresh(bytes: &[u8], at: &mut [u32]) {
-    let mut values1 = [0u64; 1024];
-    let mut sets1 = [0u64; 8192];
-    let mut values2 = [0u64; 1024];
-    let mut sets2 = [0u64; 8192];
-    replay_record(
-        bytes,
-        at,
-        &mut values1,
-        &mut sets1,
-        &mut values2,
-        &mut sets2,
-    );
-}
-
-// Writes the number of a record that failed.
-fn say_failed(rt: &impl Print, k: u32) -> io::Result<()> {
-    println!(rt; "failed: operation {k}")
-}
-
-// One record; whether its answer is the recorded one.
-fn passes(rt: &impl Print, bytes: &[u8], at: &mut [u32], k: u32) -> io::Result<bool> {
-    set32(at, 1, 0);
-    replay_fresh(bytes, at);
-    if get32(at, 1) == 0 {
-        return Ok(true);
-    }
-    say_failed(rt, k)?;
-    Ok(false)
-}
-
-// All records; how many failed.
-fn replay_all(rt: &impl Print, bytes: &[u8], at: &mut [u32], n: u32) -> io::Result<u32> {
-    let mut failed: u32 = 0;
-    let mut k: u32 = 0;
-    while k < n {
-        failed = more(failed, !passes(rt, bytes, at, k)?);
-        k += 1;
-    }
-    Ok(failed)
-}
-
-// Replays a list and says how it went.
-fn replay_list(rt: &impl Print, bytes: &[u8]) -> io::Result<()> {
-    let mut at = [0u32; 2];
-    let n = take(bytes, &mut at);
-    let failed = replay_all(rt, bytes, &mut at, n)?;
-    println!(rt; "{n} operations replayed, {failed} failed")
-}
-
-// Reads until the buffer is full or the input ends, and answers how many bytes there were.
-fn read_full(input: &mut impl Read, buffer: &mut [u8]) -> io::Result<usize>
-    ensures { IfOk result (λ n. n ≤ length buffer.new) }
-{
-    let mut done = 0;
-    while done < buffer.len() {
-        let n = input.read(&mut buffer[done..])?;
-        if n == 0 {
-            break;
+    expect_words(record, a.is_ok(), &[]);
+    match a {
+        Ok(a) => {
+            one.flag = a.flag;
+            check_rest(record, a.session, one);
         }
-        done += n;
+        Err(_) => check_rest(record, now, one),
     }
-    Ok(done)
+}
+
+// ---- a list
+
+// One record: its head of 14 words (the count of input words before VECTORS.md's 13), ref flags, two states, the arguments,
+// and the answer, after the count of its words, with which the call's is compared. All fresh numbers of its session are handed out.
+fn replay_record(record: &mut Reading) {
+    let mut head = [0u32; 14];
+    load_words(record, &mut head, 14);
+    let span = Span {
+        start: head[4],
+        end: head[5],
+    };
+    let now = Session {
+        next: 512,
+        access: head[3],
+        span,
+        entries: 0,
+    };
+    let mut refs = [0u32; 512];
+    load_words(record, &mut refs, head[8]);
+    let mut one = load_state(record, head[6], head[9], head[10]);
+    let other = load_state(record, head[7], head[11], head[12]);
+    let mut list = [0u32; 1025];
+    load_words(record, &mut list, head[13]);
+    let arguments = [list[0], list[1], list[2], list[3]];
+    let operands = &list[1..(head[13] as usize).clamp(1, 1025)];
+    record.word();
+    match head[2] {
+        12 => run_merge(record, &one, &other, now),
+        13 => run_merge_from(record, &mut one, &other, now),
+        operation => {
+            let after = run(record, operation, &mut one, now, &refs, arguments, operands);
+            check_rest(record, after, &one);
+        }
+    }
+}
+
+// Replays a list, names the records that failed, and says how it went.
+fn replay_list(rt: &impl Print, bytes: &[u8]) -> io::Result<()> {
+    let mut record = Reading::new(bytes);
+    let n = record.word();
+    let mut failed: u32 = 0;
+    for k in 0..n {
+        record.faults = 0;
+        replay_record(&mut record);
+        if record.faults != 0 {
+            println!(rt; "failed: operation {k}")?;
+            failed = failed.saturating_add(1);
+        }
+    }
+    println!(rt; "{n} operations replayed, {failed} failed")
 }
 
 // Reads the list into 262,144 bytes and replays it.
@@ -960,14 +375,6 @@ fn replay_file(rt: &impl Print, file: &mut impl Read) -> io::Result<()> {
     let mut bytes = [0u8; 262144];
     let n = read_full(file, &mut bytes)?;
     replay_list(rt, &bytes[..n])
-}
-
-// Argument i, or an empty text where it is missing, too long or no text.
-fn argument<'a>(rt: &impl Env, i: usize, buffer: &'a mut [u8]) -> &'a str {
-    match rt.arg(i, buffer) {
-        Ok(n) => str::from_utf8(&buffer[..n]).unwrap_or(""),
-        Err(_) => "",
-    }
 }
 
 fn main(rt: HostRuntime) -> io::Result<()> {

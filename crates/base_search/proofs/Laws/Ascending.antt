@@ -1,25 +1,23 @@
 -- An order table: places 0 to n - 1, each with the number of a record. Where neighbours ascend by their keys and each number lies below n,
 -- the table is a permutation of the records, no two records have one key, a search by halves finds a record just if there is one under the key,
 -- and what is put in where the search ended keeps all that. Assumes nothing.
-use Rattle.std.specs.Prelude.{ℕ, zero, suc, ◌≤◌, ◌<◌, ◌≡◌, refl, ◌⊎◌, eqb}
+use Rattle.std.specs.Prelude.{ℕ, zero, suc, ◌≤◌, ◌<◌, ◌≡◌, refl, ◌⊎◌, eqb, Result, Ok, Err}
 use Rattle.std.proofs.Common.{arith, sym, ap, ◌∙◌, subst, inl, inr, ⊎_elim}
 use Rattle.base_tests.specs.Tests.{ite}
 use Rattle.base_tests.proofs.Laws.Choice.{ite_eq, ite_ne}
-use Rattle.base_search.specs.declared.Order.{Order}
-use Rattle.base_search.specs.declared.Order.TheVariants.{Less, Same, More}
-use Rattle.base_search.specs.declared.Spot.{Spot}
-use Rattle.base_search.specs.declared.Spot.TheVariants.{At, Before}
+use Rattle.std.specs.declared.cmp.Ordering.{Ordering}
+use Rattle.std.specs.declared.cmp.Ordering.TheVariants.{Less, Equal, Greater}
 use Rattle.base_search.specs.Search.{along}
 use Rattle.base_search.proofs.Laws.Search.{Falls, Between, Splits, Finds, along_splits, along_finds}
 use Rattle.base_tests.proofs.Laws.Order.{lt_or_ge}
 
 -- keys that are compared: a strict order, equal where neither is less
 pub record Comparing (K : Type 0) : Type 0 where
-  pub compare : K → K → Order
-  pub same : (a : K) → compare a a ≡ Same
-  pub equal : (a b : K) → compare a b ≡ Same → a ≡ b
-  pub less_more : (a b : K) → compare a b ≡ Less → compare b a ≡ More
-  pub more_less : (a b : K) → compare a b ≡ More → compare b a ≡ Less
+  pub compare : K → K → Ordering
+  pub same : (a : K) → compare a a ≡ Equal
+  pub equal : (a b : K) → compare a b ≡ Equal → a ≡ b
+  pub less_more : (a b : K) → compare a b ≡ Less → compare b a ≡ Greater
+  pub more_less : (a b : K) → compare a b ≡ Greater → compare b a ≡ Less
   pub less_trans : (a b c : K) → compare a b ≡ Less → compare b c ≡ Less → compare a c ≡ Less
 
 -- equal, or lower, or higher
@@ -33,7 +31,7 @@ nothing : {A : Type 0} → ⊥ → A
 nothing z = absurd z
 
 -- Less is not Same
-not_same : Less ≡ Same → ⊥
+not_same : Less ≡ Equal → ⊥
 not_same e = let z : ◌≡◌ {A = ℕ} 0 1 = cc in omega arith
 
 -- ---- numbers below n, no two alike, are all of them
@@ -163,8 +161,8 @@ module _ {K : Type 0} (C : Comparing K) (key : ℕ → K) (ord : ℕ → ℕ) (n
       less = λ i j l m e. less i j m e (three i j) l;
     }
       where
-        more : (i j : ℕ) → j < n → C.compare k (key (ord j)) ≡ More → (i ≡ j) ⊎ ((i < j) ⊎ (j < i)) → i ≤ j → C.compare k (key (ord i)) ≡ More
-        more i j m e (inl x) l = subst (λ (z : ℕ). C.compare k (key (ord z)) ≡ More) (sym x) e
+        more : (i j : ℕ) → j < n → C.compare k (key (ord j)) ≡ Greater → (i ≡ j) ⊎ ((i < j) ⊎ (j < i)) → i ≤ j → C.compare k (key (ord i)) ≡ Greater
+        more i j m e (inl x) l = subst (λ (z : ℕ). C.compare k (key (ord z)) ≡ Greater) (sym x) e
         more i j m e (inr (inl x)) l = C.less_more (key (ord i)) k (C.less_trans (key (ord i)) (key (ord j)) k (any_two i j x m) (C.more_less k (key (ord j)) e))
         more i j m e (inr (inr x)) l = nothing (omega arith)
 
@@ -195,25 +193,25 @@ module _ {K : Type 0} (C : Comparing K) (key : ℕ → K) (ord : ℕ → ℕ) (n
 
       module _ (named : (j : ℕ) → j < n → Has (ord j)) where
         -- what a search says: the one number under the key, or that there is none
-        abbrev pub Tells : K → Spot → Type 0
-        Tells k (At j) = (key (ord j) ≡ k) × (j < n) × ((r : ℕ) → Has r → key r ≡ k → r ≡ ord j)
-        Tells k (Before p) = (p ≤ n) × ((r : ℕ) → Has r → key r ≡ k → ⊥) × Between (λ j. C.compare k (key (ord j))) n p
+        abbrev pub Tells : K → Result ℕ ℕ → Type 0
+        Tells k (Ok j) = (key (ord j) ≡ k) × (j < n) × ((r : ℕ) → Has r → key r ≡ k → r ≡ ord j)
+        Tells k (Err p) = (p ≤ n) × ((r : ℕ) → Has r → key r ≡ k → ⊥) × Between (λ j. C.compare k (key (ord j))) n p
 
         pub search_tells : (k : K) → Tells k (along (λ j. C.compare k (key (ord j))) n)
         search_tells k = go (along (λ j. C.compare k (key (ord j))) n) (along_finds (λ j. C.compare k (key (ord j))) n) (along_splits (λ j. C.compare k (key (ord j))) n (sought_falls k))
           where
             away : (p : ℕ) → Between (λ j. C.compare k (key (ord j))) n p → (r : ℕ) → Place ord n r → key r ≡ k → ⊥
-            away p b r q e = ⊎_elim {C = ⊥} (λ x. clash More (b.lower q.0 x) (λ z. let u : ◌≡◌ {A = ℕ} 0 1 = cc in omega arith)) (λ x. clash Less (b.upper q.0 x q.1) not_same) (lt_or_ge q.0 p)
+            away p b r q e = ⊎_elim {C = ⊥} (λ x. clash Greater (b.lower q.0 x) (λ z. let u : ◌≡◌ {A = ℕ} 0 1 = cc in omega arith)) (λ x. clash Less (b.upper q.0 x q.1) not_same) (lt_or_ge q.0 p)
               where
-                is_same : C.compare k (key (ord q.0)) ≡ Same
+                is_same : C.compare k (key (ord q.0)) ≡ Equal
                 is_same = ap (C.compare k) (ap key q.2 ∙ e) ∙ C.same k
 
-                clash : (o : Order) → C.compare k (key (ord q.0)) ≡ o → (o ≡ Same → ⊥) → ⊥
+                clash : (o : Ordering) → C.compare k (key (ord q.0)) ≡ o → (o ≡ Equal → ⊥) → ⊥
                 clash o x y = y (sym x ∙ is_same)
 
-            go : (s : Spot) → Finds (λ j. C.compare k (key (ord j))) 0 n s → Splits (λ j. C.compare k (key (ord j))) n s → Tells k s
-            go (At j) h b = (sym (C.equal k (key (ord j)) h.0), h.2, λ r l e. placed_distinct r (ord j) l (named j h.2) (e ∙ C.equal k (key (ord j)) h.0))
-            go (Before p) h b = (h.1, (λ r l e. away p b r (placed r l) e), b)
+            go : (s : Result ℕ ℕ) → Finds (λ j. C.compare k (key (ord j))) 0 n s → Splits (λ j. C.compare k (key (ord j))) n s → Tells k s
+            go (Ok j) h b = (sym (C.equal k (key (ord j)) h.0), h.2, λ r l e. placed_distinct r (ord j) l (named j h.2) (e ∙ C.equal k (key (ord j)) h.0))
+            go (Err p) h b = (h.1, (λ r l e. away p b r (placed r l) e), b)
 
     module _ (inside : (j : ℕ) → j < n → ord j < n) where
       -- every record has a place
@@ -221,7 +219,7 @@ module _ {K : Type 0} (C : Comparing K) (key : ℕ → K) (ord : ℕ → ℕ) (n
       record_placed = all_placed n ord inside places_distinct
 
       -- so of records numbered below n a search tells
-      abbrev pub Says : K → Spot → Type 0
+      abbrev pub Says : K → Result ℕ ℕ → Type 0
       Says k s = Tells (λ r. r < n) record_placed inside k s
 
       pub search_says : (k : K) → Says k (along (λ j. C.compare k (key (ord j))) n)

@@ -6,7 +6,7 @@ use Rattle.std.proofs.Math.Path.{refl, ap}
 use Rattle.std.proofs.Common.{sym, ap₂, ◌∙◌, subst, ⊎_elim}
 use Rattle.base_tests.specs.Tests.{ite}
 use Rattle.base_tests.proofs.Laws.Choice.{ite_lt, ite_ge, ite_eq, ite_ne}
-use Rattle.base_search.specs.declared.Order.TheVariants.{Less, More}
+use Rattle.std.specs.declared.cmp.Ordering.TheVariants.{Less, Greater}
 use Rattle.base_search.proofs.Laws.Search.{Between}
 use Rattle.base_tests.proofs.Laws.Order.{lt_or_ge}
 use Rattle.base_search.proofs.Laws.Ascending.{Comparing, Ascends}
@@ -43,7 +43,7 @@ module _ {K : Type 0} (C : Comparing K) (key : ℕ → K) (ord : ℕ → ℕ) (n
           (lt_or_ge (suc j) p)
         where
           -- past the end of the order nothing is asked
-          flip : suc j < p → n ≤ suc j → C.compare (key (ord (suc j))) (key (ord j)) ≡ More
+          flip : suc j < p → n ≤ suc j → C.compare (key (ord (suc j))) (key (ord j)) ≡ Greater
           flip m q = absurd (let z : ⊥ = omega arith in z)
 
       high : (i : ℕ) → p ≤ i → suc i < suc n → C.compare (key (inserted ord p r i)) (key (inserted ord p r (suc i))) ≡ Less

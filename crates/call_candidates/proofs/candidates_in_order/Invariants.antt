@@ -15,6 +15,3 @@ invariant-loop-k l =
     × (length l.context ≡ length l.initial.context)
     × (length l.output ≡ length l.initial.output)
     × (each (effects_in candidate_table l.candidates l.initial.k (l.count - l.initial.k)) (Text.apply_effect 4) (world l.initial.values l.initial.sets l.initial.context l.initial.output l.initial.now) ≡ each (effects_in candidate_table l.candidates l.k (l.count - l.k)) (Text.apply_effect 4) (world l.values l.sets l.context l.output l.now))
-
-abbrev pub decreases-loop-k : goal.decreases-loop-k
-decreases-loop-k l = l.count - l.k

@@ -13,6 +13,3 @@ invariant-loop-k l =
     (length l.context ≡ length l.initial.context)
     × (length l.output ≡ length l.initial.output)
     × (each (places_in inside_run l.places 0 1 l.initial.k (l.n - l.initial.k)) (early_error l.f) (world l.values l.sets l.initial.context l.initial.output l.initial.now) ≡ each (places_in inside_run l.places 0 1 l.k (l.n - l.k)) (early_error l.f) (world l.values l.sets l.context l.output l.now))
-
-abbrev pub decreases-loop-k : goal.decreases-loop-k
-decreases-loop-k l = l.n - l.k

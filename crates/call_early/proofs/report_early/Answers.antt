@@ -1,4 +1,5 @@
 -- `call_early::report_early` meets its contract: one law for each of its four ways. Assumes nothing.
+use Rattle.laws_monad.proofs.Laws.Answers.{passes}
 use Rattle.call_parts.proofs.Laws.Instruction.{report_undefined, report_other, report_refused, report_lists}
 use Rattle.call_early.proofs.report_early.Goals as goal
 
@@ -9,10 +10,10 @@ pub returns-then-not-is_frozen : goal.returns-then-not-is_frozen
 returns-then-not-is_frozen c =
     report_other _ _ _ _ _ _ _ c.is_defined.ensures (c.if-not-is_defined.false) _ c.kind_of-a.ensures _ c.is_frozen.ensures (c.if-not-is_frozen.true)
 
-pub returns-then-g-ne0 : goal.returns-then-g-ne0
-returns-then-g-ne0 c =
-    report_refused _ _ _ _ _ _ _ c.is_defined.ensures (c.if-not-is_defined.false) _ c.kind_of-a.ensures _ c.is_frozen.ensures (c.if-not-is_frozen.false) _ c.name_of-name.ensures _ c.modified_diagnostic.ensures _ _ _ (c.intern_diagnostic-g.ensures _ _ _ _) c.if-g-ne0.true
+pub returns-in_err-error : goal.returns-in_err-error
+returns-in_err-error c =
+    rw (passes _ _ c.from_residual.ensures.1) (c.args.run, report_refused _ _ _ _ _ _ _ c.is_defined.ensures (c.if-not-is_defined.false) _ c.kind_of-a.ensures _ c.is_frozen.ensures (c.if-not-is_frozen.false) _ c.name_of-name.ensures _ c.modified_diagnostic.ensures _ _ (c.in_err-error.ensures _ _ _ _))
 
 pub returns : goal.returns
 returns c =
-    report_lists _ _ _ _ _ _ _ c.is_defined.ensures (c.if-not-is_defined.false) _ c.kind_of-a.ensures _ c.is_frozen.ensures (c.if-not-is_frozen.false) _ c.name_of-name.ensures _ c.modified_diagnostic.ensures _ _ _ (c.intern_diagnostic-g.ensures _ _ _ _) _ _ _ c.if-g-ne0.false (c.emit-listed.ensures _ _ _)
+    report_lists _ _ _ _ _ _ _ c.is_defined.ensures (c.if-not-is_defined.false) _ c.kind_of-a.ensures _ c.is_frozen.ensures (c.if-not-is_frozen.false) _ c.name_of-name.ensures _ c.modified_diagnostic.ensures _ _ (c.in_ok-error.ensures _ _ _ _) _ _ _ (c.emit.ensures _ _ _)

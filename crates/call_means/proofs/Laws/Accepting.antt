@@ -1,10 +1,9 @@
 -- What acceptance says of the candidates: each names identifiers of the list, and has at most 16 captures. Assumes nothing.
 use Prim.Native.Nat.{ℕ, zero, suc, ◌+◌, ◌-◌, ◌*◌, ◌%◌, ◌≤◌, ◌<◌}
 use native.Mathlib.Omega.{arith}
-use Rattle.std.specs.Prelude.{◌≡◌, ◌&&◌, List, [], ◌∷◌, eqb, leb, ltb, length, get_or}
+use Rattle.std.specs.Prelude.{◌≡◌, ◌&&◌, List, [], ◌∷◌, eqb, leb, ltb, length, get_or, Option, None, Some}
 use Rattle.std.proofs.Math.Path.{refl, sym, ap}
 use Rattle.std.proofs.Common.{◌∙◌, le→leb}
-use Rattle.std.proofs.Math.Option.{Option, none, some}
 use borrow.Author.Tests.{ltb-true, ltb-false, not-false}
 use Rattle.base_tests.specs.Tests.{All}
 use Rattle.base_tests.proofs.Laws.Choice.{ite_eq, ite_ne, ite_ge}
@@ -27,33 +26,33 @@ use Rattle.def_faithful.proofs.Laws.Steps.{Fine}
 use Rattle.lent_layout.specs.Layout.{candidate_table}
 
 -- a word with a limit lies below it
-word_limit : (o : Option ℕ) (x b : ℕ) → word_class o x ≡ 0 → o ≡ some b → x < b
+word_limit : (o : Option ℕ) (x b : ℕ) → word_class o x ≡ 0 → o ≡ Some b → x < b
 unfolding word_class
-word_limit none x b e q = let z : ◌≡◌ {A = ℕ} 0 1 = cc in absurd (omega arith)
-word_limit (some c) x b e q = let z : c ≡ b = cc in let l = ltb-true x c (not-false (ltb x c) (earns_none 2 _ e)) in omega arith
+word_limit None x b e q = let z : ◌≡◌ {A = ℕ} 0 1 = cc in absurd (omega arith)
+word_limit (Some c) x b e q = let z : c ≡ b = cc in let l = ltb-true x c (not-false (ltb x c) (earns_none 2 _ e)) in omega arith
 
-limit_lt : (t : Table) (xs : List ℕ) (limit : ℕ → Option ℕ) (i w b : ℕ) → record_class t xs limit i ≡ 0 → w < t.width → limit w ≡ some b → field t xs i w < b
+limit_lt : (t : Table) (xs : List ℕ) (limit : ℕ → Option ℕ) (i w b : ℕ) → record_class t xs limit i ≡ 0 → w < t.width → limit w ≡ Some b → field t xs i w < b
 unfolding record_class words_below
 limit_lt t xs limit i w b e l q = word_limit (limit w) (field t xs i w) b (lowest_0 t.width (λ w. word_class (limit w) (field t xs i w)) e w l) q
 
 module _ (n f d code m : ℕ) where
-  code_limit : effect_limit n f d code m 0 ≡ some 18
+  code_limit : effect_limit n f d code m 0 ≡ Some 18
   unfolding effect_limit
   code_limit = refl
 
-  first_limit : uses code 0 ≡ 1 → effect_limit n f d code m 1 ≡ some n
+  first_limit : uses code 0 ≡ 1 → effect_limit n f d code m 1 ≡ Some n
   unfolding effect_limit place_limit
-  first_limit e = ap (λ (u : ℕ). used_if u (some n)) e
+  first_limit e = ap (λ (u : ℕ). used_if u (Some n)) e
 
-  second_limit : uses code 1 ≡ 1 → effect_limit n f d code m 6 ≡ some n
+  second_limit : uses code 1 ≡ 1 → effect_limit n f d code m 6 ≡ Some n
   unfolding effect_limit place_limit
-  second_limit e = ap (λ (u : ℕ). used_if u (some n)) e
+  second_limit e = ap (λ (u : ℕ). used_if u (Some n)) e
 
-  capture_limit : uses code 7 ≡ 1 → (k : ℕ) → k < m → effect_limit n f d code m (18 + k * 5) ≡ some n
+  capture_limit : uses code 7 ≡ 1 → (k : ℕ) → k < m → effect_limit n f d code m (18 + k * 5) ≡ Some n
   unfolding effect_limit place_limit
   capture_limit e k l =
       ite_ge (18 + k * 5) 18 _ _ (omega arith) ∙ ap (λ (u : ℕ). used_if u (run_limit n m (18 + k * 5 - 18))) e
-      ∙ sym (run_used n m (18 + k * 5 - 18) m (some n) refl (omega arith) (ap (place_limit n) (let z : 0 ≡ (18 + k * 5 - 18) % 5 = omega arith in z)))
+      ∙ sym (run_used n m (18 + k * 5 - 18) m (Some n) refl (omega arith) (ap (place_limit n) (let z : 0 ≡ (18 + k * 5 - 18) % 5 = omega arith in z)))
 
 module _ (t : Table) (xs : List ℕ) (i n : ℕ) where
   places_below : (k m : ℕ) → ((j : ℕ) → j < k + m → field t xs i (18 + j * 5) < n) → All (λ x. x < n) (Places.identifiers (places_in t xs i 18 k m))

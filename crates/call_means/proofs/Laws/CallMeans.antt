@@ -1,8 +1,7 @@
 -- An accepted call means the definition on plain tables: the same refusal, or the same effects in order, and tables that mean the same.
 -- Assumes nothing.
-use Rattle.std.specs.Prelude.{ℕ, ◌*◌, ◌≤◌, ◌<◌, ◌≡◌, refl, List, ◌++◌, length, get_or}
+use Rattle.std.specs.Prelude.{ℕ, ◌*◌, ◌≤◌, ◌<◌, ◌≡◌, refl, List, ◌++◌, length, get_or, Option, None, Some}
 use Rattle.std.proofs.Common.{le_trans, arith, sym, ap, ◌∙◌, subst}
-use Rattle.std.proofs.Math.Option.{Option, none, some}
 use Rattle.base_tests.specs.Tests.{All}
 use Rattle.base_tests.proofs.Laws.Choice.{ite_eq}
 use Rattle.def_effects.specs.Keys.{effect_key}
@@ -72,8 +71,8 @@ unfolding mutated Lent.mutated_inside
 plain_fits ins c f = record { few = f.few; captures = f.captures; inside = go ins.own f.inside }
   where
     go : (o : Option ℕ) → mutated lent o c ≤ 32 → mutated pure o (abstract c) ≤ 32
-    go none l = l
-    go (some g) l = l
+    go None l = l
+    go (Some g) l = l
 
 -- ---- the call
 

@@ -1,9 +1,8 @@
 -- The ways through the tests of a call, and what holds of lists that no class refuses. Assumes nothing.
-use Rattle.std.specs.Prelude.{ℕ, zero, suc, ◌+◌, ◌-◌, ◌*◌, ◌/◌, ◌%◌, ◌≤◌, ◌<◌, ◌≡◌, Bool, true, ◌||◌, List, eqb, ltb, length, get_or}
+use Rattle.std.specs.Prelude.{ℕ, zero, suc, ◌+◌, ◌-◌, ◌*◌, ◌/◌, ◌%◌, ◌≤◌, ◌<◌, ◌≡◌, Bool, true, ◌||◌, List, eqb, ltb, length, get_or, None}
 use Rattle.std.proofs.Common.{arith, ◌∙◌, subst, ⊎_elim}
 use Rattle.std.proofs.Math.Path.{refl, sym, ap, ap₂}
 use Rattle.std.proofs.Math.Bool.{false, not}
-use Rattle.std.proofs.Math.Option.{none}
 use Rattle.std.proofs.Math.ListN.{get_or-eq_default}
 use borrow.Author.Tests.{lt-ltb, le-ltb, eq-eqb, ne_eqb, eqb-true, ltb-false}
 use Rattle.base_tests.proofs.Laws.Bool.{not-false, or_first, or_second, or_neither, or_no_first, or_no_second}
@@ -252,7 +251,7 @@ module _ (vs ss : List ℕ) (flag : Bool) (cs : List ℕ) (s : Session) (xs : Li
 
 -- a word without use that earns no class is zero
 -- 4 is what it would earn
-pub word_0 : (x : ℕ) → word_class none x ≡ 0 → x ≡ 0
+pub word_0 : (x : ℕ) → word_class None x ≡ 0 → x ≡ 0
 unfolding word_class
 word_0 x e = ⊎_elim (λ z. z) (λ n. absurd (let y : ◌≡◌ {A = ℕ} 4 0 = sym (ap (λ (b : Bool). earns 4 (not b)) (ne_eqb x 0 n)) ∙ e in omega arith)) (same_or_not x 0)
 
@@ -279,7 +278,7 @@ zero_after n f cs next long e k l = go (counts_wrong n f cs) refl
     words : tables_class n f cs next ≡ 0 → m ≤ 2048 → get_or cs k 0 ≡ 0
     words h q = ⊎_elim inside past (lt_or_ge k 238534)
       where
-        stray : lowest_below ((2048 - m) * 98) (λ j. word_class none (get_or cs (37830 + m * 98 + 0 + j) 0)) ≡ 0
+        stray : lowest_below ((2048 - m) * 98) (λ j. word_class None (get_or cs (37830 + m * 98 + 0 + j) 0)) ≡ 0
         stray = (lower_0 _ _ (lower_0 _ _ (lower_0 _ _ (lower_0 _ _ (lower_0 _ _ (lower_0 _ _ (lower_0 _ _ (lower_0 _ _ h).1).1).1).1).1).1).1).0
 
         inside : k < 238534 → get_or cs k 0 ≡ 0

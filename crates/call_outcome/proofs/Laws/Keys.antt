@@ -1,11 +1,10 @@
 -- The cached keys of an accepted context: they are in order, and no number from the next one on has one. Assumes nothing.
-use Rattle.std.specs.Prelude.{ℕ, ◌+◌, ◌-◌, ◌*◌, ◌≤◌, ◌<◌, ◌≡◌, Bool, List}
+use Rattle.std.specs.Prelude.{ℕ, ◌+◌, ◌-◌, ◌*◌, ◌≤◌, ◌<◌, ◌≡◌, Bool, List, None}
 use native.Mathlib.Omega.{arith}
 use Rattle.std.proofs.Math.Path.{refl, sym, ap}
 use Rattle.std.proofs.Common.{◌∙◌, eq-eqb}
 use Rattle.std.proofs.Math.Bool.{true, false, not}
 use Rattle.std.proofs.Math.Logic.{⊎_elim}
-use Rattle.std.proofs.Math.Option.{none}
 use Rattle.std.proofs.Math.ListN.{get_or}
 use Rattle.base_tests.specs.Tests.{ite}
 use Rattle.base_tests.proofs.Laws.Choice.{ite_lt, ite_ge, ite_yes, ite_no}
@@ -75,11 +74,11 @@ module _ (n f : ℕ) (c : List ℕ) (next : ℕ) (e : context_class n f c next �
       handed l =
           let a : cached_class n f c 0 ≡ 0 = lowest_0 out (cached_class n f c) (lower_0 _ _ keys_right).0 0 l in
           let b : no_key_class c 0 ≡ 0 = a in
-          ap not (eq-eqb (field Layout.cached c 0 0) 0 (word_0 (field Layout.cached c 0 0) (lowest_0 28 (λ w. word_class none (field Layout.cached c 0 w)) b 0 (omega arith))))
+          ap not (eq-eqb (field Layout.cached c 0 0) 0 (word_0 (field Layout.cached c 0 0) (lowest_0 28 (λ w. word_class None (field Layout.cached c 0 w)) b 0 (omega arith))))
 
   pub numbered : Numbered c
   unfolding keys_class
   numbered = in_order_is c out (few_out next) (lower_0 _ _ (lower_0 _ _ keys_right).1).1 none_after none_first
 
-  pub unused : (v : ℕ) → next ≤ v → key_at c v ≡ none
+  pub unused : (v : ℕ) → next ≤ v → key_at c v ≡ None
   unused v l = keyless_at c v (none_after v (let z = low_out next in omega arith))

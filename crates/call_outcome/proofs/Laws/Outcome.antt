@@ -1,5 +1,5 @@
 -- What the code answers and leaves is the definition's outcome; and after a refusal everything is as before. Assumes nothing.
-use Rattle.std.specs.Prelude.{ℕ, zero, suc, ◌/◌, ◌≤◌, ◌≡◌, Bool, true, false, ltb, get_or}
+use Rattle.std.specs.Prelude.{ℕ, zero, suc, ◌/◌, ◌≤◌, ◌≡◌, Bool, true, false, ltb, get_or, Result, Ok, Err}
 use Rattle.std.proofs.Common.{arith, ◌∙◌, subst, ⊎_elim, ltb-false}
 use Rattle.std.proofs.Math.Path.{refl, sym, ap, ap₂}
 use mathlib.Core.List.{List}
@@ -25,8 +25,11 @@ use Rattle.lent_world.proofs.Laws.LentIsolation.{after}
 use Rattle.refuse_entries.specs.Words.{identifiers}
 use Rattle.refuse_entries.proofs.Laws.Accepted.{accepted_lent}
 use Rattle.call_parts.specs.Instructions.{instruction_of}
-use Rattle.call_outcome.specs.Calls.{Call, Outcome, call, given, room_for, wrong_context, candidate_count, call_class, lent_instruction, start_run, lent_world, refused_with, concluded, outcome}
-use Rattle.call_outcome.specs.Attempts.{Ready}
+use Rattle.call_outcome.specs.Calls.{Call, Outcome, call, given, room_for, wrong_context, candidate_count, call_class, lent_instruction, start_run, lent_world, refused_with, concluded, outcome, told}
+use Rattle.call_outcome.specs.declared.Applied.{Applied}
+use Rattle.def_refusals.specs.declared.Refusal.{Refusal}
+use Rattle.def_refusals.specs.Verdicts.{number_of, class_of}
+use Rattle.call_outcome.specs.Attempts.{run_or, Ready}
 use Rattle.call_outcome.proofs.Laws.Class.{lengths_right, right_length, class_0, zero_after}
 use Rattle.call_outcome.proofs.Laws.Attempt.{applies}
 
@@ -39,6 +42,13 @@ few n f cs xs count p own e = go (ltb 64 count) refl (lower_0 _ _ e).0
     go : (b : Bool) → ltb 64 count ≡ b → earns 2 b ≡ 0 → count ≤ 64
     go true h g = absurd (omega arith)
     go false h g = ltb-false 64 count h
+
+-- what the call answers of what its run does
+abbrev pub Ends : Result Run Refusal → Result Applied Refusal → Type 0
+Ends (Ok r) (Ok a) = a ≡ record { count = r.listed; entries = r.entries; session = r.session; flag = r.flag }
+Ends (Ok r) (Err q) = ⊥
+Ends (Err q) (Ok a) = ⊥
+Ends (Err q) (Err w) = w ≡ q
 
 -- a call, by its parts
 -- in the order of the function's parameters
@@ -122,6 +132,18 @@ module _ (vs ss : List ℕ) (flag : Bool) (cs : List ℕ) (s : Session) (xs : Li
               no_ok : (w : World lent) → ok a w ≡ refused (suc m) (world us ts ds ps r) → ⊥
               no_ok w y = subst is_ok y tt
           as_before (refused n w) y = sym (ap after y)
+
+  -- the same of what the run answers, and of what the call answers then
+  pub outcome_told : (class : ℕ) (zs us ts ds ps t64 t32 : List ℕ) (n64 n32 : ℕ) (ran : Result Run Refusal) (a : Result Applied Refusal) → class ≡ call_class c → class ≡ 0 → zs ≡ zeros (length os)
+      → (Ready vs ss cs zs xs s64 s32 → apply_signature (instruction_of xs (candidate_count xs) p own) (world vs ss cs zs (start_run s flag)) ≡ answer (class_of ran) tt (world us ts ds ps (run_or (start_run s flag) ran)))
+      → n64 ≡ length s64 → n32 ≡ length s32 → t64 ≡ zeros n64 → t32 ≡ zeros n32 → Ends ran a
+      → given (told s flag a) us ts ds ps t64 t32 ≡ outcome c
+  outcome_told class zs us ts ds ps t64 t32 n64 n32 (Ok r) (Ok a) e z hz h k64 k32 h64 h32 ends =
+      ap (λ (x : Applied). given (told s flag (Ok x)) us ts ds ps t64 t32) ends ∙ outcome_runs class zs us ts ds ps t64 t32 n64 n32 0 r e z hz h k64 k32 h64 h32
+  outcome_told class zs us ts ds ps t64 t32 n64 n32 (Ok r) (Err q) e z hz h k64 k32 h64 h32 ends = absurd ends
+  outcome_told class zs us ts ds ps t64 t32 n64 n32 (Err q) (Ok a) e z hz h k64 k32 h64 h32 ends = absurd ends
+  outcome_told class zs us ts ds ps t64 t32 n64 n32 (Err q) (Err w) e z hz h k64 k32 h64 h32 ends =
+      ap (λ (x : Refusal). given (told s flag (Err x)) us ts ds ps t64 t32) ends ∙ outcome_runs class zs us ts ds ps t64 t32 n64 n32 (number_of q) (start_run s flag) e z hz h k64 k32 h64 h32
 
 -- ---- what a refusal leaves
 

@@ -18,7 +18,7 @@ use Rattle.def_effects.specs.declared.AliasingDiagnostic.{AliasingDiagnostic}
 use Rattle.def_effects.specs.Places.{identifiers}
 use Rattle.def_effects.specs.Effects.{AliasingEffect, MutateFrozen}
 use Rattle.def_effects.specs.declared.Diagnostic.{Diagnostic}
-use Rattle.def_transfer.specs.Monad.{Res, ok, M, Done, and_then, ◌>>=◌, ◌>>◌, done, when◌then◌else◌, each}
+use Rattle.def_transfer.specs.Monad.{Res, ok, refused, M, Done, and_then, ◌>>=◌, ◌>>◌, done, when◌then◌else◌, each}
 use Rattle.def_transfer.specs.Tables.{World}
 use Rattle.def_transfer.specs.State as State
 use Rattle.def_transfer.specs.State.{kind_of}
@@ -40,9 +40,8 @@ use Rattle.lent_layout.specs.Layout as Layout
 use Rattle.lent_context.specs.Lent as Lent
 use Rattle.lent_context.specs.Lent.{effects_in}
 use Rattle.lent_context.proofs.Laws.Search.{effects_more, effects_none}
-use Rattle.laws_monad.specs.Answers.{answer}
-use Rattle.laws_monad.proofs.Laws.Answers.{bind_ok, bind_goes, bind_refused, then_goes, then_refused, if_true, if_false, done_ok}
-use Rattle.laws_monad.proofs.Laws.Each.{each_goes, each_refused, each_ends}
+use Rattle.laws_monad.proofs.Laws.Answers.{bind_ok, bind_fails, then_ok, then_fails, if_true, if_false, done_ok}
+use Rattle.laws_monad.proofs.Laws.Each.{each_ok, each_fails, each_done}
 use Rattle.lent_world.specs.World.{lent, world}
 use Rattle.call_parts.specs.Instructions.{instruction_of, inside_places, copied_inside_from, copied_inside, kept_entries}
 use Rattle.def_transfer.specs.Instruction.{own_of}
@@ -100,7 +99,7 @@ module _ (vs ss c os : List ℕ) (r : Run) (p : Place) where
   -- what the set of the place says
   module _ (b : Bool) (s : b ≡ is_some (set_at ss p.identifier)) where
     -- an undefined place
-    pub report_undefined : b ≡ false → Instruction.report_early p (world vs ss c os r) ≡ answer 0 tt (world vs ss c os r)
+    pub report_undefined : b ≡ false → Instruction.report_early p (world vs ss c os r) ≡ ok tt (world vs ss c os r)
     report_undefined h =
         report_tests (kind_of (value_at vs) (set_at ss p.identifier)) (Lent.name_of c p.identifier) refl refl
         ∙ if_false _ _ _ _ _ (ap (λ (x : Bool). x && is_frozen (kind_of (value_at vs) (set_at ss p.identifier)).kind) (sym s ∙ h)) (done_ok (world vs ss c os r))
@@ -108,38 +107,38 @@ module _ (vs ss c os : List ℕ) (r : Run) (p : Place) where
     -- a defined place
     module _ (h : b ≡ true) (a : AbstractValue) (g : a ≡ kind_of (value_at vs) (set_at ss p.identifier)) (y : Bool) (v : y ≡ is_frozen a.kind) where
       -- a place that is not Frozen
-      pub report_other : y ≡ false → Instruction.report_early p (world vs ss c os r) ≡ answer 0 tt (world vs ss c os r)
+      pub report_other : y ≡ false → Instruction.report_early p (world vs ss c os r) ≡ ok tt (world vs ss c os r)
       report_other q =
           report_tests a (Lent.name_of c p.identifier) g refl
           ∙ if_false _ _ _ _ _ (and_false (is_some (set_at ss p.identifier)) (is_frozen a.kind) (sym v ∙ q)) (done_ok (world vs ss c os r))
 
       -- a Frozen place is reported
-      module _ (q : y ≡ true) (name : ℕ) (m : name ≡ Lent.name_of c p.identifier) (x : Diagnostic) (k : x ≡ Step.modified p name a) (z : ℕ) (d : AliasingDiagnostic) (c₁ : List ℕ)
-          (w : Context.intern_diagnostic x (world vs ss c os r) ≡ answer z d (world vs ss c₁ os r)) where
+      module _ (q : y ≡ true) (name : ℕ) (m : name ≡ Lent.name_of c p.identifier) (x : Diagnostic) (k : x ≡ Step.modified p name a) where
         -- what the tests leave to do
         report_rest : (t : Res (World lent) Done) → (Context.intern_diagnostic (Step.modified p name a) >>= λ d. Context.emit (MutateFrozen p d)) (world vs ss c os r) ≡ t → Instruction.report_early p (world vs ss c os r) ≡ t
         report_rest t j =
             report_tests a name g m
             ∙ if_true _ _ _ _ _ (and_true (is_some (set_at ss p.identifier)) (is_frozen a.kind) (sym s ∙ h) (sym v ∙ q)) j
 
-        -- the numbers of the diagnostic of this place
-        report_numbers : Context.intern_diagnostic (Step.modified p name a) (world vs ss c os r) ≡ answer z d (world vs ss c₁ os r)
-        report_numbers = ap (λ (y : Diagnostic). Context.intern_diagnostic y (world vs ss c os r)) (sym k) ∙ w
+        -- the diagnostic of this place
+        report_numbers : (w : World lent) → Context.intern_diagnostic (Step.modified p name a) w ≡ Context.intern_diagnostic x w
+        report_numbers w = ap (λ (y : Diagnostic). Context.intern_diagnostic y w) (sym k)
 
         -- no number is left
-        pub report_refused : (z ≡ 0 → ⊥) → Instruction.report_early p (world vs ss c os r) ≡ answer z tt (world vs ss c₁ os r)
-        report_refused n = report_rest _ (bind_refused _ _ z _ _ d tt report_numbers n)
+        pub report_refused : (z : ℕ) (u : World lent) → Context.intern_diagnostic x (world vs ss c os r) ≡ refused z u → Instruction.report_early p (world vs ss c os r) ≡ refused z u
+        report_refused z u w = report_rest _ (bind_fails _ _ z _ _ (report_numbers _ ∙ w))
 
         -- a MutateFrozen is listed
-        pub report_lists : (cs : List Place) (os₁ : List ℕ) (r₁ : Run) → z ≡ 0 → Context.emit (effect_with (Head.MutateFrozen p d) cs) (world vs ss c₁ os r) ≡ ok tt (world vs ss c₁ os₁ r₁)
-            → Instruction.report_early p (world vs ss c os r) ≡ answer 0 tt (world vs ss c₁ os₁ r₁)
-        unfolding effect_with answer
-        report_lists cs os₁ r₁ n j = report_rest _ (bind_goes _ _ z _ _ d _ report_numbers n j)
+        pub report_lists : (d : AliasingDiagnostic) (c₁ : List ℕ) → Context.intern_diagnostic x (world vs ss c os r) ≡ ok d (world vs ss c₁ os r)
+            → (cs : List Place) (os₁ : List ℕ) (r₁ : Run) → Context.emit (effect_with (Head.MutateFrozen p d) cs) (world vs ss c₁ os r) ≡ ok tt (world vs ss c₁ os₁ r₁)
+            → Instruction.report_early p (world vs ss c os r) ≡ ok tt (world vs ss c₁ os₁ r₁)
+        unfolding effect_with
+        report_lists d c₁ w cs os₁ r₁ j = report_rest _ (bind_ok _ _ _ _ _ _ (report_numbers _ ∙ w) j)
 
   -- whether the place is of the own function's context
   module _ (f : ℕ) (b : Bool) (e : b ≡ Instruction.has p.identifier (identifiers (Lent.context_of c f))) where
     -- a place of the function itself
-    pub early_far : b ≡ false → Instruction.early_error f p (world vs ss c os r) ≡ answer 0 tt (world vs ss c os r)
+    pub early_far : b ≡ false → Instruction.early_error f p (world vs ss c os r) ≡ ok tt (world vs ss c os r)
     unfolding Instruction.early_error State.ask Context.function_context
     early_far h = bind_ok _ _ _ _ _ _ refl (if_false _ _ _ _ _ (sym e ∙ h) (done_ok (world vs ss c os r)))
 
@@ -263,28 +262,24 @@ module _ (act : Place → M (World lent) Done) (ws : List ℕ) where
   places_start n w e = let z : n - 0 ≡ n = omega arith in ap (λ (m : ℕ). each (places_in inside_run ws 0 1 0 m) act w) (sym e ∙ sym z)
 
   -- one place
-  module _ (n k : ℕ) (p : Place) (r : ℕ) (w u : World lent) (h : k < n) (e : p ≡ place_in inside_run ws 0 (1 + k * 5)) (s : act p w ≡ answer r tt u) where
-    -- the place that the definition takes
-    place_acts : act (place_in inside_run ws 0 (1 + k * 5)) w ≡ answer r tt u
-    place_acts = ap (λ (q : Place). act q w) (sym e) ∙ s
-
+  module _ (n k : ℕ) (p : Place) (w : World lent) (h : k < n) (e : p ≡ place_in inside_run ws 0 (1 + k * 5)) where
     -- it goes on
-    pub places_next : r ≡ 0 → each (places_in inside_run ws 0 1 k (n - k)) act w ≡ each (places_in inside_run ws 0 1 (k + 1) (n - (k + 1))) act u
-    places_next z = each_goes act _ _ _ r w u (places_more inside_run ws 0 1 k n h) place_acts z
+    pub places_next : (u : World lent) → act p w ≡ ok tt u → each (places_in inside_run ws 0 1 k (n - k)) act w ≡ each (places_in inside_run ws 0 1 (k + 1) (n - (k + 1))) act u
+    places_next u s = each_ok act _ _ _ w u (places_more inside_run ws 0 1 k n h) (ap (λ (q : Place). act q w) (sym e) ∙ s)
 
     -- it is refused
-    pub places_stop : ¬ (r ≡ 0) → each (places_in inside_run ws 0 1 k (n - k)) act w ≡ answer r tt u
-    places_stop z = each_refused act _ _ _ r w u (places_more inside_run ws 0 1 k n h) place_acts z
+    pub places_stop : (m : ℕ) (u : World lent) → act p w ≡ refused m u → each (places_in inside_run ws 0 1 k (n - k)) act w ≡ refused m u
+    places_stop m u s = each_fails act _ _ _ m w u (places_more inside_run ws 0 1 k n h) (ap (λ (q : Place). act q w) (sym e) ∙ s)
 
   -- no place is left
   -- the loop's end is the whole
-  pub places_end : (n k : ℕ) (w : World lent) → n ≤ k → each (places_in inside_run ws 0 1 k (n - k)) act w ≡ answer 0 tt w
-  places_end n k w h = each_ends act _ w (places_none inside_run ws 0 1 k n h)
+  pub places_end : (n k : ℕ) (w : World lent) → n ≤ k → each (places_in inside_run ws 0 1 k (n - k)) act w ≡ ok tt w
+  places_end n k w h = each_done act _ w (places_none inside_run ws 0 1 k n h)
 
 -- ---- the early errors of the own function
 
 -- no own function
-pub own_none : (own : ℕ) (w : World lent) → own ≡ 0 → Instruction.early_errors (own_of own) w ≡ answer 0 tt w
+pub own_none : (own : ℕ) (w : World lent) → own ≡ 0 → Instruction.early_errors (own_of own) w ≡ ok tt w
 unfolding Instruction.early_errors
 own_none zero w h = done_ok w
 own_none (suc f) w h = absurd (omega arith)
@@ -321,33 +316,33 @@ module _ (act : AliasingEffect → M (World lent) Done) (xs : List ℕ) where
   candidates_start n w = let z : n ≡ n - 0 = omega arith in ap (λ (m : ℕ). each (effects_in candidate_table xs 0 m) act w) z
 
   -- one candidate
-  module _ (n k : ℕ) (r : ℕ) (w u : World lent) (h : k < n) (s : act (effect_in candidate_table xs k) w ≡ answer r tt u) where
+  module _ (n k : ℕ) (w : World lent) (h : k < n) where
     -- it goes on
-    pub candidates_next : r ≡ 0 → each (effects_in candidate_table xs k (n - k)) act w ≡ each (effects_in candidate_table xs (k + 1) (n - (k + 1))) act u
-    candidates_next z = each_goes act _ _ _ r w u (effects_more candidate_table xs k n h) s z
+    pub candidates_next : (u : World lent) → act (effect_in candidate_table xs k) w ≡ ok tt u → each (effects_in candidate_table xs k (n - k)) act w ≡ each (effects_in candidate_table xs (k + 1) (n - (k + 1))) act u
+    candidates_next u s = each_ok act _ _ _ w u (effects_more candidate_table xs k n h) s
 
     -- it is refused
-    pub candidates_stop : ¬ (r ≡ 0) → each (effects_in candidate_table xs k (n - k)) act w ≡ answer r tt u
-    candidates_stop z = each_refused act _ _ _ r w u (effects_more candidate_table xs k n h) s z
+    pub candidates_stop : (m : ℕ) (u : World lent) → act (effect_in candidate_table xs k) w ≡ refused m u → each (effects_in candidate_table xs k (n - k)) act w ≡ refused m u
+    candidates_stop m u s = each_fails act _ _ _ m w u (effects_more candidate_table xs k n h) s
 
   -- no candidate is left
   -- the loop's end is the whole
-  pub candidates_end : (n k : ℕ) (w : World lent) → n ≤ k → each (effects_in candidate_table xs k (n - k)) act w ≡ answer 0 tt w
-  candidates_end n k w h = each_ends act _ w (effects_none candidate_table xs k n h)
+  pub candidates_end : (n k : ℕ) (w : World lent) → n ≤ k → each (effects_in candidate_table xs k (n - k)) act w ≡ ok tt w
+  candidates_end n k w h = each_done act _ w (effects_none candidate_table xs k n h)
 
 -- ---- the lvalue
 
 -- what the set of the lvalue says
 module _ (vs ss : List ℕ) (i : ℕ) (b : Bool) (e : b ≡ is_some (set_at ss i)) where
   -- a defined lvalue
-  pub lvalue_stays : b ≡ true → (cs os : List ℕ) (r : Run) → Instruction.define_lvalue i (world vs ss cs os r) ≡ answer 0 tt (world vs ss cs os r)
+  pub lvalue_stays : b ≡ true → (cs os : List ℕ) (r : Run) → Instruction.define_lvalue i (world vs ss cs os r) ≡ ok tt (world vs ss cs os r)
   unfolding Instruction.define_lvalue State.set_of
   lvalue_stays h cs os r = bind_ok _ _ _ _ _ _ refl (if_true _ _ _ _ _ (sym e ∙ h) (done_ok (world vs ss cs os r)))
 
   -- an undefined lvalue gets its own value
   pub lvalue_own : (x : ℕ) (a : AbstractValue) (us ts : List ℕ) → b ≡ false → x ≡ i → a ≡ default → us ≡ put_value vs (512 + x) a → ts ≡ own_sets ss i i
-      → (cs os : List ℕ) (r : Run) → Instruction.define_lvalue i (world vs ss cs os r) ≡ answer 0 tt (world us ts cs os r)
-  unfolding Instruction.define_lvalue State.set_of State.initialize State.define State.point own_sets answer ◌>>◌ ◌>>=◌ and_then
+      → (cs os : List ℕ) (r : Run) → Instruction.define_lvalue i (world vs ss cs os r) ≡ ok tt (world us ts cs os r)
+  unfolding Instruction.define_lvalue State.set_of State.initialize State.define State.point own_sets ◌>>◌ ◌>>=◌ and_then
   lvalue_own x a us ts h p d g t cs os r =
       if_false _ _ _ _ _ (sym e ∙ h)
       (ap₂ (λ (y z : List ℕ). ok tt (world y z cs os r)) (sym (g ∙ ap₂ (λ (n : ℕ) (v : AbstractValue). put_value vs (512 + n) v) p d)) (sym t))
@@ -360,22 +355,23 @@ own_below ss us i e = e
 -- ---- the whole run
 
 -- an instruction as it is lent, and its early errors
-module _ (xs : List ℕ) (n : ℕ) (p : Place) (own : ℕ) (w : World lent) (r : ℕ) (u : World lent) (e : Instruction.early_errors (own_of own) w ≡ answer r tt u) where
+module _ (xs : List ℕ) (n : ℕ) (p : Place) (own : ℕ) (w : World lent) where
   -- an early error is refused
-  pub run_early : ¬ (r ≡ 0) → Instruction.run (instruction_of xs n p own) w ≡ answer r tt u
+  pub run_early : (m : ℕ) (u : World lent) → Instruction.early_errors (own_of own) w ≡ refused m u → Instruction.run (instruction_of xs n p own) w ≡ refused m u
   unfolding Instruction.run instruction_of
-  run_early h = then_refused _ _ r _ _ tt tt e h
+  run_early m u e = then_fails _ _ _ _ _ e
 
   -- the early errors are done
-  module _ (h : r ≡ 0) (q : ℕ) (vs ss cs os : List ℕ) (a : Run) (g : each (effects_in candidate_table xs 0 n) (Step.apply_effect 4) u ≡ answer q tt (world vs ss cs os a)) where
+  module _ (u : World lent) (e : Instruction.early_errors (own_of own) w ≡ ok tt u) where
     -- a candidate is refused
-    pub run_stops : ¬ (q ≡ 0) → Instruction.run (instruction_of xs n p own) w ≡ answer q tt (world vs ss cs os a)
+    pub run_stops : (m : ℕ) (v : World lent) → each (effects_in candidate_table xs 0 n) (Step.apply_effect 4) u ≡ refused m v → Instruction.run (instruction_of xs n p own) w ≡ refused m v
     unfolding Instruction.run instruction_of
-    run_stops k = then_goes _ _ r _ _ tt _ e h (then_refused _ _ q _ _ tt tt g k)
+    run_stops m v g = then_ok _ _ _ _ _ _ e (then_fails _ _ _ _ _ g)
 
     -- the lvalue is defined and the entries are kept
-    pub run_ends : (us ts : List ℕ) (b : Run) → q ≡ 0 → ((cs os : List ℕ) (r : Run) → Instruction.define_lvalue p.identifier (world vs ss cs os r) ≡ answer 0 tt (world us ts cs os r)) → b ≡ kept_entries a
-        → Instruction.run (instruction_of xs n p own) w ≡ answer 0 tt (world us ts cs os b)
-    unfolding Instruction.run instruction_of State.change answer
-    run_ends us ts b k d m =
-        then_goes _ _ r _ _ tt _ e h (then_goes _ _ q _ _ tt _ g k (then_goes _ _ 0 _ _ tt _ (d cs os a) refl (ap (λ (x : Run). ok tt (world us ts cs os x)) (sym m))))
+    pub run_ends : (vs ss cs os : List ℕ) (a : Run) → each (effects_in candidate_table xs 0 n) (Step.apply_effect 4) u ≡ ok tt (world vs ss cs os a)
+        → (us ts : List ℕ) (b : Run) → ((cs os : List ℕ) (r : Run) → Instruction.define_lvalue p.identifier (world vs ss cs os r) ≡ ok tt (world us ts cs os r)) → b ≡ kept_entries a
+        → Instruction.run (instruction_of xs n p own) w ≡ ok tt (world us ts cs os b)
+    unfolding Instruction.run instruction_of State.change
+    run_ends vs ss cs os a g us ts b d m =
+        then_ok _ _ _ _ _ _ e (then_ok _ _ _ _ _ _ g (then_ok _ _ _ _ _ _ (d cs os a) (ap (λ (x : Run). ok tt (world us ts cs os x)) (sym m))))

@@ -9,6 +9,3 @@ invariant-loop-k l =
     (l.k ≤ 160)
     × (copied_inside_from l.context l.f l.k (160 - l.k) l.out ≡ copied_inside_from l.context l.f 0 160 l.initial.out)
     × (length l.out ≡ length l.initial.out)
-
-abbrev pub decreases-loop-k : goal.decreases-loop-k
-decreases-loop-k l = 160 - l.k

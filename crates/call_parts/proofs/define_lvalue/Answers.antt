@@ -9,8 +9,8 @@ returns-then-is_defined c = lvalue_stays _ _ _ _ c.is_defined.ensures c.if-is_de
 
 pub returns-then-i-lt512 : goal.returns-then-i-lt512
 returns-then-i-lt512 c =
-    lvalue_own _ _ _ _ c.is_defined.ensures _ _ _ _ c.if-is_defined.false c.wide32.ensures refl c.put_value.ensures (own_below _ _ _ c.define.ensures)
+    lvalue_own _ _ _ _ c.is_defined.ensures _ _ _ _ c.if-is_defined.false refl refl c.put_value.ensures (own_below _ _ _ c.define.ensures)
 
 pub returns : goal.returns
 returns c =
-    lvalue_own _ _ _ _ c.is_defined.ensures _ _ _ _ c.if-is_defined.false c.wide32.ensures refl c.put_value.ensures (own_past _ _ _ _ c.if-i-lt512.false c.define-2.ensures)
+    lvalue_own _ _ _ _ c.is_defined.ensures _ _ _ _ c.if-is_defined.false refl refl c.put_value.ensures (own_past _ _ _ _ c.if-i-lt512.false c.define-2.ensures)

@@ -8,6 +8,3 @@ use Rattle.call_parts.proofs.is_near.Given as goal
 
 abbrev pub invariant-loop-k : goal.invariant-loop-k
 invariant-loop-k l = has l.i (identifiers (places_in Layout.contexts l.context l.f 0 0 (l.n - 0))) ≡ has l.i (identifiers (places_in Layout.contexts l.context l.f 0 l.k (l.n - l.k)))
-
-abbrev pub decreases-loop-k : goal.decreases-loop-k
-decreases-loop-k l = l.n - l.k

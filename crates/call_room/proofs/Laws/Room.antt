@@ -13,7 +13,6 @@ use Rattle.def_effects.specs.Effects.{AliasingEffect, code_of}
 use Rattle.def_effects.specs.Keys.{effect_key}
 use Rattle.lent_tables.specs.Words.{field}
 use Rattle.lent_effects.specs.declared.AliasingEffect.{AliasingEffect as Head}
-use Rattle.lent_effects.specs.declared.AliasingEffect.TheVariants as Head
 use Rattle.lent_effects.specs.Records.{counted_places, effect_with, head_in, effect_in}
 use Rattle.lent_layout.specs.Layout as Layout
 use Rattle.lent_context.specs.Lent.{effects_in, interned_count}

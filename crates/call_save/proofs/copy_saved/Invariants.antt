@@ -10,6 +10,3 @@ invariant-loop-k l =
     × (25347 ≤ length l.scratch)
     × (length l.scratch ≡ length l.initial.scratch)
     × (copied l.context (12483 + l.initial.k) (0 + l.initial.k) (25347 - l.initial.k) l.initial.scratch ≡ copied l.context (12483 + l.k) (0 + l.k) (25347 - l.k) l.scratch)
-
-abbrev pub decreases-loop-k : goal.decreases-loop-k
-decreases-loop-k l = 25347 - l.k

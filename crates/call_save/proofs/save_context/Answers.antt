@@ -4,8 +4,8 @@ use Rattle.call_save.proofs.save_context.Goals as goal
 
 pub returns-then-context-lt-EFFECTS_FROM : goal.returns-then-context-lt-EFFECTS_FROM
 unfolding saved_context
-returns-then-context-lt-EFFECTS_FROM c = c.copy32.ensures
+returns-then-context-lt-EFFECTS_FROM c = c.copy.ensures
 
 pub returns-then-scratch-lt-SAVED_WORDS : goal.returns-then-scratch-lt-SAVED_WORDS
 unfolding saved_context
-returns-then-scratch-lt-SAVED_WORDS c = c.copy32-then-scratch-lt-SAVED_WORDS.ensures
+returns-then-scratch-lt-SAVED_WORDS c = c.copy-then-scratch-lt-SAVED_WORDS.ensures

@@ -6,4 +6,4 @@ use Rattle.call_save.proofs.save_state.Goals as goal
 
 pub returns : goal.returns
 unfolding saved_state
-returns c = c.copy64-2.ensures ∙ ap (copied _ 0 1024 _) c.copy64.ensures
+returns c = c.copy-2.ensures ∙ ap (copied _ 0 1024 _) c.copy.ensures

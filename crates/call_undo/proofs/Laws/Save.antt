@@ -8,7 +8,7 @@ use mathlib.Core.List.{List, []}
 use Rattle.std.proofs.Math.ListN.{length}
 use Rattle.std.proofs.Math.Seq.{ext_get_or}
 use Rattle.base_tests.proofs.Laws.Order.{lt_or_ge}
-use Rattle.lent_copies.specs.Copies.{copied}
+use Rattle.lent_copies.specs.Copies.{copied, copied_or}
 use Rattle.lent_copies.proofs.Laws.Copy.{copied_length}
 use Rattle.lent_context.specs.Lent.{interned_count}
 use Rattle.lent_world.proofs.Laws.LentLawful.{KeptFrom}
@@ -18,7 +18,7 @@ use Rattle.call_undo.specs.Saves.{saved_state, saved_context, forgotten, restore
 
 -- a word outside of the run that is written stays
 pub copied_outside : (c : List ℕ) (start at n : ℕ) (ws : List ℕ) (k : ℕ) → (k < at) ⊎ (at + n ≤ k) → get_or (copied c start at n ws) k 0 ≡ get_or ws k 0
-unfolding copied
+unfolding copied_or
 copied_outside c start at zero ws k o = refl
 copied_outside c start at (suc n) ws k o =
     copied_outside c (suc start) (suc at) n (set ws at (get_or c start 0)) k (⊎_elim {C = (k < suc at) ⊎ (suc at + n ≤ k)} (λ l. inl (omega arith)) (λ l. inr (omega arith)) o)
@@ -26,7 +26,7 @@ copied_outside c start at (suc n) ws k o =
 
 -- a word of the run is the one that was copied
 pub copied_inside_is : (c : List ℕ) (start at n : ℕ) (ws : List ℕ) (j : ℕ) → j < n → at + j < length ws → get_or (copied c start at n ws) (at + j) 0 ≡ get_or c (start + j) 0
-unfolding copied
+unfolding copied_or
 copied_inside_is c start at zero ws j l h = absurd (omega arith)
 copied_inside_is c start at (suc n) ws zero l h =
     let z : at + 0 ≡ at = omega arith in
@@ -55,14 +55,14 @@ copied_at c start at n ws k m a b l e =
 
 -- no effect goes
 pub forgets_none : (c : List ℕ) (from to : ℕ) → to ≤ from → c ≡ forgotten from to c
-unfolding forgotten copied
+unfolding forgotten copied_or
 forgets_none c from to l =
     let z : 0 ≡ (to - from) * 98 = omega arith in
     ap (λ (n : ℕ). copied [] 0 (37830 + from * 98) n c) z
 
 -- one more word becomes zero
 pub forgets_more : (c d : List ℕ) (at n k : ℕ) → k < n → d ≡ set c (at + k) 0 → copied [] k (at + k) (n - k) c ≡ copied [] (k + 1) (at + (k + 1)) (n - (k + 1)) d
-unfolding copied
+unfolding copied_or
 forgets_more c d at n k l e =
     let m : n - k ≡ suc (n - (k + 1)) = omega arith in
     let s : suc k ≡ k + 1 = omega arith in
@@ -74,7 +74,7 @@ forgets_more c d at n k l e =
 -- all of them are zero
 -- the loop's end is the whole
 pub forgets_end : (c d : List ℕ) (from to at n k : ℕ) → at ≡ 37830 + from * 98 → n ≡ (to - from) * 98 → n ≤ k → copied [] 0 (at + 0) (n - 0) c ≡ copied [] k (at + k) (n - k) d → d ≡ forgotten from to c
-unfolding copied forgotten
+unfolding copied_or forgotten
 forgets_end c d from to at n k a b h e =
     let m : n - k ≡ 0 = omega arith in
     let x : at + 0 ≡ 37830 + from * 98 = omega arith in
@@ -89,8 +89,8 @@ module _ (vs ss : List ℕ) (n : ℕ) (ws : List ℕ) (hv : length vs ≡ 1024) 
   pub values_restored : (us : List ℕ) → length us ≡ 1024 → copied (saved_state vs ss n ws) 0 0 1024 us ≡ vs
   unfolding saved_state
   values_restored us hu =
-      ext_get_or 0 (copied s 0 0 1024 us) vs (copied_length s 0 0 1024 us ∙ hu ∙ sym hv)
-      (λ k l. let e : length (copied s 0 0 1024 us) ≡ length us = copied_length s 0 0 1024 us in
+      ext_get_or 0 (copied s 0 0 1024 us) vs (copied_length 0 s 0 0 1024 us ∙ hu ∙ sym hv)
+      (λ k l. let e : length (copied s 0 0 1024 us) ≡ length us = copied_length 0 s 0 0 1024 us in
       copied_at s 0 0 1024 us k k (omega arith) (omega arith) (omega arith) (omega arith)
       ∙ copied_outside ss 0 1024 n (copied vs 0 0 1024 ws) k (inl (omega arith))
       ∙ copied_at vs 0 0 1024 ws k k (omega arith) (omega arith) (omega arith) (omega arith))
@@ -102,9 +102,9 @@ module _ (vs ss : List ℕ) (n : ℕ) (ws : List ℕ) (hv : length vs ≡ 1024) 
   pub sets_restored : (us : List ℕ) → length us ≡ n → copied (saved_state vs ss n ws) 1024 0 n us ≡ ss
   unfolding saved_state
   sets_restored us hu =
-      ext_get_or 0 (copied s 1024 0 n us) ss (copied_length s 1024 0 n us ∙ hu ∙ sym hs)
-      (λ k l. let e : length (copied s 1024 0 n us) ≡ length us = copied_length s 1024 0 n us in
-      let f : length (copied vs 0 0 1024 ws) ≡ length ws = copied_length vs 0 0 1024 ws in
+      ext_get_or 0 (copied s 1024 0 n us) ss (copied_length 0 s 1024 0 n us ∙ hu ∙ sym hs)
+      (λ k l. let e : length (copied s 1024 0 n us) ≡ length us = copied_length 0 s 1024 0 n us in
+      let f : length (copied vs 0 0 1024 ws) ≡ length ws = copied_length 0 vs 0 0 1024 ws in
       copied_at s 1024 0 n us k (1024 + k) (omega arith) (omega arith) (omega arith) (omega arith)
       ∙ copied_at ss 0 1024 n (copied vs 0 0 1024 ws) (1024 + k) k (omega arith) (omega arith) (omega arith) (omega arith))
     where
@@ -166,10 +166,10 @@ module _ (c₀ c ws : List ℕ) (long : 37830 ≤ length c₀) (hw : length ws �
       d = forgotten (get_or saved 0 0) (interned_count c) c
 
       short : length d ≡ length c₀
-      short = copied_length [] 0 (37830 + get_or saved 0 0 * 98) ((interned_count c - get_or saved 0 0) * 98) c ∙ kept.long
+      short = copied_length 0 [] 0 (37830 + get_or saved 0 0 * 98) ((interned_count c - get_or saved 0 0) * 98) c ∙ kept.long
 
       same : length (copied saved 0 12483 25347 d) ≡ length c₀
-      same = copied_length saved 0 12483 25347 d ∙ short
+      same = copied_length 0 saved 0 12483 25347 d ∙ short
 
       other : (k : ℕ) → k < length c₀ → (k < 12483) ⊎ (37830 ≤ k) → get_or (copied saved 0 12483 25347 d) k 0 ≡ get_or c₀ k 0
       other k l o =

@@ -8,11 +8,11 @@ pub returns-then-to-from : goal.returns-then-to-from
 returns-then-to-from c = forgets_none _ _ _ c.if-to-from.true
 
 pub loop-k-init : goal.loop-k-init
-loop-k-init c = (refl, ap (λ (x : ℕ). 37830 + x * 98) c.wide32.ensures, ap (λ (x : ℕ). x * 98) c.wide32-n.ensures, refl)
+loop-k-init c = (refl, ap (λ (x : ℕ). 37830 + x * 98) refl, ap (λ (x : ℕ). x * 98) refl, refl)
 
 pub loop-k-preserved : goal.loop-k-preserved
 loop-k-preserved c =
-    (c.set32.auto.xs ∙ c.loop-k.invariant.0, c.loop-k.invariant.1, c.loop-k.invariant.2, c.loop-k.invariant.3 ∙ forgets_more _ _ _ _ _ c.loop-k-test.true c.set32.ensures)
+    (c.set.auto.xs ∙ c.loop-k.invariant.0, c.loop-k.invariant.1, c.loop-k.invariant.2, c.loop-k.invariant.3 ∙ forgets_more _ _ _ _ _ c.loop-k-test.true c.set.ensures)
 
 pub returns : goal.returns
 returns c = forgets_end _ _ _ _ _ _ _ c.loop-k.invariant.1 c.loop-k.invariant.2 c.loop-k-test.false c.loop-k.invariant.3

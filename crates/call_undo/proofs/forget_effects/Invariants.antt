@@ -11,6 +11,3 @@ invariant-loop-k l =
     × (l.at ≡ 37830 + l.from * 98)
     × (l.n ≡ (l.to - l.from) * 98)
     × (copied [] l.initial.k (l.at + l.initial.k) (l.n - l.initial.k) l.initial.context ≡ copied [] l.k (l.at + l.k) (l.n - l.k) l.context)
-
-abbrev pub decreases-loop-k : goal.decreases-loop-k
-decreases-loop-k l = l.n - l.k

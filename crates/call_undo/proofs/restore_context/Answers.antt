@@ -4,4 +4,4 @@ use Rattle.call_undo.proofs.restore_context.Goals as goal
 
 pub returns : goal.returns
 returns c =
-    restores _ _ _ _ _ _ c.get32-before.ensures c.interned_count-after.ensures c.forget_effects.ensures c.copy32.ensures
+    restores _ _ _ _ _ _ c.get_or-before.ensures c.interned_count-after.ensures c.forget_effects.ensures c.copy.ensures

@@ -1,16 +1,15 @@
 -- Keys that test equal are equal. Assumes nothing.
-use Rattle.std.specs.Prelude.{ℕ, ◌≡◌, refl, List, [], ◌∷◌, eqb, T}
+use Rattle.std.specs.Prelude.{ℕ, ◌≡◌, refl, List, [], ◌∷◌, eqb, T, Option, None, Some}
 use Rattle.std.proofs.Common.{ap, ap₂, eqb→eq}
-use Rattle.std.proofs.Math.Option.{Option, none, some}
 use Rattle.base_tests.proofs.Laws.Bool.{both_left, both_right}
 use Rattle.def_effects.specs.Keys.{EffectKey, eq_option, eq_list, eq_key}
 
 eq_option_eq : (a b : Option ℕ) → T (eq_option a b) → a ≡ b
 unfolding eq_option
-eq_option_eq none none t = refl
-eq_option_eq none (some b) t = absurd t
-eq_option_eq (some a) none t = absurd t
-eq_option_eq (some a) (some b) t = ap some (eqb→eq a b t)
+eq_option_eq None None t = refl
+eq_option_eq None (Some b) t = absurd t
+eq_option_eq (Some a) None t = absurd t
+eq_option_eq (Some a) (Some b) t = ap Some (eqb→eq a b t)
 
 eq_list_eq : (a b : List ℕ) → T (eq_list a b) → a ≡ b
 unfolding eq_list

@@ -1,11 +1,10 @@
 -- A world of faithful tables and a plain one that mean the same; computations that do the same from such worlds. Assumes nothing.
 use Prim.Native.Nat.{ℕ, ◌≤◌, ◌<◌}
-use Rattle.std.specs.Prelude.{◌≡◌, Bool}
+use Rattle.std.specs.Prelude.{◌≡◌, Bool, Option, None, Some}
 use Rattle.std.proofs.Math.Path.{refl, ap, ap₂, subst, fun_ext}
 use Rattle.std.proofs.Common.{◌∙◌, arith}
 use Rattle.std.proofs.Math.Bool.{true, false}
 use mathlib.Core.List.{List, [], ◌∷◌}
-use Rattle.std.proofs.Math.Option.{Option, none, some}
 use Rattle.std.proofs.lemmas.Nat.{or_lt}
 use Rattle.base_orders.specs.Options.{join_option}
 use Rattle.base_tests.specs.Tests.{All}
@@ -31,9 +30,9 @@ Any a = Unit {0}
 -- the reasons of a join are a word
 join_entered : (a b : Option AbstractValue) → Entered a → Entered b → Entered (join_option join a b)
 unfolding join_option join
-join_entered none b p q = q
-join_entered (some a) none p q = p
-join_entered (some a) (some b) p q = record { word = or_lt 32 a.reason b.reason p.word q.word }
+join_entered None b p q = q
+join_entered (Some a) None p q = p
+join_entered (Some a) (Some b) p q = record { word = or_lt 32 a.reason b.reason p.word q.word }
 
 joined : (f : ℕ → Option AbstractValue) → ((v : ℕ) → Entered (f v)) → (l : List ℕ) (a : Option AbstractValue) → Entered a → Entered (join_values f l a)
 unfolding join_values
@@ -41,8 +40,8 @@ joined f h [] a p = p
 joined f h (v ∷ l) a p = joined f h l (join_option join a (f v)) (join_entered a (f v) p (h v))
 
 or_default_is : (o : Option AbstractValue) → Entered o → Reasoned (or_default o)
-or_default_is none p = record { word = omega arith }
-or_default_is (some a) p = p
+or_default_is None p = record { word = omega arith }
+or_default_is (Some a) p = p
 
 module _ {n : ℕ} {T : Tables} (F : Faithful n T) where
   -- a state and a plain one with the same entries
@@ -74,7 +73,7 @@ module _ {n : ℕ} {T : Tables} (F : Faithful n T) where
   -- no number from the next one on has a key
   -- so that a fresh number takes nobody's place
   abbrev pub Unused : Session → Pure.Context → Type 0
-  Unused s c = (v : ℕ) → s.next ≤ v → c.cached v ≡ none
+  Unused s c = (v : ℕ) → s.next ≤ v → c.cached v ≡ None
 
   -- session, context and work
   -- the context means the plain one
@@ -216,7 +215,7 @@ module _ {n : ℕ} {T : Tables} {F : Faithful n T} where
   peek_means i = record {
     runs = λ w u h. (
       ap₂ (λ (f : ℕ → Option AbstractValue) (o : Option ℕ). kind_of f o) h.state.values (ap (λ (f : ℕ → Option ℕ). f i) h.state.sets),
-      or_default_is (join_values (T.value_of w.state.values) (values_of (T.set_of w.state.sets i)) none) (joined (T.value_of w.state.values) (λ v. F.value_word w.state.values v h.state.fit_values) (values_of (T.set_of w.state.sets i)) none tt),
+      or_default_is (join_values (T.value_of w.state.values) (values_of (T.set_of w.state.sets i)) None) (joined (T.value_of w.state.values) (λ v. F.value_word w.state.values v h.state.fit_values) (values_of (T.set_of w.state.sets i)) None tt),
       h,
     );
   }
@@ -230,7 +229,7 @@ module _ {n : ℕ} {T : Tables} {F : Faithful n T} where
       record {
         state = record {
           fit_values = F.value_fit w.state.values v a h.state.fit_values p q;
-          values = fun_ext (F.value_put w.state.values v a h.state.fit_values p q) ∙ ap (λ (f : ℕ → Option AbstractValue). at f v (some a)) h.state.values;
+          values = fun_ext (F.value_put w.state.values v a h.state.fit_values p q) ∙ ap (λ (f : ℕ → Option AbstractValue). at f v (Some a)) h.state.values;
           fit_sets = h.state.fit_sets;
           sets = h.state.sets;
           flag = h.state.flag;
@@ -251,7 +250,7 @@ module _ {n : ℕ} {T : Tables} {F : Faithful n T} where
           fit_values = h.state.fit_values;
           values = h.state.values;
           fit_sets = F.set_fit w.state.sets i s h.state.fit_sets p q;
-          sets = fun_ext (F.set_put w.state.sets i s h.state.fit_sets p q) ∙ ap (λ (f : ℕ → Option ℕ). at f i (some s)) h.state.sets;
+          sets = fun_ext (F.set_put w.state.sets i s h.state.fit_sets p q) ∙ ap (λ (f : ℕ → Option ℕ). at f i (Some s)) h.state.sets;
           flag = h.state.flag;
         };
         rest = h.rest;

@@ -1,7 +1,6 @@
 -- The plain tables are faithful: each law by computing. Assumes nothing.
-use Rattle.std.specs.Prelude.{ℕ, suc, ◌≤◌, ◌≡◌, refl, Bool, true, false, List, [], ◌∷◌, ◌++◌, eqb}
+use Rattle.std.specs.Prelude.{ℕ, suc, ◌≤◌, ◌≡◌, refl, Bool, true, false, List, [], ◌∷◌, ◌++◌, eqb, Some}
 use Rattle.std.proofs.Common.{ap}
-use Rattle.std.proofs.Math.Option.{some}
 use Rattle.def_effects.specs.Effects.{AliasingEffect}
 use Rattle.def_transfer.specs.Pure.{pure, at}
 use Rattle.def_faithful.specs.Ranges.{Pointing, Entered}
@@ -19,11 +18,11 @@ unfoldable pub pure_faithful : (n : ℕ) → n ≤ 512 → Faithful n pure
 pure_faithful n l = record {
   few = l;
   FitValues = λ t. (v : ℕ) → Entered (t v);
-  value_fit = λ t v a h p q x. at_has Entered t v (some a) x q (h x);
+  value_fit = λ t v a h p q x. at_has Entered t v (Some a) x q (h x);
   value_word = λ t v h. h v;
   value_put = λ t v a h p q x. refl;
   FitSets = λ t. (i : ℕ) → Pointing (t i);
-  set_fit = λ t i s h p q x. at_has Pointing t i (some s) x q (h x);
+  set_fit = λ t i s h p q x. at_has Pointing t i (Some s) x q (h x);
   set_is = λ t i h. h i;
   set_put = λ t i s h p q x. refl;
   FitContext = λ c. Unit {0};

@@ -1,9 +1,8 @@
 -- Laws of the ranges: what is fresh, made or read of a table is in its range. Assumes nothing.
-use Rattle.std.specs.Prelude.{ℕ, zero, suc, ◌+◌, ◌*◌, ◌/◌, ◌%◌, ◌^◌, ◌≤◌, ◌<◌, ◌≡◌}
+use Rattle.std.specs.Prelude.{ℕ, zero, suc, ◌+◌, ◌*◌, ◌/◌, ◌%◌, ◌^◌, ◌≤◌, ◌<◌, ◌≡◌, Option, None, Some}
 use Rattle.std.proofs.Common.{pow-suc, arith, sym, ap, ◌∙◌, subst}
 use Rattle.std.proofs.Math.Nat.{mul-mod_left}
 use Rattle.std.proofs.Math.Pow.{pow-lt}
-use Rattle.std.proofs.Math.Option.{Option, none, some}
 use Rattle.base_sets.specs.Members.{under, digits_from, members, singleton, values_of}
 use Rattle.base_tests.specs.Tests.{All}
 use Rattle.base_sets.proofs.Laws.Member.{all_map, all_step}
@@ -59,8 +58,8 @@ unfolding members
 set_members s h = all_map {P = Between 1 1023} {Q = Number} (members s) (λ v x. let y = x.0 in let z = x.1 in record { low = y; high = omega arith }) (even_digits 1023 s h.small h.even)
 
 pub pointing_members : (o : Option ℕ) → Pointing o → All Number (values_of o)
-pointing_members none h = tt
-pointing_members (some s) h = set_members s h
+pointing_members None h = tt
+pointing_members (Some s) h = set_members s h
 
 -- the set of one value number
 pub singleton_set : (v : ℕ) → Number v → IsSet (singleton v)

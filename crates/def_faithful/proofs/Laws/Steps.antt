@@ -1,9 +1,8 @@
 -- The text does the same over faithful tables as over plain ones: one effect, the step, the parts of an instruction. Assumes nothing.
 use Prim.Native.Nat.{ℕ, zero, suc, ◌<◌}
-use Rattle.std.specs.Prelude.{Bool, List}
+use Rattle.std.specs.Prelude.{Bool, List, Option, None, Some}
 use Rattle.std.proofs.Common.{subst}
 use Rattle.std.proofs.Math.Bool.{true, false}
-use Rattle.std.proofs.Math.Option.{Option, none, some}
 use Rattle.base_tests.specs.Tests.{All}
 use Rattle.def_kinds.specs.declared.ValueKind.{ValueKind}
 use Rattle.def_kinds.specs.declared.AbstractValue.{AbstractValue}
@@ -132,8 +131,8 @@ module _ {n : ℕ} {T : Tables} {F : Faithful n T} where
 
   pub early_errors_means : (o : Option ℕ) → Means F Any (early_errors o) (early_errors o)
   unfolding early_errors
-  early_errors_means none = done_means
-  early_errors_means (some f) = bind_any (ask_means _ _ (read_inside f)) (λ places. each_any places (early_error_means f))
+  early_errors_means None = done_means
+  early_errors_means (Some f) = bind_any (ask_means _ _ (read_inside f)) (λ places. each_any places (early_error_means f))
 
   pub define_lvalue_means : (i : ℕ) → i < n → Means F Any (define_lvalue i) (define_lvalue i)
   unfolding define_lvalue

@@ -3,11 +3,10 @@ use Prim.Native.Nat.{ℕ, zero, suc, ◌+◌, ◌≤◌, ◌<◌}
 use native.Mathlib.Omega.{arith}
 use Rattle.std.proofs.Math.Path.{◌≡◌, refl, ap, ap₂, subst}
 use Rattle.std.proofs.Common.{sym, ◌∙◌, ne_eqb}
-use Rattle.std.specs.Prelude.{Bool, not, ◌||◌}
+use Rattle.std.specs.Prelude.{Bool, not, ◌||◌, Option, None, Some}
 use Rattle.std.proofs.Math.Bool.{true, false}
 use Rattle.std.proofs.lemmas.Bool.{false≢true}
 use mathlib.Core.List.{List, [], ◌∷◌}
-use Rattle.std.proofs.Math.Option.{Option, none, some}
 use lib.Dec.{eqb, leb, nleb→lt}
 use Rattle.base_sets.specs.Members.{values_of}
 use Rattle.def_kinds.specs.declared.AbstractValue.{AbstractValue}
@@ -38,12 +37,12 @@ use Rattle.def_faithful.proofs.Laws.Means.{Any, SameSession, SameRest, Related, 
 -- ---- ranges
 
 -- a number that is found cached lies where it was looked for
-found_range : (m v : ℕ) (c : ℕ → Option EffectKey) (k : EffectKey) (x : ℕ) → first_cached m v c k ≡ some x → (v ≤ x) × (x < v + m)
+found_range : (m v : ℕ) (c : ℕ → Option EffectKey) (k : EffectKey) (x : ℕ) → first_cached m v c k ≡ Some x → (v ≤ x) × (x < v + m)
 unfolding first_cached
 found_range zero v c k x h = let z : ◌≡◌ {A = ℕ} 0 1 = cc in (omega arith, omega arith)
 found_range (suc m) v c k x h = go (is_key k (c v)) (found_range m (suc v) c k x) h
   where
-    go : (b : Bool) → (first_cached m (suc v) c k ≡ some x → (suc v ≤ x) × (x < suc v + m)) → ◌≡◌ {A = Option ℕ} (elim b [ true ↦ some v | false ↦ first_cached m (suc v) c k ]) (some x) → (v ≤ x) × (x < v + suc m)
+    go : (b : Bool) → (first_cached m (suc v) c k ≡ Some x → (suc v ≤ x) × (x < suc v + m)) → ◌≡◌ {A = Option ℕ} (elim b [ true ↦ Some v | false ↦ first_cached m (suc v) c k ]) (Some x) → (v ≤ x) × (x < v + suc m)
     go true p q = let e : v ≡ x = cc in (omega arith, omega arith)
     go false p q = let y = p q in let a = y.0 in let b = y.1 in (omega arith, omega arith)
 
@@ -139,9 +138,9 @@ module _ {n : ℕ} {T : Tables} {F : Faithful n T} where
   linked_context_means v = ask_means _ _ (λ r q h. go r q h (T.link_of r.context v) (pure.link_of q.context v) (read_link v r q h))
     where
       go : (r : Rest T) (q : Rest pure) → SameRest F r q → (a b : Option ℕ) → a ≡ b
-          → ◌≡◌ {A = List Place} (elim a [ none ↦ [] | some f ↦ T.context_of r.context f ]) (elim b [ none ↦ [] | some f ↦ pure.context_of q.context f ])
-      go r q h none b e = ap (λ (o : Option ℕ). elim o as (λ x. List Place) [ none ↦ [] | some f ↦ pure.context_of q.context f ]) e
-      go r q h (some f) b e = read_places_is f r q h ∙ ap (λ (o : Option ℕ). elim o as (λ x. List Place) [ none ↦ [] | some f ↦ pure.context_of q.context f ]) e
+          → ◌≡◌ {A = List Place} (elim a [ None ↦ [] | Some f ↦ T.context_of r.context f ]) (elim b [ None ↦ [] | Some f ↦ pure.context_of q.context f ])
+      go r q h None b e = ap (λ (o : Option ℕ). elim o as (λ x. List Place) [ None ↦ [] | Some f ↦ pure.context_of q.context f ]) e
+      go r q h (Some f) b e = read_places_is f r q h ∙ ap (λ (o : Option ℕ). elim o as (λ x. List Place) [ None ↦ [] | Some f ↦ pure.context_of q.context f ]) e
 
   -- ---- what is changed of them
 
@@ -226,18 +225,18 @@ module _ {n : ℕ} {T : Tables} {F : Faithful n T} where
   -- ---- interned effects
 
   -- an effect is added where none has its key and there is room
-  put_effect_when : (e : AliasingEffect) → Short (effect_key e) → (m : ℕ) → m < 2048 → When F Any (λ r. (T.find_effect r.context (effect_key e) ≡ none) × (T.interned_count r.context ≡ m)) (put_effect e) (put_effect e)
+  put_effect_when : (e : AliasingEffect) → Short (effect_key e) → (m : ℕ) → m < 2048 → When F Any (λ r. (T.find_effect r.context (effect_key e) ≡ None) × (T.interned_count r.context ≡ m)) (put_effect e) (put_effect e)
   unfolding put_effect
   put_effect_when e s m l = when_change _ _ (λ r q h x.
       let room : T.interned_count r.context < 2048 = let y = x.1 in omega arith in
       on_context_is _ _ (F.effect_fit r.context e h.fit room s x.0) (F.effect_add r.context e h.fit room s x.0 ∙ ap (λ (c : Pure.Context). pure.add_effect c e) h.context) refl h)
 
   -- the effect that is used has the key of the one that was given
-  intern_new_when : (e : AliasingEffect) → Short (effect_key e) → (o : Option AliasingEffect) → ((x : AliasingEffect) → o ≡ some x → effect_key e ≡ effect_key x)
+  intern_new_when : (e : AliasingEffect) → Short (effect_key e) → (o : Option AliasingEffect) → ((x : AliasingEffect) → o ≡ Some x → effect_key e ≡ effect_key x)
       → When F (λ x. effect_key e ≡ effect_key x) (λ r. T.find_effect r.context (effect_key e) ≡ o) (intern_new e o) (intern_new e o)
   unfolding intern_new
-  intern_new_when e s (some x) h = always (return_means (refreshed e x) (refreshed_key e x (h x refl)))
-  intern_new_when e s none h = when_ask _ _ read_count (λ m. when_test (leb 2048 m) (refuse_means 8) (λ z. when_then (put_effect_when e s m (room 2048 m z)) (return_means e refl)))
+  intern_new_when e s (Some x) h = always (return_means (refreshed e x) (refreshed_key e x (h x refl)))
+  intern_new_when e s None h = when_ask _ _ read_count (λ m. when_test (leb 2048 m) (refuse_means 8) (λ z. when_then (put_effect_when e s m (room 2048 m z)) (return_means e refl)))
 
   pub intern_means : (e : AliasingEffect) → Short (effect_key e) → Means F (λ x. effect_key e ≡ effect_key x) (intern_effect e) (intern_effect e)
   unfolding intern_effect
@@ -245,11 +244,11 @@ module _ {n : ℕ} {T : Tables} {F : Faithful n T} where
 
   -- ---- value numbers
 
-  hand_out_when : (k : EffectKey) → Short k → (m : ℕ) → When F Fresh (λ r. (T.find_number r.context k ≡ none) × (r.session.next ≡ m)) (hand_out k m) (hand_out k m)
+  hand_out_when : (k : EffectKey) → Short k → (m : ℕ) → When F Fresh (λ r. (T.find_number r.context k ≡ None) × (r.session.next ≡ m)) (hand_out k m) (hand_out k m)
   unfolding set_next cache change return refuse when◌then◌else◌ ◌>>=◌ ◌>>◌ and_then
   hand_out_when k s m = record { runs = λ w u h x. go w u h x (leb 512 m) refl }
     where
-      go : (w : World T) (u : World pure) → Related F w u → (T.find_number w.rest.context k ≡ none) × (w.rest.session.next ≡ m) → (b : Bool) → leb 512 m ≡ b
+      go : (w : World T) (u : World pure) → Related F w u → (T.find_number w.rest.context k ≡ None) × (w.rest.session.next ≡ m) → (b : Bool) → leb 512 m ≡ b
           → Rel F Fresh (((when b then refuse 9 else (set_next (suc m) >> return m)) >>= (λ v. cache k v >> return v)) w) (((when b then refuse 9 else (set_next (suc m) >> return m)) >>= (λ v. cache k v >> return v)) u)
       go w u h x true e = (refl, h)
       go w u h x false e = (
@@ -261,7 +260,7 @@ module _ {n : ℕ} {T : Tables} {F : Faithful n T} where
             session = record { low = omega arith; next = refl; access = h.rest.session.access; span = h.rest.session.span; entries = h.rest.session.entries };
             fit = F.key_fit w.rest.context m k h.rest.fit fresh s none_there x.0;
             context = F.key_put w.rest.context m k h.rest.fit fresh s none_there x.0 ∙ ap (λ (c : Pure.Context). pure.put_key c m k) h.rest.context;
-            unused = λ v l. other_number u.rest.context.cached m (some k) v (λ q. omega arith) ∙ h.rest.unused v (omega arith);
+            unused = λ v l. other_number u.rest.context.cached m (Some k) v (λ q. omega arith) ∙ h.rest.unused v (omega arith);
             work = h.rest.work;
           };
         },
@@ -273,13 +272,13 @@ module _ {n : ℕ} {T : Tables} {F : Faithful n T} where
           same_next : u.rest.session.next ≡ m
           same_next = sym h.rest.session.next ∙ x.1
 
-          none_there : T.key_at w.rest.context m ≡ none
+          none_there : T.key_at w.rest.context m ≡ None
           none_there = F.key_is w.rest.context m h.rest.fit ∙ ap (λ (c : Pure.Context). pure.key_at c m) h.rest.context ∙ h.rest.unused m (omega arith)
 
-  or_fresh_when : (k : EffectKey) → Short k → (o : Option ℕ) → ((v : ℕ) → o ≡ some v → Fresh v) → When F Fresh (λ r. T.find_number r.context k ≡ o) (or_fresh k o) (or_fresh k o)
+  or_fresh_when : (k : EffectKey) → Short k → (o : Option ℕ) → ((v : ℕ) → o ≡ Some v → Fresh v) → When F Fresh (λ r. T.find_number r.context k ≡ o) (or_fresh k o) (or_fresh k o)
   unfolding or_fresh fresh_number ask ◌>>=◌ and_then
-  or_fresh_when k s (some v) h = always (return_means v (h v refl))
-  or_fresh_when k s none h = record {
+  or_fresh_when k s (Some v) h = always (return_means v (h v refl))
+  or_fresh_when k s None h = record {
     runs = λ w u i x. subst (λ (m : ℕ). Rel F Fresh (hand_out k w.rest.session.next w) (hand_out k m u)) i.rest.session.next ((hand_out_when k s w.rest.session.next).runs w u i (x, refl));
   }
 
@@ -290,7 +289,7 @@ module _ {n : ℕ} {T : Tables} {F : Faithful n T} where
 
   -- ---- diagnostics
 
-  put_diagnostic_when : (i : ℕ) (d : Diagnostic) (m : ℕ) → m < 256 → When F Any (λ r. (T.find_instance r.context i d ≡ none) × (T.instance_count r.context ≡ m)) (put_diagnostic i d) (put_diagnostic i d)
+  put_diagnostic_when : (i : ℕ) (d : Diagnostic) (m : ℕ) → m < 256 → When F Any (λ r. (T.find_instance r.context i d ≡ None) × (T.instance_count r.context ≡ m)) (put_diagnostic i d) (put_diagnostic i d)
   unfolding put_diagnostic
   put_diagnostic_when i d m l = when_change _ _ (λ r q h x.
       let room : T.instance_count r.context < 256 = let y = x.1 in omega arith in
@@ -298,13 +297,13 @@ module _ {n : ℕ} {T : Tables} {F : Faithful n T} where
 
   new_identity_means : (o : Option ℕ) → Means F Any (new_identity o) (new_identity o)
   unfolding new_identity
-  new_identity_means (some i) = return_means i tt
-  new_identity_means none = bind_any (ask_means _ _ read_identities) (λ m. if_means (leb 256 m) (refuse_means 10) (return_means m tt))
+  new_identity_means (Some i) = return_means i tt
+  new_identity_means None = bind_any (ask_means _ _ read_identities) (λ m. if_means (leb 256 m) (refuse_means 10) (return_means m tt))
 
   new_instance_when : (i : ℕ) (d : Diagnostic) (o : Option ℕ) → When F Any (λ r. T.find_instance r.context i d ≡ o) (new_instance i d o) (new_instance i d o)
   unfolding new_instance
-  new_instance_when i d (some m) = always (return_means m tt)
-  new_instance_when i d none = when_ask _ _ read_instances (λ m. when_test (leb 256 m) (refuse_means 10) (λ z. when_then (put_diagnostic_when i d m (room 256 m z)) (return_means m tt)))
+  new_instance_when i d (Some m) = always (return_means m tt)
+  new_instance_when i d None = when_ask _ _ read_instances (λ m. when_test (leb 256 m) (refuse_means 10) (λ z. when_then (put_diagnostic_when i d m (room 256 m z)) (return_means m tt)))
 
   pub intern_diagnostic_means : (d : Diagnostic) → Means F Any (intern_diagnostic d) (intern_diagnostic d)
   unfolding intern_diagnostic
@@ -333,13 +332,13 @@ module _ {n : ℕ} {T : Tables} {F : Faithful n T} where
 
   or_insert_means : (v : ℕ) (o : Option AbstractValue) → Number v → Means F Any (or_insert v o) (or_insert v o)
   unfolding or_insert
-  or_insert_means v none p = search base
-  or_insert_means v (some a) p = search base
+  or_insert_means v None p = search base
+  or_insert_means v (Some a) p = search base
 
   assign_set_means : (into from : ℕ) (o : Option ℕ) → into < n → from < n → Pointing o → Means F Any (assign_set into from o) (assign_set into from o)
   unfolding assign_set
-  assign_set_means into from (some s) p q a = search base
-  assign_set_means into from none p q a = let l : Number (from_identifier from) = own_number n from F.few q in search (base, or_insert_means, define_means)
+  assign_set_means into from (Some s) p q a = search base
+  assign_set_means into from None p q a = let l : Number (from_identifier from) = own_number n from F.few q in search (base, or_insert_means, define_means)
 
   pub assign_means : (into from : ℕ) → into < n → from < n → Means F Any (assign into from) (assign into from)
   unfolding assign

@@ -1,14 +1,13 @@
 -- Equal keys test equal. (That keys which test equal are equal: `def_effects` `proofs/Laws/Key.antt`.) Assumes nothing.
-use Rattle.std.specs.Prelude.{ℕ, ◌≡◌, refl, true, List, [], ◌∷◌, eqb}
+use Rattle.std.specs.Prelude.{ℕ, ◌≡◌, refl, true, List, [], ◌∷◌, eqb, Option, None, Some}
 use Rattle.std.proofs.Common.{sym, ap, ◌∙◌, eq-eqb}
-use Rattle.std.proofs.Math.Option.{Option, none, some}
 use Rattle.base_tests.proofs.Laws.Bool.{and_true}
 use Rattle.def_effects.specs.Keys.{EffectKey, eq_option, eq_list, eq_key}
 
 option_same : (a : Option ℕ) → eq_option a a ≡ true
 unfolding eq_option
-option_same none = refl
-option_same (some n) = eq-eqb n n refl
+option_same None = refl
+option_same (Some n) = eq-eqb n n refl
 
 list_same : (xs : List ℕ) → eq_list xs xs ≡ true
 unfolding eq_list

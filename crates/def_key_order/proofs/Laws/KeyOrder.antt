@@ -1,17 +1,16 @@
 -- The order of keys is one: equal only of equals, strict, transitive. Assumes nothing.
-use Rattle.std.specs.Prelude.{ℕ, ◌≡◌, refl, List}
+use Rattle.std.specs.Prelude.{ℕ, ◌≡◌, refl, List, Option, None, Some}
 use Rattle.std.proofs.Common.{arith, ap}
-use Rattle.std.proofs.Math.Option.{Option, none, some}
 use Rattle.base_search.proofs.Laws.Ascending.{Comparing}
 use Rattle.base_search.proofs.Laws.Comparings.{lists_same, lists_equal, lists_less_more, lists_more_less, lists_less_trans}
 use Rattle.def_effects.specs.Keys.{EffectKey}
 use Rattle.def_key_order.specs.KeyOrder.{optional, numbers_of, compare_keys}
 
 optional_one : (a b : Option ℕ) → optional a ≡ optional b → a ≡ b
-optional_one none none e = refl
-optional_one none (some n) e = absurd (let z : ⊥ = omega arith in z)
-optional_one (some n) none e = absurd (let z : ⊥ = omega arith in z)
-optional_one (some n) (some m) e = let z : n ≡ m = omega arith in ap {B = Option ℕ} some z
+optional_one None None e = refl
+optional_one None (Some n) e = absurd (let z : ⊥ = omega arith in z)
+optional_one (Some n) None e = absurd (let z : ⊥ = omega arith in z)
+optional_one (Some n) (Some m) e = let z : n ≡ m = omega arith in ap {B = Option ℕ} Some z
 
 -- a key from its parts
 unfoldable made : (code : ℕ) (from into : Option ℕ) (kind reason : ℕ) (function : Option ℕ) (identity : ℕ) (captures : List ℕ) → EffectKey

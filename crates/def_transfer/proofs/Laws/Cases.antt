@@ -1,6 +1,5 @@
 -- The worked cases of document 01, proved together by one computed test of the definition. Assumes nothing.
-use Rattle.std.specs.Prelude.{ℕ, ◌+◌, ◌*◌, Bool, true, false, not, ◌&&◌, List, [], ◌∷◌, eqb, T}
-use Rattle.std.proofs.Math.Option.{Option, none, some}
+use Rattle.std.specs.Prelude.{ℕ, ◌+◌, ◌*◌, Bool, true, false, not, ◌&&◌, List, [], ◌∷◌, eqb, T, Option, None, Some}
 use Rattle.base_sets.specs.Members.{singleton, union}
 use Rattle.def_kinds.specs.declared.ValueKind.{ValueKind}
 use Rattle.def_kinds.specs.declared.ValueKind.TheVariants.{Mutable, Frozen, Primitive, MaybeFrozen, Global, Context}
@@ -30,13 +29,13 @@ abbrev place_at : ℕ → ℕ → Place
 place_at i s = record { identifier = i; effect = 0; reactive = 0; span = record { start = s; end = s + 1 } }
 
 abbrev empty : State pure
-empty = record { values = λ v. none; sets = λ i. none; is_function_expression = false }
+empty = record { values = λ v. None; sets = λ i. None; is_function_expression = false }
 
 abbrev with_value : ℕ → ValueKind → ℕ → State pure → State pure
-with_value v k r s = record { values = at s.values v (some (mk k r)); sets = s.sets; is_function_expression = s.is_function_expression }
+with_value v k r s = record { values = at s.values v (Some (mk k r)); sets = s.sets; is_function_expression = s.is_function_expression }
 
 abbrev with_set : ℕ → ℕ → State pure → State pure
-with_set i l s = record { values = s.values; sets = at s.sets i (some l); is_function_expression = s.is_function_expression }
+with_set i l s = record { values = s.values; sets = at s.sets i (Some l); is_function_expression = s.is_function_expression }
 
 -- place 0 has one value, of that kind and reasons
 abbrev one : ValueKind → ℕ → State pure
@@ -55,7 +54,7 @@ rest next hoisted transitive links functions = record {
   session = record { next = next; access = 0; span = no_span; entries = 0 };
   context = record {
     interned = [];
-    cached = λ n. none;
+    cached = λ n. None;
     links = links;
     functions = functions;
     identifiers = λ i. record { ref = false; hoisted = hoisted; access = no_span; name = 0 };
@@ -66,16 +65,16 @@ rest next hoisted transitive links functions = record {
 }
 
 abbrev on : State pure → World pure
-on s = record { state = s; rest = rest 1 false false (λ v. none) (λ f. no_function) }
+on s = record { state = s; rest = rest 1 false false (λ v. None) (λ f. no_function) }
 
 abbrev hoisted : State pure → World pure
-hoisted s = record { state = s; rest = rest 1 true false (λ v. none) (λ f. no_function) }
+hoisted s = record { state = s; rest = rest 1 true false (λ v. None) (λ f. no_function) }
 
 abbrev from : ℕ → State pure → World pure
-from next s = record { state = s; rest = rest next false false (λ v. none) (λ f. no_function) }
+from next s = record { state = s; rest = rest next false false (λ v. None) (λ f. no_function) }
 
 abbrev ins : List AliasingEffect → Instruction
-ins es = record { candidates = es; lvalue = place 0; own = none }
+ins es = record { candidates = es; lvalue = place 0; own = None }
 
 -- ---- what is looked at
 
@@ -115,10 +114,10 @@ pub is : AbstractValue → ValueKind → ℕ → Bool
 is a k r = eqb (Kinds.code_of a.kind) (Kinds.code_of k) && eqb a.reason r
 
 pub has_value : World pure → ℕ → ValueKind → ℕ → Bool
-has_value w v k r = elim (w.state.values v) [ none ↦ false | some a ↦ is a k r ]
+has_value w v k r = elim (w.state.values v) [ None ↦ false | Some a ↦ is a k r ]
 
 pub has_set : World pure → ℕ → ℕ → Bool
-has_set w i l = elim (w.state.sets i) [ none ↦ false | some m ↦ eqb m l ]
+has_set w i l = elim (w.state.sets i) [ None ↦ false | Some m ↦ eqb m l ]
 
 abbrev access_of : World pure → ℕ
 access_of w = w.rest.session.access
@@ -127,14 +126,14 @@ pub same_kind : ValueKind → ValueKind → Bool
 same_kind a b = eqb (Kinds.code_of a) (Kinds.code_of b)
 
 pub is_none : Option Entries → Bool
-is_none none = true
-is_none (some s) = false
+is_none None = true
+is_none (Some s) = false
 
 -- case 18: p = {f}, f Mutable with context x = {f, g}, g Mutable without function; p is place 0, x is place 1
 abbrev loop : ℕ → ℕ → World pure
 loop f g = record {
   state = with_set 1 (union (singleton f) (singleton g)) (with_set 0 (singleton f) (with_value f Mutable 2048 (with_value g Mutable 2048 empty)));
-  rest = rest 100 false true (at (λ v. none) f (some 0)) (λ k. record { context = place 1 ∷ []; inside = []; tracked = false });
+  rest = rest 100 false true (at (λ v. None) f (Some 0)) (λ k. record { context = place 1 ∷ []; inside = []; tracked = false });
 }
 
 pub all : List Bool → Bool

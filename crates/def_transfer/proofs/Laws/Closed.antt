@@ -1,7 +1,6 @@
 -- What a set of entries asks of session and context to be closed under reach. Assumes nothing.
-use Rattle.std.specs.Prelude.{ℕ, ◌≤◌, ◌<◌, ◌≡◌}
+use Rattle.std.specs.Prelude.{ℕ, ◌≤◌, ◌<◌, ◌≡◌, Some}
 use Rattle.std.proofs.Common.{sym, subst}
-use Rattle.std.proofs.Math.Option.{some}
 use Rattle.base_tests.specs.Tests.{All}
 use Rattle.def_effects.specs.Places.{identifiers}
 use Rattle.def_effects.specs.Keys.{EffectKey}
@@ -14,8 +13,8 @@ use Rattle.def_transfer.proofs.Laws.Worlds.{Reaching}
 pub record Closed (T : Tables) (K : T.Context → Type 0) (R : Node → Type 0) (N F : ℕ → Type 0) (next : ℕ) (context : T.Context) : Type 0 where
   pub kept : K context
   pub fresh_in : (n : ℕ) → next ≤ n → n < 512 → R (val n)
-  pub cached_in : (n i : ℕ) (k : EffectKey) → T.key_at context n ≡ some k → k.into ≡ some i → N i → R (val n)
-  pub links_in : (v : ℕ) → R (val v) → (f : ℕ) → T.link_of context v ≡ some f → All (λ j. R (id j)) (identifiers (T.context_of context f))
+  pub cached_in : (n i : ℕ) (k : EffectKey) → T.key_at context n ≡ Some k → k.into ≡ Some i → N i → R (val n)
+  pub links_in : (v : ℕ) → R (val v) → (f : ℕ) → T.link_of context v ≡ Some f → All (λ j. R (id j)) (identifiers (T.context_of context f))
   pub created_in : (f : ℕ) → F f → All (λ j. R (id j)) (identifiers (T.context_of context f))
 
 -- a context that leads nowhere else keeps what R asks

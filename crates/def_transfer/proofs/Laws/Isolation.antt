@@ -1,11 +1,10 @@
 -- Demand 3, of the whole instruction and over any lawful tables: two runs from states that agree on its reach do the same, and touch
 -- nothing outside. Also: the reach in one state is the reach in the other; it lies in every set closed under the rules;
 -- and no refusal but 6 to 11 can come, so the depth of derivation never runs out. Assumes nothing.
-use Rattle.std.specs.Prelude.{ℕ, ◌≤◌, ◌<◌, ◌≡◌, ◌&&◌}
+use Rattle.std.specs.Prelude.{ℕ, ◌≤◌, ◌<◌, ◌≡◌, ◌&&◌, Option, None, Some}
 use Rattle.std.proofs.Math.Path.{refl, subst}
 use Rattle.std.proofs.Common.{sym, ap, ◌∙◌, subst₂}
 use mathlib.Core.List.{List, [], ◌∷◌, Memᴰ}
-use Rattle.std.proofs.Math.Option.{Option, none, some}
 use lib.Dec.{ltb}
 use Rattle.base_sets.specs.Members.{members, values_of}
 use Rattle.base_tests.specs.Tests.{All}
@@ -60,10 +59,10 @@ module _ {T : Tables} where
     pub on_candidate : (i : ℕ) → Named ins i → P (id i)
     pub on_lvalue : P (id ins.lvalue.identifier)
     pub on_created : (f j : ℕ) → Created ins f → Memᴰ j (identifiers (T.context_of context f)) → P (id j)
-    pub on_values : (i v l : ℕ) → P (id i) → T.set_of s.sets i ≡ some l → Memᴰ v (members l) → P (val v)
+    pub on_values : (i v l : ℕ) → P (id i) → T.set_of s.sets i ≡ Some l → Memᴰ v (members l) → P (val v)
     pub on_own : (i : ℕ) → P (id i) → P (val (from_identifier i))
-    pub on_context_is : (v f j : ℕ) → P (val v) → T.link_of context v ≡ some f → Memᴰ j (identifiers (T.context_of context f)) → P (id j)
-    pub on_cached : (n i : ℕ) (k : EffectKey) → T.key_at context n ≡ some k → k.into ≡ some i → Named ins i → P (val n)
+    pub on_context_is : (v f j : ℕ) → P (val v) → T.link_of context v ≡ Some f → Memᴰ j (identifiers (T.context_of context f)) → P (id j)
+    pub on_cached : (n i : ℕ) (k : EffectKey) → T.key_at context n ≡ Some k → k.into ≡ Some i → Named ins i → P (val n)
     pub on_fresh : (n : ℕ) → session.next ≤ n → n < 512 → P (val n)
 
   pub reach_least : (ins : Instruction) (session : Session) (context : T.Context) (s : State T) (P : Node → Type 0) → ClosedUnder ins session context s P → (n : Node) → Reach T ins session context s n → P n
@@ -90,8 +89,8 @@ module _ {T : Tables} (L : Lawful T) where
     𝓡 = reaching T L.Kept R (Named ins) (Created ins) s t
 
     inside : (i : ℕ) → R (id i) → (o : Option ℕ) → T.set_of s.sets i ≡ o → All (λ v. R (val v)) (values_of o)
-    inside i c none e = tt
-    inside i c (some l) e = all_of (members l) (λ v m. its_values c e m)
+    inside i c None e = tt
+    inside i c (Some l) e = all_of (members l) (λ v m. its_values c e m)
 
     -- the rules of the reach, one for each thing that a computation may ask
     start : Inv L 𝓡 (world s r) (world t r)
@@ -113,8 +112,8 @@ module _ {T : Tables} (L : Lawful T) where
     }
 
     own_created : (o : Option ℕ) → ins.own ≡ o → All (Created ins) (listed o)
-    own_created none e = tt
-    own_created (some f) e = (by_itself e, tt)
+    own_created None e = tt
+    own_created (Some f) e = (by_itself e, tt)
 
     runs : Rel (frame L 𝓡) Any (run ins (world s r)) (run ins (world t r))
     runs =

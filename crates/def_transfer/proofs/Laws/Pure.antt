@@ -1,9 +1,8 @@
 -- The tables of functions are lawful, so the definition over them is isolated. Assumes nothing.
-use Rattle.std.specs.Prelude.{ℕ, zero, suc, Bool, List, [], ◌∷◌, ◌⊎◌}
+use Rattle.std.specs.Prelude.{ℕ, zero, suc, Bool, List, [], ◌∷◌, ◌⊎◌, Option, None, Some}
 use Rattle.std.proofs.Math.Path.{◌≡◌, refl}
 use Rattle.std.proofs.Common.{sym, ap, ◌∙◌, subst, inl, inr}
 use Rattle.std.proofs.Math.Bool.{true, false}
-use Rattle.std.proofs.Math.Option.{Option, none, some}
 use lib.Dec.{eqb, eqb→eq}
 use Rattle.base_tests.specs.Tests.{All}
 use Rattle.def_effects.specs.declared.Place.{Place}
@@ -45,30 +44,30 @@ module _ {A : Type 0} where
       go true e = p (e tt)
       go false e = q
 
-some_eq : {A : Type 0} (a b : A) → some a ≡ some b → a ≡ b
+some_eq : {A : Type 0} (a b : A) → Some a ≡ Some b → a ≡ b
 some_eq a b e = cc
 
-pub found_key : (l : List AliasingEffect) (k : EffectKey) (e : AliasingEffect) → find_effect l k ≡ some e → k ≡ effect_key e
+pub found_key : (l : List AliasingEffect) (k : EffectKey) (e : AliasingEffect) → find_effect l k ≡ Some e → k ≡ effect_key e
 unfolding find_effect
 found_key [] k e h = cc
 found_key (x ∷ xs) k e h = go (eq_key k (effect_key x)) (eq_key_eq k (effect_key x)) (found_key xs k e) h
   where
-    go : (b : Bool) → (lib.Dec.T b → k ≡ effect_key x) → (find_effect xs k ≡ some e → k ≡ effect_key e) → ◌≡◌ {A = Option AliasingEffect} (elim b [ true ↦ some x | false ↦ find_effect xs k ]) (some e) → k ≡ effect_key e
+    go : (b : Bool) → (lib.Dec.T b → k ≡ effect_key x) → (find_effect xs k ≡ Some e → k ≡ effect_key e) → ◌≡◌ {A = Option AliasingEffect} (elim b [ true ↦ Some x | false ↦ find_effect xs k ]) (Some e) → k ≡ effect_key e
     go true p q h = p tt ∙ ap effect_key (some_eq x e h)
     go false p q h = q h
 
-pub is_key_is : (k : EffectKey) (o : Option EffectKey) → lib.Dec.T (is_key k o) → o ≡ some k
+pub is_key_is : (k : EffectKey) (o : Option EffectKey) → lib.Dec.T (is_key k o) → o ≡ Some k
 unfolding is_key
-is_key_is k none t = absurd t
-is_key_is k (some j) t = ap some (sym (eq_key_eq k j t))
+is_key_is k None t = absurd t
+is_key_is k (Some j) t = ap Some (sym (eq_key_eq k j t))
 
-pub found_number : (n v : ℕ) (c : ℕ → Option EffectKey) (k : EffectKey) (m : ℕ) → first_cached n v c k ≡ some m → c m ≡ some k
+pub found_number : (n v : ℕ) (c : ℕ → Option EffectKey) (k : EffectKey) (m : ℕ) → first_cached n v c k ≡ Some m → c m ≡ Some k
 unfolding first_cached
 found_number zero v c k m h = cc
 found_number (suc n) v c k m h = go (is_key k (c v)) (is_key_is k (c v)) (found_number n (suc v) c k m) h
   where
-    go : (b : Bool) → (lib.Dec.T b → c v ≡ some k) → (first_cached n (suc v) c k ≡ some m → c m ≡ some k) → ◌≡◌ {A = Option ℕ} (elim b [ true ↦ some v | false ↦ first_cached n (suc v) c k ]) (some m) → c m ≡ some k
-    go true p q h = subst (λ (x : ℕ). c x ≡ some k) (some_eq v m h) (p tt)
+    go : (b : Bool) → (lib.Dec.T b → c v ≡ Some k) → (first_cached n (suc v) c k ≡ Some m → c m ≡ Some k) → ◌≡◌ {A = Option ℕ} (elim b [ true ↦ Some v | false ↦ first_cached n (suc v) c k ]) (Some m) → c m ≡ Some k
+    go true p q h = subst (λ (x : ℕ). c x ≡ Some k) (some_eq v m h) (p tt)
     go false p q h = q h
 
 read_only_same : (i : ℕ) (l : List Place) → identifiers (read_only i l) ≡ identifiers l
@@ -83,22 +82,22 @@ pub pure_lawful : Lawful pure
 pure_lawful = record {
   FitValues = λ t. Unit {0};
   fit_value = λ t v a h. tt;
-  value_cong = λ t u v a x p q e. at_cong t u v (some a) x e;
-  value_other = λ t v a x h. at_other t v (some a) x h;
+  value_cong = λ t u v a x p q e. at_cong t u v (Some a) x e;
+  value_other = λ t v a x h. at_other t v (Some a) x h;
   FitSets = λ t. Unit {0};
   fit_set = λ t i s h. tt;
-  set_cong = λ t u i s j p q e. at_cong t u i (some s) j e;
-  set_other = λ t i s j h. at_other t i (some s) j h;
-  set_has = λ P t i s j a b. at_cases (λ o. All P (values_of o)) t i (some s) j (λ e. a) b;
+  set_cong = λ t u i s j p q e. at_cong t u i (Some s) j e;
+  set_other = λ t i s j h. at_other t i (Some s) j h;
+  set_has = λ P t i s j a b. at_cases (λ o. All P (values_of o)) t i (Some s) j (λ e. a) b;
   effect_found = λ c. found_key c.interned;
   number_found = λ c. found_number 511 1 c.cached;
   effect_same = λ c e. record { keys = λ n k h. h; links = λ v f h. h; contexts = λ f. refl };
   diagnostic_same = λ c n d. record { keys = λ n k h. h; links = λ v f h. h; contexts = λ f. refl };
   read_same = λ c f i. record { keys = λ n k e. e; links = λ v g e. e; contexts = read_contexts c f i };
-  key_put = λ c n m k j. at_cases (λ o. o ≡ some j → (n ≡ m) ⊎ (c.cached m ≡ some j)) c.cached n (some k) m (λ e h. inl e) (λ h. inr h);
+  key_put = λ c n m k j. at_cases (λ o. o ≡ Some j → (n ≡ m) ⊎ (c.cached m ≡ Some j)) c.cached n (Some k) m (λ e h. inl e) (λ h. inr h);
   key_links = λ c n k v f e. e;
   key_contexts = λ c n k g. refl;
-  link_put = λ c v f x g q. at_cases (λ o. o ≡ some g → (f ≡ g) ⊎ (c.links x ≡ some g)) c.links v (some f) x (λ e h. inl (some_eq f g h)) (λ h. inr h);
+  link_put = λ c v f x g q. at_cases (λ o. o ≡ Some g → (f ≡ g) ⊎ (c.links x ≡ Some g)) c.links v (Some f) x (λ e h. inl (some_eq f g h)) (λ h. inr h);
   link_keys = λ c v f n k e. e;
   link_contexts = λ c v f g. refl;
   Kept = λ c. Unit {0};

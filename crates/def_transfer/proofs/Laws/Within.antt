@@ -2,12 +2,11 @@
 use Prim.Native.Nat.{ℕ, zero, suc, ◌≤◌, ◌<◌}
 use Rattle.std.proofs.Common.{le_refl, le_trans, not-suc-le-zero, sym}
 use Rattle.std.proofs.Math.Nat.{le-suc}
-use Rattle.std.specs.Prelude.{◌≡◌, Bool, false, not}
+use Rattle.std.specs.Prelude.{◌≡◌, Bool, false, not, Option, None, Some}
 use Rattle.std.proofs.Math.Path.{refl, subst}
 use Rattle.std.proofs.Math.Bool.{true}
 use mathlib.Core.List.{List, [], ◌∷◌}
 use Rattle.std.proofs.Math.Logic.{⊎_elim}
-use Rattle.std.proofs.Math.Option.{Option, none, some}
 use lib.Dec.{leb, ltb, nleb→lt, ltb→lt}
 use Rattle.base_sets.specs.Members.{members, singleton, values_of}
 use Rattle.base_tests.specs.Tests.{All}
@@ -78,13 +77,13 @@ module _ {T : Tables} (L : Lawful T) (R : Node → Type 0) (N F : ℕ → Type 0
 
   new_identity_sim : (o : Option ℕ) → Keeps L 𝓡 Any (new_identity o)
   unfolding new_identity
-  new_identity_sim (some n) = search sims
-  new_identity_sim none = search sims
+  new_identity_sim (Some n) = search sims
+  new_identity_sim None = search sims
 
   new_instance_sim : (n : ℕ) (d : Diagnostic) (o : Option ℕ) → Keeps L 𝓡 Any (new_instance n d o)
   unfolding new_instance
-  new_instance_sim n d (some m) = search sims
-  new_instance_sim n d none = search (sims, put_diagnostic_sim)
+  new_instance_sim n d (Some m) = search sims
+  new_instance_sim n d None = search (sims, put_diagnostic_sim)
 
   intern_diagnostic_sim : (d : Diagnostic) → Keeps L 𝓡 Any (intern_diagnostic d)
   unfolding intern_diagnostic
@@ -95,15 +94,15 @@ module _ {T : Tables} (L : Lawful T) (R : Node → Type 0) (N F : ℕ → Type 0
   put_effect_sim e = change_sim _ (λ r h. closed_same T L.Kept R N F _ _ _ (L.effect_same r.context e) (L.effect_kept r.context e) h)
 
   -- the effect that is used has the key of the one that was given
-  intern_new_sim : (e : AliasingEffect) (o : Option AliasingEffect) → ((x : AliasingEffect) → o ≡ some x → effect_key e ≡ effect_key x) → Keeps L 𝓡 (λ x. effect_key e ≡ effect_key x) (intern_new e o)
+  intern_new_sim : (e : AliasingEffect) (o : Option AliasingEffect) → ((x : AliasingEffect) → o ≡ Some x → effect_key e ≡ effect_key x) → Keeps L 𝓡 (λ x. effect_key e ≡ effect_key x) (intern_new e o)
   unfolding intern_new
-  intern_new_sim e (some x) h = return_sim (refreshed e x) (refreshed_key e x (h x refl))
-  intern_new_sim e none h = search (sims, put_effect_sim)
+  intern_new_sim e (Some x) h = return_sim (refreshed e x) (refreshed_key e x (h x refl))
+  intern_new_sim e None h = search (sims, put_effect_sim)
 
   intern_sim : (e : AliasingEffect) → Keeps L 𝓡 (λ x. effect_key e ≡ effect_key x) (intern_effect e)
   unfolding intern_effect
   intern_sim e =
-      bind_sim (ask_sim {Q = λ o. (x : AliasingEffect) → o ≡ some x → effect_key e ≡ effect_key x} _ (λ r h. L.effect_found r.context (effect_key e))) (intern_new_sim e)
+      bind_sim (ask_sim {Q = λ o. (x : AliasingEffect) → o ≡ Some x → effect_key e ≡ effect_key x} _ (λ r h. L.effect_found r.context (effect_key e))) (intern_new_sim e)
 
   set_next_sim : (n : ℕ) → ((m : ℕ) → n ≤ m → m < 512 → R (val m)) → Keeps L 𝓡 Any (set_next n)
   unfolding set_next
@@ -128,17 +127,17 @@ module _ {T : Tables} (L : Lawful T) (R : Node → Type 0) (N F : ℕ → Type 0
 
   or_fresh_sim : (k : EffectKey) (o : Option ℕ) → All (λ n. R (val n)) (listed o) → Keeps L 𝓡 (λ n. R (val n)) (or_fresh k o)
   unfolding or_fresh
-  or_fresh_sim k (some n) h = search sims
-  or_fresh_sim k none h = search (sims, fresh_number_sim, cache_sim)
+  or_fresh_sim k (Some n) h = search sims
+  or_fresh_sim k None h = search (sims, fresh_number_sim, cache_sim)
 
-  number_for_sim : (k : EffectKey) (i : ℕ) → k.into ≡ some i → N i → Keeps L 𝓡 (λ n. R (val n)) (get_or_create_value_id k)
+  number_for_sim : (k : EffectKey) (i : ℕ) → k.into ≡ Some i → N i → Keeps L 𝓡 (λ n. R (val n)) (get_or_create_value_id k)
   unfolding get_or_create_value_id
   number_for_sim k i e a =
       bind_sim (ask_sim {Q = λ o. All (λ n. R (val n)) (listed o)} _ (λ r c. go (T.find_number r.context k) (λ n z. c.cached_in n i k (L.number_found r.context k n z) e a))) (or_fresh_sim k)
     where
-      go : (o : Option ℕ) → ((n : ℕ) → o ≡ some n → R (val n)) → All (λ n. R (val n)) (listed o)
-      go none h = tt
-      go (some n) h = (h n refl, tt)
+      go : (o : Option ℕ) → ((n : ℕ) → o ≡ Some n → R (val n)) → All (λ n. R (val n)) (listed o)
+      go None h = tt
+      go (Some n) h = (h n refl, tt)
 
   function_context_sim : (f : ℕ) → F f → Keeps L 𝓡 (λ l. All (λ j. R (id j)) (identifiers l)) (ask (function_context f))
   unfolding function_context
@@ -148,10 +147,10 @@ module _ {T : Tables} (L : Lawful T) (R : Node → Type 0) (N F : ℕ → Type 0
   unfolding linked_context function_context
   linked_context_sim v q = ask_sim _ (λ r c. go r (T.link_of r.context v) (c.links_in v q))
     where
-      go : (r : Rest T) (o : Option ℕ) → ((f : ℕ) → o ≡ some f → All (λ j. R (id j)) (identifiers (T.context_of r.context f)))
-          → All (λ j. R (id j)) (identifiers (elim o [ none ↦ [] | some f ↦ T.context_of r.context f ]))
-      go r none h = tt
-      go r (some f) h = h f refl
+      go : (r : Rest T) (o : Option ℕ) → ((f : ℕ) → o ≡ Some f → All (λ j. R (id j)) (identifiers (T.context_of r.context f)))
+          → All (λ j. R (id j)) (identifiers (elim o [ None ↦ [] | Some f ↦ T.context_of r.context f ]))
+      go r None h = tt
+      go r (Some f) h = h f refl
 
   link_to_sim : (v f : ℕ) → F f → Keeps L 𝓡 Any (link_to v f)
   unfolding link_to
@@ -221,13 +220,13 @@ module _ {T : Tables} (L : Lawful T) (R : Node → Type 0) (N F : ℕ → Type 0
 
   or_insert_sim : (v : ℕ) (o : Option AbstractValue) → R (val v) → Keeps L 𝓡 Any (or_insert v o)
   unfolding or_insert
-  or_insert_sim v (some a) r = search base
-  or_insert_sim v none r = search base
+  or_insert_sim v (Some a) r = search base
+  or_insert_sim v None r = search base
 
   assign_set_sim : (into from : ℕ) (o : Option ℕ) → R (id into) → R (id from) → All (λ v. R (val v)) (values_of o) → Keeps L 𝓡 Any (assign_set into from o)
   unfolding assign_set
-  assign_set_sim into from (some s) p q a = search base
-  assign_set_sim into from none p q a = search (base, or_insert_sim, define_sim, own)
+  assign_set_sim into from (Some s) p q a = search base
+  assign_set_sim into from None p q a = search (base, or_insert_sim, define_sim, own)
 
   assign_sim : (into from : ℕ) → R (id into) → R (id from) → Keeps L 𝓡 Any (assign into from)
   unfolding assign
@@ -384,8 +383,8 @@ module _ {T : Tables} (L : Lawful T) (R : Node → Type 0) (N F : ℕ → Type 0
 
   early_errors_sim : (o : Option ℕ) → All F (listed o) → Keeps L 𝓡 Any (early_errors o)
   unfolding early_errors
-  early_errors_sim none a = search base
-  early_errors_sim (some f) a = bind_any (look_sim _) (λ places. each_sim {P = Any} places (all_any places) (λ p _. early_error_sim f p a.0))
+  early_errors_sim None a = search base
+  early_errors_sim (Some f) a = bind_any (look_sim _) (λ places. each_sim {P = Any} places (all_any places) (λ p _. early_error_sim f p a.0))
 
   define_lvalue_sim : (i : ℕ) → R (id i) → Keeps L 𝓡 Any (define_lvalue i)
   unfolding define_lvalue

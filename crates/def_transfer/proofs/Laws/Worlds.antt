@@ -1,10 +1,9 @@
 -- Worlds that agree on a set R, and what touches a world: each computation that reads and writes within R does the same in both,
 -- and leaves the rest as found. Assumes nothing.
-use Rattle.std.specs.Prelude.{ℕ, ◌≡◌, ◌&&◌}
+use Rattle.std.specs.Prelude.{ℕ, ◌≡◌, ◌&&◌, Option, None}
 use Rattle.std.proofs.Math.Path.{refl, ap}
 use Rattle.std.proofs.Common.{◌∙◌, subst}
 use mathlib.Core.List.{List, [], ◌∷◌}
-use Rattle.std.proofs.Math.Option.{Option, none}
 use lib.Dec.{T, ltb}
 use Rattle.base_orders.specs.Options.{join_option}
 use Rattle.base_sets.specs.Members.{members, values_of}
@@ -21,12 +20,12 @@ use Rattle.def_transfer.specs.Lawful.{Lawful}
 use Rattle.def_transfer.proofs.Laws.Sim.{Any, Frame, Sim, plain, bind_sim, then_sim, done_sim, each_sim}
 
 abbrev pub pointed : Entry → Option ℕ
-pointed (valued a) = none
+pointed (valued a) = None
 pointed (pointing o) = o
 
 abbrev pub abstract : Entry → Option AbstractValue
 abstract (valued a) = a
-abstract (pointing o) = none
+abstract (pointing o) = None
 
 -- ---- the relation: the reach, what it asks of session and context, and the two states at the start
 
@@ -102,8 +101,8 @@ module _ {T : Tables} {L : Lawful T} {𝓡 : Reaching T} where
   unfolding peek kind_of
   peek_sim i r = record {
     runs = λ w u h. (
-      ap or_default (join_same (λ v. R (val v)) (T.value_of w.state.values) (T.value_of u.state.values) (λ v q. ap abstract (h.agree (val v) q)) (values_of (T.set_of w.state.sets i)) none (h.inside i r)
-          ∙ ap (λ (o : _). join_values (T.value_of u.state.values) (values_of o) none) (ap pointed (h.agree (id i) r))),
+      ap or_default (join_same (λ v. R (val v)) (T.value_of w.state.values) (T.value_of u.state.values) (λ v q. ap abstract (h.agree (val v) q)) (values_of (T.set_of w.state.sets i)) None (h.inside i r)
+          ∙ ap (λ (o : _). join_values (T.value_of u.state.values) (values_of o) None) (ap pointed (h.agree (id i) r))),
       tt,
       h,
     );

@@ -1,10 +1,8 @@
 -- A law for each variant: what an effect does. Assumes nothing.
 use Rattle.std.specs.Prelude.{ℕ, ◌≡◌, true, false}
-use Rattle.std.proofs.Math.Path.{sym}
+use Rattle.std.proofs.Math.Path.{refl, sym}
 use Rattle.std.proofs.Common.{ap}
-use Rattle.def_kinds.specs.declared.ValueKind.{ValueKind}
 use Rattle.def_effects.specs.declared.Place.{Place}
-use Rattle.def_effects.specs.declared.AliasingDiagnostic.{AliasingDiagnostic}
 use Rattle.def_effects.specs.declared.MutateVariant.TheVariants as Variant
 use Rattle.lent_effects.specs.declared.AliasingEffect.{AliasingEffect as Head}
 use Rattle.lent_effects.specs.declared.AliasingEffect.TheVariants as Head
@@ -12,10 +10,6 @@ use Rattle.effect_acts.specs.declared.Act.TheVariants.{Plain, Mutating, Flowing,
 use Rattle.effect_acts.specs.Acts.{act_of}
 
 module _ (e : Head) where
-  pub act_freeze : (p : Place) (r : ℕ) → e ≡ Head.Freeze p r → Plain ≡ act_of e
-  unfolding act_of
-  act_freeze p r h = sym (ap act_of h)
-
   pub act_mutate : (p : Place) (r : ℕ) → e ≡ Head.Mutate p r → Mutating Variant.Mutate p ≡ act_of e
   unfolding act_of
   act_mutate p r h = sym (ap act_of h)
@@ -48,34 +42,31 @@ module _ (e : Head) where
   unfolding act_of
   act_assign f i h = sym (ap act_of h)
 
-  pub act_create : (i : Place) (k : ValueKind) (r : ℕ) → e ≡ Head.Create i k r → Plain ≡ act_of e
-  unfolding act_of
-  act_create i k r h = sym (ap act_of h)
-
   pub act_create_from : (f i : Place) → e ≡ Head.CreateFrom f i → CreatingFrom f i ≡ act_of e
   unfolding act_of
   act_create_from f i h = sym (ap act_of h)
-
-  pub act_immutable_capture : (f i : Place) → e ≡ Head.ImmutableCapture f i → Plain ≡ act_of e
-  unfolding act_of
-  act_immutable_capture f i h = sym (ap act_of h)
 
   pub act_create_function : (f : ℕ) (i : Place) → e ≡ Head.CreateFunction f i → CreatingFunction f i ≡ act_of e
   unfolding act_of
   act_create_function f i h = sym (ap act_of h)
 
-  pub act_mutate_frozen : (p : Place) (d : AliasingDiagnostic) → e ≡ Head.MutateFrozen p d → Plain ≡ act_of e
-  unfolding act_of
-  act_mutate_frozen p d h = sym (ap act_of h)
-
-  pub act_mutate_global : (p : Place) (d : AliasingDiagnostic) → e ≡ Head.MutateGlobal p d → Plain ≡ act_of e
-  unfolding act_of
-  act_mutate_global p d h = sym (ap act_of h)
-
-  pub act_impure : (p : Place) (d : AliasingDiagnostic) → e ≡ Head.Impure p d → Plain ≡ act_of e
-  unfolding act_of
-  act_impure p d h = sym (ap act_of h)
-
-  pub act_render : (p : Place) → e ≡ Head.Render p → Plain ≡ act_of e
-  unfolding act_of
-  act_render p h = sym (ap act_of h)
+-- any other effect
+pub act_other : (e : Head) → ((p : Place) (r : ℕ) → e ≡ Head.Mutate p r → ⊥) → ((p : Place) → e ≡ Head.MutateConditionally p → ⊥) → ((p : Place) → e ≡ Head.MutateTransitive p → ⊥) → ((p : Place) → e ≡ Head.MutateTransitiveConditionally p → ⊥) → ((a b : Place) → e ≡ Head.Capture a b → ⊥) → ((a b : Place) → e ≡ Head.Alias a b → ⊥) → ((a b : Place) → e ≡ Head.MaybeAlias a b → ⊥) → ((a b : Place) → e ≡ Head.Assign a b → ⊥) → ((a b : Place) → e ≡ Head.CreateFrom a b → ⊥) → ((f : ℕ) (a : Place) → e ≡ Head.CreateFunction f a → ⊥) → Plain ≡ act_of e
+unfolding act_of
+act_other (Head.Freeze p r) n1 n2 n3 n4 n5 n6 n7 n8 n9 n10 = refl
+act_other (Head.Mutate p r) n1 n2 n3 n4 n5 n6 n7 n8 n9 n10 = absurd (n1 p r refl)
+act_other (Head.MutateConditionally p) n1 n2 n3 n4 n5 n6 n7 n8 n9 n10 = absurd (n2 p refl)
+act_other (Head.MutateTransitive p) n1 n2 n3 n4 n5 n6 n7 n8 n9 n10 = absurd (n3 p refl)
+act_other (Head.MutateTransitiveConditionally p) n1 n2 n3 n4 n5 n6 n7 n8 n9 n10 = absurd (n4 p refl)
+act_other (Head.Capture a b) n1 n2 n3 n4 n5 n6 n7 n8 n9 n10 = absurd (n5 a b refl)
+act_other (Head.Alias a b) n1 n2 n3 n4 n5 n6 n7 n8 n9 n10 = absurd (n6 a b refl)
+act_other (Head.MaybeAlias a b) n1 n2 n3 n4 n5 n6 n7 n8 n9 n10 = absurd (n7 a b refl)
+act_other (Head.Assign a b) n1 n2 n3 n4 n5 n6 n7 n8 n9 n10 = absurd (n8 a b refl)
+act_other (Head.Create a k r) n1 n2 n3 n4 n5 n6 n7 n8 n9 n10 = refl
+act_other (Head.CreateFrom a b) n1 n2 n3 n4 n5 n6 n7 n8 n9 n10 = absurd (n9 a b refl)
+act_other (Head.ImmutableCapture a b) n1 n2 n3 n4 n5 n6 n7 n8 n9 n10 = refl
+act_other (Head.CreateFunction f a) n1 n2 n3 n4 n5 n6 n7 n8 n9 n10 = absurd (n10 f a refl)
+act_other (Head.MutateFrozen p d) n1 n2 n3 n4 n5 n6 n7 n8 n9 n10 = refl
+act_other (Head.MutateGlobal p d) n1 n2 n3 n4 n5 n6 n7 n8 n9 n10 = refl
+act_other (Head.Impure p d) n1 n2 n3 n4 n5 n6 n7 n8 n9 n10 = refl
+act_other (Head.Render p) n1 n2 n3 n4 n5 n6 n7 n8 n9 n10 = refl

@@ -1,8 +1,5 @@
-use Rattle.effect_acts.proofs.Laws.Act.{act_freeze, act_mutate, act_mutate_conditionally, act_mutate_transitive, act_mutate_transitive_conditionally, act_capture, act_alias, act_maybe_alias, act_assign, act_create, act_create_from, act_immutable_capture, act_create_function, act_mutate_frozen, act_mutate_global, act_impure, act_render}
+use Rattle.effect_acts.proofs.Laws.Act.{act_mutate, act_mutate_conditionally, act_mutate_transitive, act_mutate_transitive_conditionally, act_capture, act_alias, act_maybe_alias, act_assign, act_create_from, act_create_function, act_other}
 use Rattle.effect_acts.proofs.act_of.Goals as goal
-
-pub returns-in-Freeze : goal.returns-in-Freeze
-returns-in-Freeze c = act_freeze _ _ _ c.in-Freeze.is
 
 pub returns-in-Mutate : goal.returns-in-Mutate
 returns-in-Mutate c = act_mutate _ _ _ c.in-Mutate.is
@@ -28,26 +25,11 @@ returns-in-MaybeAlias c = act_maybe_alias _ _ _ c.in-MaybeAlias.is
 pub returns-in-Assign : goal.returns-in-Assign
 returns-in-Assign c = act_assign _ _ _ c.in-Assign.is
 
-pub returns-in-Create : goal.returns-in-Create
-returns-in-Create c = act_create _ _ _ _ c.in-Create.is
-
 pub returns-in-CreateFrom : goal.returns-in-CreateFrom
 returns-in-CreateFrom c = act_create_from _ _ _ c.in-CreateFrom.is
-
-pub returns-in-ImmutableCapture : goal.returns-in-ImmutableCapture
-returns-in-ImmutableCapture c = act_immutable_capture _ _ _ c.in-ImmutableCapture.is
 
 pub returns-in-CreateFunction : goal.returns-in-CreateFunction
 returns-in-CreateFunction c = act_create_function _ _ _ c.in-CreateFunction.is
 
-pub returns-in-MutateFrozen : goal.returns-in-MutateFrozen
-returns-in-MutateFrozen c = act_mutate_frozen _ _ _ c.in-MutateFrozen.is
-
-pub returns-in-MutateGlobal : goal.returns-in-MutateGlobal
-returns-in-MutateGlobal c = act_mutate_global _ _ _ c.in-MutateGlobal.is
-
-pub returns-in-Impure : goal.returns-in-Impure
-returns-in-Impure c = act_impure _ _ _ c.in-Impure.is
-
-pub returns-in-Render : goal.returns-in-Render
-returns-in-Render c = act_render _ _ c.in-Render.is
+pub returns-in_default : goal.returns-in_default
+returns-in_default c = act_other _ c.in_default.not-Mutate c.in_default.not-MutateConditionally c.in_default.not-MutateTransitive c.in_default.not-MutateTransitiveConditionally c.in_default.not-Capture c.in_default.not-Alias c.in_default.not-MaybeAlias c.in_default.not-Assign c.in_default.not-CreateFrom c.in_default.not-CreateFunction

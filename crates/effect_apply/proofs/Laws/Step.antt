@@ -9,7 +9,7 @@ use Rattle.def_effects.specs.declared.Place.{Place}
 use Rattle.def_effects.specs.declared.MutateVariant.{MutateVariant}
 use Rattle.def_effects.specs.Effects.{AliasingEffect, Capture, CreateFrom, ImmutableCapture}
 use Rattle.def_effects.specs.Keys.{AssignFrozen}
-use Rattle.def_transfer.specs.Monad.{Res, ok, M, Done, ◌>>=◌, ◌>>◌, refuse, each}
+use Rattle.def_transfer.specs.Monad.{Res, ok, refused, M, Done, ◌>>=◌, ◌>>◌, refuse, each}
 use Rattle.def_transfer.specs.Tables.{World}
 use Rattle.def_transfer.specs.Context.{intern_effect, emit}
 use Rattle.def_transfer.specs.Step.{act, apply_effect, mutating, assigning, creating_from, creating_function}
@@ -18,16 +18,14 @@ use Rattle.lent_tables.proofs.Laws.Word.{places_more, places_none}
 use Rattle.lent_effects.specs.declared.AliasingEffect.{AliasingEffect as Head}
 use Rattle.lent_effects.specs.declared.AliasingEffect.TheVariants as Head
 use Rattle.lent_effects.specs.Records.{effect_with, captures_of, counted_places}
-use Rattle.laws_monad.specs.Answers.{answer}
-use Rattle.laws_monad.proofs.Laws.Answers.{bind_refused, bind_goes, then_goes, then_refused, if_true, if_false, done_ok}
-use Rattle.laws_monad.proofs.Laws.Each.{each_goes, each_refused, each_ends}
+use Rattle.laws_monad.proofs.Laws.Answers.{bind_ok, bind_fails, then_ok, then_fails, if_true, if_false, done_ok}
+use Rattle.laws_monad.proofs.Laws.Each.{each_ok, each_fails, each_done}
 use Rattle.lent_world.specs.World.{lent}
 use Rattle.effect_acts.specs.declared.Act.{Act}
 use Rattle.effect_acts.specs.declared.Act.TheVariants.{Plain, Mutating, Flowing, Assigning, CreatingFrom, CreatingFunction}
 use Rattle.effect_acts.specs.declared.Next.{Next}
 use Rattle.effect_acts.specs.declared.Next.TheVariants.{Nothing, Itself, Derived}
-use Rattle.effect_acts.specs.Acts.{act_of, follow, sequel}
-use Rattle.effect_acts.proofs.Laws.Sequel.{sequel_refused, sequel_goes}
+use Rattle.effect_acts.specs.Acts.{act_of, follow}
 use Rattle.effect_flow.specs.Flows.{flows}
 use Rattle.effect_create.specs.Creations as Creations
 use Rattle.effect_create.specs.Creations.{numbered, assigned}
@@ -37,8 +35,8 @@ use Rattle.lent_layout.specs.Layout.{one_run}
 -- ---- the step: interned, then acted on
 
 -- no depth is left
-pub step_none : (d : ℕ) (e : AliasingEffect) (w : World lent) → d ≡ 0 → apply_effect d e w ≡ answer 99 tt w
-unfolding apply_effect refuse answer
+pub step_none : (d : ℕ) (e : AliasingEffect) (w : World lent) → d ≡ 0 → apply_effect d e w ≡ refused 99 w
+unfolding apply_effect refuse
 step_none zero e w h = refl
 step_none (suc d) e w h = absurd (omega arith)
 
@@ -47,15 +45,15 @@ unfolding apply_effect
 opened zero e w h = absurd (h refl)
 opened (suc d) e w h = let z : suc d - 1 ≡ d = omega arith in ap (λ (n : ℕ). (intern_effect e >>= act (apply_effect n)) w) (sym z)
 
-module _ (d : ℕ) (e y : AliasingEffect) (r : ℕ) (w u : World lent) (h : ¬ (d ≡ 0)) (i : intern_effect e w ≡ answer r y u) where
+module _ (d : ℕ) (e : AliasingEffect) (w : World lent) (h : ¬ (d ≡ 0)) where
   -- interning is refused
   -- "interning before the step"
-  pub step_refused : ¬ (r ≡ 0) → apply_effect d e w ≡ answer r tt u
-  step_refused n = opened d e w h ∙ bind_refused _ _ r w u y tt i n
+  pub step_refused : (n : ℕ) (u : World lent) → intern_effect e w ≡ refused n u → apply_effect d e w ≡ refused n u
+  step_refused n u i = opened d e w h ∙ bind_fails _ _ n w u i
 
   -- what stands for the effect acts
-  pub step_acts : (x : Res (World lent) Done) → r ≡ 0 → act (apply_effect (d - 1)) y u ≡ x → apply_effect d e w ≡ x
-  step_acts x z g = opened d e w h ∙ bind_goes _ _ r w u y x i z g
+  pub step_acts : (y : AliasingEffect) (u : World lent) (x : Res (World lent) Done) → intern_effect e w ≡ ok y u → act (apply_effect (d - 1)) y u ≡ x → apply_effect d e w ≡ x
+  step_acts y u x i g = opened d e w h ∙ bind_ok _ _ w u y x i g
 
 -- ---- what an effect does, by its kind
 
@@ -101,6 +99,10 @@ same_effect (Head.MutateGlobal p d) ds cs h = refl
 same_effect (Head.Impure p d) ds cs h = refl
 same_effect (Head.Render p) ds cs h = refl
 
+-- an effect that is found to be plain is
+pub plain_is : (x : Head) (a : Act) → a ≡ act_of x → a ≡ Plain → Plain ≡ act_of x
+plain_is x a e h = sym h ∙ e
+
 module _ (again : AliasingEffect → M (World lent) Done) (x : Head) (ds cs : List Place) (a : Act) (w : World lent) (y : Res (World lent) Done) (e : a ≡ act_of x) where
   kind_of_act : (b : Act) → a ≡ b → creates b ≡ false → does again (effect_with x cs) cs b w ≡ y → act again (effect_with x ds) w ≡ y
   kind_of_act b h n g =
@@ -108,9 +110,9 @@ module _ (again : AliasingEffect → M (World lent) Done) (x : Head) (ds cs : Li
       ∙ ap (λ (z : Act). does again (effect_with x cs) cs z w) (sym e ∙ h) ∙ g
 
   -- an arm for each kind
-  pub arm_plain : a ≡ Plain → (Plain ≡ act_of x → (f : AliasingEffect → M (World lent) Done) → act f (effect_with x cs) w ≡ y) → act again (effect_with x ds) w ≡ y
+  pub arm_plain : a ≡ Plain → act again (effect_with x cs) w ≡ y → act again (effect_with x ds) w ≡ y
   unfolding does
-  arm_plain h g = kind_of_act Plain h refl (g (sym h ∙ e) again)
+  arm_plain h g = kind_of_act Plain h refl g
 
   pub arm_mutating : (v : MutateVariant) (p : Place) → a ≡ Mutating v p → mutating again v (effect_with x cs) p w ≡ y → act again (effect_with x ds) w ≡ y
   unfolding does
@@ -135,26 +137,17 @@ module _ (again : AliasingEffect → M (World lent) Done) (x : Head) (ds cs : Li
 -- ---- what comes next
 
 module _ (again : AliasingEffect → M (World lent) Done) (e : AliasingEffect) (cs : List Place) (n : Next) (w : World lent) where
-  pub follow_nothing : n ≡ Nothing → follow again e cs n w ≡ answer 0 tt w
+  pub follow_nothing : n ≡ Nothing → follow again e cs n w ≡ ok tt w
   unfolding follow
   follow_nothing h = ap (λ (m : Next). follow again e cs m w) h ∙ done_ok w
 
-  pub follow_itself : (u : World lent) → n ≡ Itself → emit e w ≡ ok tt u → follow again e cs n w ≡ answer 0 tt u
-  unfolding follow answer
+  pub follow_itself : (u : World lent) → n ≡ Itself → emit e w ≡ ok tt u → follow again e cs n w ≡ ok tt u
+  unfolding follow
   follow_itself u h g = ap (λ (m : Next). follow again e cs m w) h ∙ g
 
   pub follow_derived : (x : Head) (y : Res (World lent) Done) → n ≡ Derived x → again (effect_with x cs) w ≡ y → follow again e cs n w ≡ y
   unfolding follow
   follow_derived x y h g = ap (λ (m : Next). follow again e cs m w) h ∙ g
-
--- the first part stops, or what follows it goes on
--- the code of a first part answers with what comes next
-module _ (x : Res (World lent) Done) (r : ℕ) (w : World lent) (m : M (World lent) Done) (g : x ≡ sequel r w m) where
-  pub part_stops : ¬ (r ≡ 0) → x ≡ answer r tt w
-  part_stops h = g ∙ sequel_refused r w m h
-
-  pub part_goes : (y : Res (World lent) Done) → r ≡ 0 → m w ≡ y → x ≡ y
-  part_goes y h k = g ∙ sequel_goes r w m h ∙ k
 
 -- what a CreateFrom lists is itself
 pub created_follows : (again : AliasingEffect → M (World lent) Done) (f i : Place) (cs : List Place) (n : Next) (w : World lent) (y : Res (World lent) Done) → follow again (effect_with (Head.CreateFrom f i) cs) cs n w ≡ y → follow again (CreateFrom f i) cs n w ≡ y
@@ -168,14 +161,14 @@ module _ (again : AliasingEffect → M (World lent) Done) (f i : Place) (a : Abs
   unfolding Creations.assigning
   assign_plain y h g = if_false _ _ _ _ _ (sym e ∙ h) g
 
-  module _ (r : ℕ) (u : World lent) (h : b ≡ true) (s : again (effect_with (Head.ImmutableCapture f i) cs) w ≡ answer r tt u) where
-    pub assign_stops : ¬ (r ≡ 0) → Creations.assigning again f i a w ≡ answer r tt u
+  module _ (h : b ≡ true) where
+    pub assign_stops : (n : ℕ) (u : World lent) → again (effect_with (Head.ImmutableCapture f i) cs) w ≡ refused n u → Creations.assigning again f i a w ≡ refused n u
     unfolding Creations.assigning effect_with
-    assign_stops n = if_true _ _ _ _ _ (sym e ∙ h) (then_refused _ _ r _ _ tt tt s n)
+    assign_stops n u s = if_true _ _ _ _ _ (sym e ∙ h) (then_fails _ _ _ _ _ s)
 
-    pub assign_goes : (y : Res (World lent) Done) → r ≡ 0 → numbered AssignFrozen f i a u ≡ y → Creations.assigning again f i a w ≡ y
+    pub assign_goes : (u : World lent) (y : Res (World lent) Done) → again (effect_with (Head.ImmutableCapture f i) cs) w ≡ ok tt u → numbered AssignFrozen f i a u ≡ y → Creations.assigning again f i a w ≡ y
     unfolding Creations.assigning effect_with
-    assign_goes y z g = if_true _ _ _ _ _ (sym e ∙ h) (then_goes _ _ r _ _ tt y s z g)
+    assign_goes u y s g = if_true _ _ _ _ _ (sym e ∙ h) (then_ok _ _ _ _ _ _ s g)
 
 -- ---- each capture of a new function
 
@@ -189,19 +182,19 @@ module _ (again : AliasingEffect → M (World lent) Done) (into : Place) (ws : L
   unfolding counted_places
   captures_start n w e = let z : n - 0 ≡ n = omega arith in ap (λ (m : ℕ). each (places_in one_run ws 0 1 0 m) derives w) (sym e ∙ sym z)
 
-  module _ (n k : ℕ) (p : Place) (r : ℕ) (w u : World lent) (cs : List Place) (h : k < n) (e : p ≡ place_in one_run ws 0 (1 + k * 5)) (s : again (effect_with (Head.Capture p into) cs) w ≡ answer r tt u) where
-    derived : derives (place_in one_run ws 0 (1 + k * 5)) w ≡ answer r tt u
+  module _ (n k : ℕ) (p : Place) (w : World lent) (cs : List Place) (h : k < n) (e : p ≡ place_in one_run ws 0 (1 + k * 5)) where
+    derived : (x : Res (World lent) Done) → again (effect_with (Head.Capture p into) cs) w ≡ x → derives (place_in one_run ws 0 (1 + k * 5)) w ≡ x
     unfolding effect_with
-    derived = ap (λ (q : Place). derives q w) (sym e) ∙ s
+    derived x s = ap (λ (q : Place). derives q w) (sym e) ∙ s
 
-    pub captures_next : r ≡ 0 → each (places_in one_run ws 0 1 k (n - k)) derives w ≡ each (places_in one_run ws 0 1 (k + 1) (n - (k + 1))) derives u
-    captures_next z = each_goes derives _ _ _ r w u (places_more one_run ws 0 1 k n h) derived z
+    pub captures_next : (u : World lent) → again (effect_with (Head.Capture p into) cs) w ≡ ok tt u → each (places_in one_run ws 0 1 k (n - k)) derives w ≡ each (places_in one_run ws 0 1 (k + 1) (n - (k + 1))) derives u
+    captures_next u s = each_ok derives _ _ _ w u (places_more one_run ws 0 1 k n h) (derived _ s)
 
-    pub captures_stop : ¬ (r ≡ 0) → each (places_in one_run ws 0 1 k (n - k)) derives w ≡ answer r tt u
-    captures_stop z = each_refused derives _ _ _ r w u (places_more one_run ws 0 1 k n h) derived z
+    pub captures_stop : (m : ℕ) (u : World lent) → again (effect_with (Head.Capture p into) cs) w ≡ refused m u → each (places_in one_run ws 0 1 k (n - k)) derives w ≡ refused m u
+    captures_stop m u s = each_fails derives _ _ _ m w u (places_more one_run ws 0 1 k n h) (derived _ s)
 
-  pub captures_end : (n k : ℕ) (w : World lent) → n ≤ k → each (places_in one_run ws 0 1 k (n - k)) derives w ≡ answer 0 tt w
-  captures_end n k w h = each_ends derives _ w (places_none one_run ws 0 1 k n h)
+  pub captures_end : (n k : ℕ) (w : World lent) → n ≤ k → each (places_in one_run ws 0 1 k (n - k)) derives w ≡ ok tt w
+  captures_end n k w h = each_done derives _ w (places_none one_run ws 0 1 k n h)
 
 -- the captures that were chosen
 pub chosen_copied : (again : AliasingEffect → M (World lent) Done) (ws : List ℕ) (cs : List Place) (f : ℕ) (i : Place) (w : World lent) (y : Res (World lent) Done) → captures_of ws ≡ cs → creating_function again (captures_of ws) f i w ≡ y → creating_function again cs f i w ≡ y

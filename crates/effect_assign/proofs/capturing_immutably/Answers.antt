@@ -7,4 +7,4 @@ returns-then-is_copied c = λ again cs. capturing_copied _ _ cs _ _ _ _ _ _ agai
 
 pub returns : goal.returns
 returns c =
-    λ again cs. capturing_listed _ _ cs _ _ _ _ _ _ again _ (c.kind-seen.ensures _ _) c.is_copied.ensures _ _ _ c.if-is_copied.false (c.emit-listed.ensures _ _ _)
+    λ again cs. capturing_listed _ _ cs _ _ _ _ _ _ again _ (c.kind-seen.ensures _ _) c.is_copied.ensures _ _ _ c.if-is_copied.false (c.emit.ensures _ _ _)

@@ -1,5 +1,5 @@
 -- Laws by which the code of new functions meets the definition. Assumes nothing.
-use Rattle.std.specs.Prelude.{ℕ, ◌+◌, ◌*◌, ◌≤◌, ◌<◌, ◌≡◌, Bool, true, false, ◌⊎◌, ltb, length, get_or, set}
+use Rattle.std.specs.Prelude.{ℕ, ◌+◌, ◌*◌, ◌≤◌, ◌<◌, ◌≡◌, Bool, true, false, ◌⊎◌, ltb, length, get_or, set, Option, None, Some}
 use Rattle.std.proofs.Common.{arith, ◌∙◌, inl, inr, ⊎_elim, length-set, get_or-set_same, get_or-set_other, ltb-true, ltb-false}
 use Rattle.std.proofs.Math.Path.{refl, sym, ap}
 use mathlib.Core.List.{List}
@@ -22,44 +22,39 @@ use Rattle.lent_effects.specs.declared.AliasingEffect.TheVariants as Head
 use Rattle.lent_effects.specs.Records.{effect_with, captures_of, counted_places, copied_captures}
 use Rattle.lent_effects.proofs.Laws.Capture.{captures_copied}
 use Rattle.lent_keys.specs.declared.Key.{Key}
-use Rattle.lent_keys.specs.declared.Found.{Found}
-use Rattle.lent_keys.specs.declared.Found.TheVariants.{Nowhere, At}
 use Rattle.lent_keys.specs.KeyRecords.{key_with}
 use Rattle.lent_layout.specs.Layout as Layout
 use Rattle.lent_context.specs.Lent as Lent
 use Rattle.lent_work.specs.declared.Run.{Run}
-use Rattle.laws_monad.specs.Answers.{answer}
-use Rattle.laws_monad.proofs.Laws.Answers.{bind_ok, bind_goes, bind_refused, then_ok, then_goes, then_refused}
+use Rattle.laws_monad.proofs.Laws.Answers.{bind_ok, bind_fails, then_ok, then_fails}
 use Rattle.lent_world.specs.World.{lent, world}
 use Rattle.effect_intern.specs.Interning.{chosen}
-use Rattle.effect_acts.specs.Acts.{sequel}
-use Rattle.effect_acts.proofs.Laws.Sequel.{sequel_refused}
 use Rattle.effect_captures.specs.NewFunctions.{function_kind, linked}
 use Rattle.lent_layout.specs.Layout.{one_run}
 
 -- ---- a new function
 
 -- its number, its link and its place
-module _ (vs ss cs os : List ℕ) (r : Run) (f : ℕ) (into : Place) (k : ValueKind) (key : Key) (ws : List ℕ) (y v : ℕ) (ds : List ℕ) (t : Run)
-    (z : (ps : List Place) → key_with key (identifiers ps) ≡ effect_key (effect_with (Head.CreateFunction f into) ps))
-    (n : get_or_create_value_id (key_with key (identifiers (captures_of ws))) (world vs ss cs os r) ≡ answer y v (world vs ss ds os t)) where
+module _ (vs ss cs os : List ℕ) (r : Run) (f : ℕ) (into : Place) (k : ValueKind) (key : Key) (ws : List ℕ)
+    (z : (ps : List Place) → key_with key (identifiers ps) ≡ effect_key (effect_with (Head.CreateFunction f into) ps)) where
   -- its number is that under the effect's key
-  function_number : get_or_create_value_id (effect_key (CreateFunction (captures_of ws) f into)) (world vs ss cs os r) ≡ answer y v (world vs ss ds os t)
+  function_number : (w : World lent) → get_or_create_value_id (effect_key (CreateFunction (captures_of ws) f into)) w ≡ get_or_create_value_id (key_with key (identifiers (captures_of ws))) w
   unfolding effect_with
-  function_number = ap (λ (i : EffectKey). get_or_create_value_id i (world vs ss cs os r)) (sym (z (captures_of ws))) ∙ n
+  function_number w = ap (λ (i : EffectKey). get_or_create_value_id i w) (sym (z (captures_of ws)))
 
   -- no number is left
   -- "9 a fresh number is needed at next 512"
-  pub linked_full : ¬ (y ≡ 0) → linked (captures_of ws) f into k (world vs ss cs os r) ≡ answer y tt (world vs ss ds os t)
+  pub linked_full : (n : ℕ) (w : World lent) → get_or_create_value_id (key_with key (identifiers (captures_of ws))) (world vs ss cs os r) ≡ refused n w → linked (captures_of ws) f into k (world vs ss cs os r) ≡ refused n w
   unfolding linked
-  linked_full g = bind_refused _ _ _ _ _ _ _ function_number g
+  linked_full n w g = bind_fails _ _ _ _ _ (function_number _ ∙ g)
 
   -- the number is linked to the function
-  pub linked_done : (es us ts : List ℕ) → y ≡ 0 → es ≡ Lent.put_link ds v f → create into v (mk k 0) (world vs ss es os t) ≡ ok tt (world us ts es os t)
-      → linked (captures_of ws) f into k (world vs ss cs os r) ≡ answer 0 tt (world us ts es os t)
-  unfolding linked link_to change answer
-  linked_done es us ts g l c =
-      bind_goes _ _ _ _ _ _ _ function_number g (then_ok _ _ _ _ _ _ (ap (λ (i : List ℕ). ok tt (world vs ss i os t)) (sym l)) c)
+  pub linked_done : (v : ℕ) (ds es us ts : List ℕ) (t : Run) → get_or_create_value_id (key_with key (identifiers (captures_of ws))) (world vs ss cs os r) ≡ ok v (world vs ss ds os t)
+      → es ≡ Lent.put_link ds v f → create into v (mk k 0) (world vs ss es os t) ≡ ok tt (world us ts es os t)
+      → linked (captures_of ws) f into k (world vs ss cs os r) ≡ ok tt (world us ts es os t)
+  unfolding linked link_to change
+  linked_done v ds es us ts t g l c =
+      bind_ok _ _ _ _ _ _ (function_number _ ∙ g) (then_ok _ _ _ _ _ _ (ap (λ (i : List ℕ). ok tt (world vs ss i os t)) (sym l)) c)
 
 -- what comes after a link comes after the whole half
 links_then : (ps : List Place) (f : ℕ) (into : Place) (k : ValueKind) (m : M (World lent) Done) (w : World lent)
@@ -73,31 +68,29 @@ links_then ps f into k m w = by (get_or_create_value_id (effect_key (CreateFunct
     by (refused i u) = refl
 
 -- a CreateFunction, before its captures are derived
-module _ (vs ss cs os : List ℕ) (r u : Run) (ps : List Place) (f : ℕ) (into : Place) (x : ℕ) (again : AliasingEffect → M (World lent) Done)
-    (e : begin into.identifier (world vs ss cs os r) ≡ answer x tt (world vs ss cs os u)) where
+module _ (vs ss cs os : List ℕ) (r : Run) (ps : List Place) (f : ℕ) (into : Place) (again : AliasingEffect → M (World lent) Done) where
   -- the place already began
-  pub function_refused : ¬ (x ≡ 0) → Step.creating_function again ps f into (world vs ss cs os r) ≡ sequel x (world vs ss cs os u) (each ps (λ c. again (Capture c into)))
+  pub function_refused : (n : ℕ) (w : World lent) → begin into.identifier (world vs ss cs os r) ≡ refused n w → Step.creating_function again ps f into (world vs ss cs os r) ≡ refused n w
   unfolding Step.creating_function
-  function_refused h = then_refused _ _ _ _ _ _ _ e h ∙ sym (sequel_refused x _ _ h)
+  function_refused n w e = then_fails _ _ _ _ _ e
 
   -- listed, its captures and context asked, its context places updated, its number linked
   -- what the kind goes by is asked before the context places change
-  pub function_made : (is ds : List ℕ) (l : Run) (b t q : Bool) (k : ValueKind) (y : ℕ) (w : World lent) → x ≡ 0
+  pub function_made : (u : Run) → begin into.identifier (world vs ss cs os r) ≡ ok tt (world vs ss cs os u) → (is ds : List ℕ) (l : Run) (b t q : Bool) (k : ValueKind)
       → emit (effect_with (Head.CreateFunction f into) ps) (world vs ss cs os u) ≡ ok tt (world vs ss cs is l)
       → any_written ps (world vs ss cs is l) ≡ ok b (world vs ss cs is l)
       → t ≡ Lent.has_tracked_side_effect cs f
       → ((us ts ws : List ℕ) (d : Run) → any_ref (Lent.context_of cs f) (world us ts cs ws d).rest ≡ q)
       → k ≡ function_kind b t q
       → each (Lent.context_of cs f) (update_context f) (world vs ss cs is l) ≡ ok tt (world vs ss ds is l)
-      → linked ps f into k (world vs ss ds is l) ≡ answer y tt w
-      → Step.creating_function again ps f into (world vs ss cs os r) ≡ sequel y w (each ps (λ c. again (Capture c into)))
+      → Step.creating_function again ps f into (world vs ss cs os r) ≡ and_then {A = Done} {B = Done} (linked ps f into k (world vs ss ds is l)) (λ _. each ps (λ c. again (Capture c into)))
   unfolding Step.creating_function effect_with ask function_context
-  function_made is ds l b t q k y w h g n i j o p m =
-      then_goes _ _ _ _ _ _ _ e h (then_ok _ _ _ _ _ _ g (bind_ok _ _ _ _ _ _ n (bind_ok _ _ _ _ _ _ refl
+  function_made u e is ds l b t q k g n i j o p =
+      then_ok _ _ _ _ _ _ e (then_ok _ _ _ _ _ _ g (bind_ok _ _ _ _ _ _ n (bind_ok _ _ _ _ _ _ refl
       (bind_ok _ _ _ _ _ _ (ap (λ (z : Bool). ok z (world vs ss cs is l)) (sym i)) (bind_ok _ _ _ _ _ _ (ap (λ (z : Bool). ok z (world vs ss cs is l)) (j vs ss is l))
       (then_ok _ _ _ _ _ _ p
       (links_then ps f into (function_kind b t q) (each ps (λ c. again (Capture c into))) (world vs ss ds is l)
-      ∙ ap (λ (z : Res (World lent) Done). and_then {A = Done} {B = Done} z (λ _. each ps (λ c. again (Capture c into)))) (ap (λ (z : ValueKind). linked ps f into z (world vs ss ds is l)) (sym o) ∙ m))))))))
+      ∙ ap (λ (z : ValueKind). and_then {A = Done} {B = Done} (linked ps f into z (world vs ss ds is l)) (λ _. each ps (λ c. again (Capture c into)))) (sym o))))))))
 
 -- ---- the captures of the effect that stands for another
 
@@ -152,10 +145,10 @@ copied_run ws us k a l b = ap (places_in one_run us 0 1 0) (at 0) ∙ places_con
 
 -- the effect was interned before
 -- its captures are the record's
-pub chosen_found : (c ws us : List ℕ) (ps : List Place) (f : Found) (j i : ℕ) → f ≡ At j → i ≡ j → us ≡ copied_captures Layout.interned c i ws → length ws ≡ 81 → captures_of us ≡ chosen c f ps
+pub chosen_found : (c ws us : List ℕ) (ps : List Place) (f : Option ℕ) (j i : ℕ) → f ≡ Some j → i ≡ j → us ≡ copied_captures Layout.interned c i ws → length ws ≡ 81 → captures_of us ≡ chosen c f ps
 chosen_found c ws us ps f j i h e g b =
-    ap captures_of g ∙ captures_copied Layout.interned c i ws refl b ∙ ap (λ (n : ℕ). counted_places Layout.interned c n 17) e ∙ sym (ap (λ (o : Found). chosen c o ps) h)
+    ap captures_of g ∙ captures_copied Layout.interned c i ws refl b ∙ ap (λ (n : ℕ). counted_places Layout.interned c n 17) e ∙ sym (ap (λ (o : Option ℕ). chosen c o ps) h)
 
 -- a new key
-pub chosen_given : (c us : List ℕ) (ps : List Place) (f : Found) → f ≡ Nowhere → captures_of us ≡ ps → captures_of us ≡ chosen c f ps
-chosen_given c us ps f h e = e ∙ sym (ap (λ (o : Found). chosen c o ps) h)
+pub chosen_given : (c us : List ℕ) (ps : List Place) (f : Option ℕ) → f ≡ None → captures_of us ≡ ps → captures_of us ≡ chosen c f ps
+chosen_given c us ps f h e = e ∙ sym (ap (λ (o : Option ℕ). chosen c o ps) h)

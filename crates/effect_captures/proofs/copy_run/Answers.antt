@@ -7,15 +7,9 @@ use Rattle.effect_captures.proofs.copy_run.Goals as goal
 pub loop-k-init : goal.loop-k-init
 loop-k-init c = (omega arith, copied_start _ _, refl)
 
-pub overflow_add-k : goal.overflow_add-k
-overflow_add-k c = omega arith
-
-pub loop-k-smaller : goal.loop-k-smaller
-loop-k-smaller c = omega arith
-
 pub loop-k-preserved : goal.loop-k-preserved
 loop-k-preserved c =
-    (omega arith, copied_turn _ _ _ _ _ c.loop-k.invariant.1 c.field.ensures c.set32.ensures, copied_kept c.loop-k.out _ c.loop-k.k c.field.result c.set32.ensures ∙ c.loop-k.invariant.2)
+    (omega arith, copied_turn _ _ _ _ _ c.loop-k.invariant.1 c.field.ensures c.set.ensures, copied_kept c.loop-k.out _ c.loop-k.k c.field.result c.set.ensures ∙ c.loop-k.invariant.2)
 
 pub returns : goal.returns
 returns c = λ b. copied_run _ _ _ c.loop-k.invariant.1 c.loop-k-test.false (c.loop-k.invariant.2 ∙ b)

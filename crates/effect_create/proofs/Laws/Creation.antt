@@ -12,7 +12,7 @@ use Rattle.def_effects.specs.declared.Place.{Place}
 use Rattle.def_effects.specs.Places.{identifiers}
 use Rattle.def_effects.specs.Effects.{AliasingEffect, Create, CreateFrom}
 use Rattle.def_effects.specs.Keys.{EffectKey, effect_key, two}
-use Rattle.def_transfer.specs.Monad.{Res, ok, M, Done, and_then, return, done}
+use Rattle.def_transfer.specs.Monad.{Res, ok, refused, M, Done, return, done}
 use Rattle.def_transfer.specs.Tables.{World}
 use Rattle.def_transfer.specs.State as State
 use Rattle.def_transfer.specs.Context.{get_or_create_value_id, emit, begin}
@@ -25,12 +25,10 @@ use Rattle.lent_keys.specs.KeyRecords.{key_with}
 use Rattle.lent_work.specs.declared.Run.{Run}
 use Rattle.state_ops.specs.Lists.{assigned_values, assigned_sets}
 use Rattle.state_ops.proofs.Laws.Text.{assign_lists}
-use Rattle.laws_monad.specs.Answers.{answer}
-use Rattle.laws_monad.proofs.Laws.Answers.{bind_ok, bind_goes, bind_refused, then_ok, then_goes, then_refused, if_true, if_false, done_ok}
+use Rattle.laws_monad.proofs.Laws.Answers.{bind_ok, bind_fails, then_ok, then_fails, if_true, if_false, done_ok}
 use Rattle.lent_world.specs.World.{lent, world}
 use Rattle.effect_acts.specs.declared.Next.TheVariants as Next
-use Rattle.effect_acts.specs.Acts.{follow, sequel}
-use Rattle.effect_acts.proofs.Laws.Sequel.{sequel_refused, sequel_goes}
+use Rattle.effect_acts.specs.Acts.{follow}
 use Rattle.effect_create.specs.Creations.{numbered, assigned, assigning}
 
 -- ---- the first reason of a set
@@ -82,34 +80,34 @@ primary_none s n a l =
 
 -- ---- a Create
 
-module _ (vs ss cs os : List ℕ) (r u : Run) (p : Place) (k : ValueKind) (q x : ℕ) (again : AliasingEffect → M (World lent) Done)
-    (e : begin p.identifier (world vs ss cs os r) ≡ answer x tt (world vs ss cs os u)) where
+module _ (vs ss cs os : List ℕ) (r : Run) (p : Place) (k : ValueKind) (q : ℕ) (again : AliasingEffect → M (World lent) Done) where
   -- the place already began
   -- "6 .. into a place already initialized"
-  pub creating_refused : ¬ (x ≡ 0) → Step.creating again p k q (world vs ss cs os r) ≡ answer x tt (world vs ss cs os u)
+  pub creating_refused : (n : ℕ) (w : World lent) → begin p.identifier (world vs ss cs os r) ≡ refused n w → Step.creating again p k q (world vs ss cs os r) ≡ refused n w
   unfolding Step.creating
-  creating_refused h = then_refused _ _ _ _ _ _ _ e h
+  creating_refused n w e = then_fails _ _ _ _ _ e
 
-  module _ (h : x ≡ 0) (key : Key) (ws : List ℕ) (y v : ℕ) (ds : List ℕ) (t : Run) (z : (ps : List Place) → key_with key (identifiers ps) ≡ effect_key (effect_with (Head.Create p k q) ps))
-      (n : get_or_create_value_id (key_with key (identifiers (captures_of ws))) (world vs ss cs os u) ≡ answer y v (world vs ss ds os t)) where
+  module _ (u : Run) (e : begin p.identifier (world vs ss cs os r) ≡ ok tt (world vs ss cs os u)) (key : Key) (ws : List ℕ)
+      (z : (ps : List Place) → key_with key (identifiers ps) ≡ effect_key (effect_with (Head.Create p k q) ps)) where
     -- its number is that under the effect's key
-    create_number : get_or_create_value_id (effect_key (Create p k q)) (world vs ss cs os u) ≡ answer y v (world vs ss ds os t)
+    create_number : (w : World lent) → get_or_create_value_id (effect_key (Create p k q)) w ≡ get_or_create_value_id (key_with key (identifiers (captures_of ws))) w
     unfolding effect_with
-    create_number = ap (λ (i : EffectKey). get_or_create_value_id i (world vs ss cs os u)) (sym (z (captures_of ws))) ∙ n
+    create_number w = ap (λ (i : EffectKey). get_or_create_value_id i w) (sym (z (captures_of ws)))
 
     -- no number is left
     -- "9 a fresh number is needed at next 512"
-    pub creating_full : ¬ (y ≡ 0) → Step.creating again p k q (world vs ss cs os r) ≡ answer y tt (world vs ss ds os t)
+    pub creating_full : (n : ℕ) (w : World lent) → get_or_create_value_id (key_with key (identifiers (captures_of ws))) (world vs ss cs os u) ≡ refused n w → Step.creating again p k q (world vs ss cs os r) ≡ refused n w
     unfolding Step.creating
-    creating_full g = then_goes _ _ _ _ _ _ _ e h (bind_refused _ _ _ _ _ _ _ create_number g)
+    creating_full n w g = then_ok _ _ _ _ _ _ e (bind_fails _ _ _ _ _ (create_number _ ∙ g))
 
     -- the place gets its number, with the kind and that one reason
-    pub creating_done : (b : ℕ) (us ts is : List ℕ) (l : Run) → y ≡ 0 → b ≡ single q → create p v (mk k b) (world vs ss ds os t) ≡ ok tt (world us ts ds os t)
+    pub creating_done : (v : ℕ) (ds : List ℕ) (t : Run) → get_or_create_value_id (key_with key (identifiers (captures_of ws))) (world vs ss cs os u) ≡ ok v (world vs ss ds os t)
+        → (b : ℕ) (us ts is : List ℕ) (l : Run) → b ≡ single q → create p v (mk k b) (world vs ss ds os t) ≡ ok tt (world us ts ds os t)
         → emit (effect_with (Head.Create p k q) (captures_of ws)) (world us ts ds os t) ≡ ok tt (world us ts ds is l)
-        → Step.creating again p k q (world vs ss cs os r) ≡ answer 0 tt (world us ts ds is l)
-    unfolding Step.creating effect_with answer
-    creating_done b us ts is l g s c w =
-        then_goes _ _ _ _ _ _ _ e h (bind_goes _ _ _ _ _ _ _ create_number g
+        → Step.creating again p k q (world vs ss cs os r) ≡ ok tt (world us ts ds is l)
+    unfolding Step.creating effect_with
+    creating_done v ds t g b us ts is l s c w =
+        then_ok _ _ _ _ _ _ e (bind_ok _ _ _ _ _ _ (create_number _ ∙ g)
         (then_ok _ _ _ _ _ _ (ap (λ (i : ℕ). create p v (mk k i) (world vs ss ds os t)) (sym s) ∙ c) w))
 
 -- ---- an ImmutableCapture
@@ -117,49 +115,49 @@ module _ (vs ss cs os : List ℕ) (r u : Run) (p : Place) (k : ValueKind) (q x :
 module _ (vs ss cs os : List ℕ) (r u : Run) (from into : Place) (a : AbstractValue) (again : AliasingEffect → M (World lent) Done) (b : Bool)
     (e : State.kind from.identifier (world vs ss cs os r) ≡ ok a (world vs ss cs os u)) (g : b ≡ copied a.kind) where
   -- its source is Primitive or Global
-  pub capturing_copied : b ≡ true → Step.capturing_immutably again from into (world vs ss cs os r) ≡ answer 0 tt (world vs ss cs os u)
+  pub capturing_copied : b ≡ true → Step.capturing_immutably again from into (world vs ss cs os r) ≡ ok tt (world vs ss cs os u)
   unfolding Step.capturing_immutably
   capturing_copied h = bind_ok _ _ _ _ _ _ e (if_true _ _ _ _ _ (sym g ∙ h) (done_ok _))
 
   -- any other source
   pub capturing_listed : (hs : List Place) (is : List ℕ) (l : Run) → b ≡ false → emit (effect_with (Head.ImmutableCapture from into) hs) (world vs ss cs os u) ≡ ok tt (world vs ss cs is l)
-      → Step.capturing_immutably again from into (world vs ss cs os r) ≡ answer 0 tt (world vs ss cs is l)
-  unfolding Step.capturing_immutably effect_with answer
+      → Step.capturing_immutably again from into (world vs ss cs os r) ≡ ok tt (world vs ss cs is l)
+  unfolding Step.capturing_immutably effect_with
   capturing_listed hs is l h w = bind_ok _ _ _ _ _ _ e (if_false _ _ _ _ _ (sym g ∙ h) w)
 
 -- ---- a place gets the number under a key of two places
 
-module _ (vs ss cs os : List ℕ) (r : Run) (code : ℕ) (from into : Place) (a : AbstractValue) (key : Key) (ks : List ℕ) (y v : ℕ) (ds : List ℕ) (t : Run)
-    (z : (is : List ℕ) → key_with key is ≡ two code from into) (n : get_or_create_value_id (key_with key ks) (world vs ss cs os r) ≡ answer y v (world vs ss ds os t)) where
+module _ (vs ss cs os : List ℕ) (r : Run) (code : ℕ) (from into : Place) (a : AbstractValue) (key : Key) (ks : List ℕ) (z : (is : List ℕ) → key_with key is ≡ two code from into) where
   -- its number is that under the two places
-  two_number : get_or_create_value_id (two code from into) (world vs ss cs os r) ≡ answer y v (world vs ss ds os t)
-  two_number = ap (λ (i : EffectKey). get_or_create_value_id i (world vs ss cs os r)) (sym (z ks)) ∙ n
+  two_number : (w : World lent) → get_or_create_value_id (two code from into) w ≡ get_or_create_value_id (key_with key ks) w
+  two_number w = ap (λ (i : EffectKey). get_or_create_value_id i w) (sym (z ks))
 
   -- no number is left
   -- "9 a fresh number is needed at next 512"
-  pub numbered_full : ¬ (y ≡ 0) → numbered code from into a (world vs ss cs os r) ≡ answer y tt (world vs ss ds os t)
+  pub numbered_full : (n : ℕ) (w : World lent) → get_or_create_value_id (key_with key ks) (world vs ss cs os r) ≡ refused n w → numbered code from into a (world vs ss cs os r) ≡ refused n w
   unfolding numbered
-  numbered_full g = bind_refused _ _ _ _ _ _ _ two_number g
+  numbered_full n w g = bind_fails _ _ _ _ _ (two_number _ ∙ g)
 
   -- the place gets it
-  pub numbered_done : (us ts : List ℕ) → y ≡ 0 → create into v a (world vs ss ds os t) ≡ ok tt (world us ts ds os t) → numbered code from into a (world vs ss cs os r) ≡ answer 0 tt (world us ts ds os t)
-  unfolding numbered answer
-  numbered_done us ts g c = bind_goes _ _ _ _ _ _ _ two_number g c
+  pub numbered_done : (v : ℕ) (ds us ts : List ℕ) (t : Run) → get_or_create_value_id (key_with key ks) (world vs ss cs os r) ≡ ok v (world vs ss ds os t) → create into v a (world vs ss ds os t) ≡ ok tt (world us ts ds os t)
+      → numbered code from into a (world vs ss cs os r) ≡ ok tt (world us ts ds os t)
+  unfolding numbered
+  numbered_done v ds us ts t g c = bind_ok _ _ _ _ _ _ (two_number _ ∙ g) c
 
 -- ---- an Assign
 
 -- of what is not frozen
 module _ (vs ss cs os : List ℕ) (r : Run) (from into : Place) (a : AbstractValue) (b : Bool) (e : b ≡ copied a.kind) where
   -- it is copied
-  pub assigned_copied : (y : ℕ) (w : World lent) → b ≡ true → numbered 19 from into a (world vs ss cs os r) ≡ answer y tt w → assigned from into a (world vs ss cs os r) ≡ answer y tt w
+  pub assigned_copied : b ≡ true → assigned from into a (world vs ss cs os r) ≡ numbered 19 from into a (world vs ss cs os r)
   unfolding assigned
-  assigned_copied y w h n = if_true _ _ _ _ _ (sym e ∙ h) n
+  assigned_copied h = if_true _ _ _ _ _ (sym e ∙ h) refl
 
   -- it is not copied
   -- the place gets the source's set, and the effect is listed
   pub assigned_listed : (us ts is : List ℕ) (hs : List Place) (l : Run) → b ≡ false → us ≡ assigned_values vs ss from.identifier → ts ≡ assigned_sets ss into.identifier from.identifier
-      → emit (effect_with (Head.Assign from into) hs) (world us ts cs os r) ≡ ok tt (world us ts cs is l) → assigned from into a (world vs ss cs os r) ≡ answer 0 tt (world us ts cs is l)
-  unfolding assigned effect_with answer
+      → emit (effect_with (Head.Assign from into) hs) (world us ts cs os r) ≡ ok tt (world us ts cs is l) → assigned from into a (world vs ss cs os r) ≡ ok tt (world us ts cs is l)
+  unfolding assigned effect_with
   assigned_listed us ts is hs l h g k w =
       if_false _ _ _ _ _ (sym e ∙ h)
       (then_ok _ _ _ _ _ _
@@ -167,27 +165,27 @@ module _ (vs ss cs os : List ℕ) (r : Run) (from into : Place) (a : AbstractVal
       w)
 
 -- any Assign, as it begins
-module _ (vs ss cs os : List ℕ) (r u : Run) (from into : Place) (x : ℕ) (again : AliasingEffect → M (World lent) Done)
-    (e : begin into.identifier (world vs ss cs os r) ≡ answer x tt (world vs ss cs os u)) where
+module _ (vs ss cs os : List ℕ) (r : Run) (from into : Place) (again : AliasingEffect → M (World lent) Done) where
   -- the destination already began
-  pub assign_refused : (a : AbstractValue) → ¬ (x ≡ 0) → Step.assigning again from into (world vs ss cs os r) ≡ sequel x (world vs ss cs os u) (assigning again from into a)
+  pub assign_refused : (n : ℕ) (w : World lent) → begin into.identifier (world vs ss cs os r) ≡ refused n w → Step.assigning again from into (world vs ss cs os r) ≡ refused n w
   unfolding Step.assigning
-  assign_refused a h = then_refused _ _ _ _ _ _ _ e h ∙ sym (sequel_refused x _ _ h)
+  assign_refused n w e = then_fails _ _ _ _ _ e
 
   -- the source was looked at
   -- the definition's text is the same under names
-  pub assign_begun : (a : AbstractValue) (t : Run) → x ≡ 0 → State.kind_with_span from.identifier from.span (world vs ss cs os u) ≡ ok a (world vs ss cs os t)
-      → Step.assigning again from into (world vs ss cs os r) ≡ sequel 0 (world vs ss cs os t) (assigning again from into a)
+  pub assign_begun : (u : Run) → begin into.identifier (world vs ss cs os r) ≡ ok tt (world vs ss cs os u)
+      → (a : AbstractValue) (t : Run) → State.kind_with_span from.identifier from.span (world vs ss cs os u) ≡ ok a (world vs ss cs os t)
+      → Step.assigning again from into (world vs ss cs os r) ≡ assigning again from into a (world vs ss cs os t)
   unfolding Step.assigning assigning assigned numbered
-  assign_begun a t h k = then_goes _ _ _ _ _ _ _ e h (bind_ok _ _ _ _ _ _ k refl) ∙ sym (sequel_goes 0 (world vs ss cs os t) (assigning again from into a) refl)
+  assign_begun u e a t k = then_ok _ _ _ _ _ _ e (bind_ok _ _ _ _ _ _ k refl)
 
 -- ---- what a CreateFrom lists
 
 module _ (vs ss cs os : List ℕ) (r : Run) (from into : Place) (a : AbstractValue) (again : AliasingEffect → M (World lent) Done) (ps : List Place) (b : Bool) (e : b ≡ copied a.kind) where
   -- the source is copied
   pub listed_copied : (q : ℕ) (hs : List Place) (is : List ℕ) (l : Run) → b ≡ true → q ≡ primary_reason a.reason → emit (effect_with (Head.Create into a.kind q) hs) (world vs ss cs os r) ≡ ok tt (world vs ss cs is l)
-      → Step.list_created again from into a (world vs ss cs os r) ≡ sequel 0 (world vs ss cs is l) (follow again (CreateFrom from into) ps Next.Nothing)
-  unfolding Step.list_created effect_with follow done return answer and_then
+      → Step.list_created again from into a (world vs ss cs os r) ≡ follow again (CreateFrom from into) ps Next.Nothing (world vs ss cs is l)
+  unfolding Step.list_created effect_with follow done return
   listed_copied q hs is l h s w =
       if_true _ _ _ _ _ (sym e ∙ h) (ap (λ (i : ℕ). emit (Create into a.kind i) (world vs ss cs os r)) (sym s) ∙ w)
 
@@ -195,40 +193,37 @@ module _ (vs ss cs os : List ℕ) (r : Run) (from into : Place) (a : AbstractVal
     -- the source is frozen
     -- a Create is listed, and an ImmutableCapture derived
     pub listed_frozen : (q : ℕ) (hs : List Place) (is : List ℕ) (l : Run) → d ≡ true → q ≡ primary_reason a.reason → emit (effect_with (Head.Create into a.kind q) hs) (world vs ss cs os r) ≡ ok tt (world vs ss cs is l)
-        → Step.list_created again from into a (world vs ss cs os r) ≡ sequel 0 (world vs ss cs is l) (follow again (CreateFrom from into) ps (Next.Derived (Head.ImmutableCapture from into)))
-    unfolding Step.list_created effect_with follow answer and_then
+        → Step.list_created again from into a (world vs ss cs os r) ≡ follow again (CreateFrom from into) ps (Next.Derived (Head.ImmutableCapture from into)) (world vs ss cs is l)
+    unfolding Step.list_created effect_with follow
     listed_frozen q hs is l k s w =
         if_false _ _ _ _ _ (sym e ∙ h) (if_true _ _ _ _ _ (sym g ∙ k)
         (then_ok _ _ _ _ _ _ (ap (λ (i : ℕ). emit (Create into a.kind i) (world vs ss cs os r)) (sym s) ∙ w) refl))
 
     -- any other source
-    pub listed_itself : d ≡ false → Step.list_created again from into a (world vs ss cs os r) ≡ sequel 0 (world vs ss cs os r) (follow again (CreateFrom from into) ps Next.Itself)
-    unfolding Step.list_created follow answer and_then
+    pub listed_itself : d ≡ false → Step.list_created again from into a (world vs ss cs os r) ≡ follow again (CreateFrom from into) ps Next.Itself (world vs ss cs os r)
+    unfolding Step.list_created follow
     listed_itself k = if_false _ _ _ _ _ (sym e ∙ h) (if_false _ _ _ _ _ (sym g ∙ k) refl)
 
 -- ---- a CreateFrom
 
-module _ (vs ss cs os : List ℕ) (r u : Run) (from into : Place) (x : ℕ) (again : AliasingEffect → M (World lent) Done)
-    (e : begin into.identifier (world vs ss cs os r) ≡ answer x tt (world vs ss cs os u)) where
+module _ (vs ss cs os : List ℕ) (r : Run) (from into : Place) (again : AliasingEffect → M (World lent) Done) where
   -- the place already began
-  pub from_refused : (m : M (World lent) Done) → ¬ (x ≡ 0) → Step.creating_from again from into (world vs ss cs os r) ≡ sequel x (world vs ss cs os u) m
+  pub from_refused : (n : ℕ) (w : World lent) → begin into.identifier (world vs ss cs os r) ≡ refused n w → Step.creating_from again from into (world vs ss cs os r) ≡ refused n w
   unfolding Step.creating_from
-  from_refused m h = then_refused _ _ _ _ _ _ _ e h ∙ sym (sequel_refused x _ _ h)
+  from_refused n w e = then_fails _ _ _ _ _ e
 
-  module _ (h : x ≡ 0) (a : AbstractValue) (s : Run) (k : State.kind from.identifier (world vs ss cs os u) ≡ ok a (world vs ss cs os s)) (key : Key) (ks : List ℕ) (y v : ℕ) (ds : List ℕ) (t : Run)
-      (z : (is : List ℕ) → key_with key is ≡ two 10 from into) (n : get_or_create_value_id (key_with key ks) (world vs ss cs os s) ≡ answer y v (world vs ss ds os t)) where
+  module _ (u : Run) (e : begin into.identifier (world vs ss cs os r) ≡ ok tt (world vs ss cs os u)) (a : AbstractValue) (s : Run) (k : State.kind from.identifier (world vs ss cs os u) ≡ ok a (world vs ss cs os s))
+      (key : Key) (ks : List ℕ) (z : (is : List ℕ) → key_with key is ≡ two 10 from into) where
     -- no number is left
     -- "9 a fresh number is needed at next 512"
-    pub from_full : (m : M (World lent) Done) → ¬ (y ≡ 0) → Step.creating_from again from into (world vs ss cs os r) ≡ sequel y (world vs ss ds os t) m
+    pub from_full : (n : ℕ) (w : World lent) → get_or_create_value_id (key_with key ks) (world vs ss cs os s) ≡ refused n w → Step.creating_from again from into (world vs ss cs os r) ≡ refused n w
     unfolding Step.creating_from
-    from_full m g =
-        then_goes _ _ _ _ _ _ _ e h (bind_ok _ _ _ _ _ _ k (bind_refused _ _ _ _ _ _ _ (two_number vs ss cs os s 10 from into a key ks y v ds t z n) g))
-        ∙ sym (sequel_refused y _ _ g)
+    from_full n w g = then_ok _ _ _ _ _ _ e (bind_ok _ _ _ _ _ _ k (bind_fails _ _ _ _ _ (two_number vs ss cs os s 10 from into a key ks z _ ∙ g)))
 
     -- the place gets its number, with the source's kind and reasons
-    pub from_listed : (us ts : List ℕ) (i : Res (World lent) Done) → y ≡ 0 → create into v a (world vs ss ds os t) ≡ ok tt (world us ts ds os t)
+    pub from_listed : (v : ℕ) (ds us ts : List ℕ) (t : Run) (i : Res (World lent) Done) → get_or_create_value_id (key_with key ks) (world vs ss cs os s) ≡ ok v (world vs ss ds os t) → create into v a (world vs ss ds os t) ≡ ok tt (world us ts ds os t)
         → Step.list_created again from into a (world us ts ds os t) ≡ i → Step.creating_from again from into (world vs ss cs os r) ≡ i
     unfolding Step.creating_from
-    from_listed us ts i g c w =
-        then_goes _ _ _ _ _ _ _ e h (bind_ok _ _ _ _ _ _ k (bind_goes _ _ _ _ _ _ _ (two_number vs ss cs os s 10 from into a key ks y v ds t z n) g
+    from_listed v ds us ts t i g c w =
+        then_ok _ _ _ _ _ _ e (bind_ok _ _ _ _ _ _ k (bind_ok _ _ _ _ _ _ (two_number vs ss cs os s 10 from into a key ks z _ ∙ g)
         (then_ok _ _ _ _ _ _ c w)))

@@ -9,12 +9,6 @@ loop-n-init c = (omega arith, primary_start _)
 pub returns-then-has_reason : goal.returns-then-has_reason
 returns-then-has_reason c = primary_found _ _ _ c.loop-n.invariant.1 c.loop-n-test.true c.has_reason.ensures c.if-has_reason.true
 
-pub overflow_add-n : goal.overflow_add-n
-overflow_add-n c = omega arith
-
-pub loop-n-smaller : goal.loop-n-smaller
-loop-n-smaller c = omega arith
-
 pub loop-n-preserved : goal.loop-n-preserved
 loop-n-preserved c = (omega arith, primary_more _ _ _ c.loop-n.invariant.1 c.loop-n-test.true c.has_reason.ensures c.if-has_reason.false)
 

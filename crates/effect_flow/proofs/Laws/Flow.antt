@@ -1,6 +1,6 @@
 -- Laws by which the code of flows meets the definition. Assumes nothing.
 use Rattle.std.specs.Prelude.{ℕ, ◌≡◌, Bool, List}
-use Rattle.std.proofs.Common.{arith, ◌∙◌}
+use Rattle.std.proofs.Common.{◌∙◌}
 use Rattle.std.proofs.Math.Path.{refl, sym, ap}
 use Rattle.std.proofs.Math.Bool.{true, false, not}
 use Rattle.base_tests.proofs.Laws.Bool.{not_true, not-false}
@@ -9,7 +9,7 @@ use Rattle.def_kinds.specs.declared.ValueKind.TheVariants.{Mutable, Frozen, Prim
 use Rattle.def_kinds.specs.declared.AbstractValue.{AbstractValue}
 use Rattle.def_effects.specs.declared.Place.{Place}
 use Rattle.def_effects.specs.Effects.{AliasingEffect, ImmutableCapture, MaybeAlias}
-use Rattle.def_transfer.specs.Monad.{ok, M, Done, refuse}
+use Rattle.def_transfer.specs.Monad.{ok, refused, M, Done, refuse}
 use Rattle.def_transfer.specs.Tables.{World}
 use Rattle.def_transfer.specs.State.{ask, kind_with_span}
 use Rattle.def_transfer.specs.Context.{emit, is_initialized}
@@ -19,13 +19,11 @@ use Rattle.lent_work.specs.declared.Marks.{Marks}
 use Rattle.lent_work.specs.Marks.{is_marked}
 use Rattle.lent_effects.specs.declared.AliasingEffect.TheVariants as Head
 use Rattle.lent_effects.specs.Records.{effect_with}
-use Rattle.laws_monad.specs.Answers.{answer}
 use Rattle.laws_monad.proofs.Laws.Answers.{bind_ok, if_true, if_false}
 use Rattle.lent_world.specs.World.{lent, world}
 use Rattle.effect_acts.specs.declared.Next.{Next}
 use Rattle.effect_acts.specs.declared.Next.TheVariants.{Nothing, Itself, Derived}
-use Rattle.effect_acts.specs.Acts.{follow, sequel}
-use Rattle.effect_acts.proofs.Laws.Sequel.{sequel_refused, sequel_goes}
+use Rattle.effect_acts.specs.Acts.{follow}
 use Rattle.effect_flow.specs.Flows.{flows, refuses}
 
 -- ---- what comes next, by the kinds
@@ -161,23 +159,17 @@ module _ (alias : Bool) (m : Marks) (i : ℕ) where
   unfolding refuses
   refuses_not h = sym (ap (λ (x : Bool). refuses x m i) h)
 
-  module _ (b : Bool) (e : b ≡ is_marked m i) (h : alias ≡ true) where
-    -- the destination was initialized
-    pub refuses_marked : b ≡ true → false ≡ refuses alias m i
-    unfolding refuses
-    refuses_marked g = sym (ap (λ (x : Bool). refuses x m i) h ∙ ap not (sym e ∙ g))
-
-    -- it was not
-    pub refuses_unmarked : b ≡ false → true ≡ refuses alias m i
-    unfolding refuses
-    refuses_unmarked g = sym (ap (λ (x : Bool). refuses x m i) h ∙ ap not (sym e ∙ g))
+  -- an Alias asks whether its destination was initialized
+  pub refuses_asked : alias ≡ true → (b : Bool) → b ≡ is_marked m i → not b ≡ refuses alias m i
+  unfolding refuses
+  refuses_asked h b e = ap not e ∙ sym (ap (λ (x : Bool). refuses x m i) h)
 
 -- ---- a flow between two places
 
 module _ (again : AliasingEffect → M (World lent) Done) (maybe : Bool) (e : AliasingEffect) (from into : Place) (vs ss xs os : List ℕ) (r : Run) where
   -- a flow that is refused ends at once
-  refused_at : (alias : Bool) → refuses alias r.marks into.identifier ≡ true → flows again alias maybe e from into (world vs ss xs os r) ≡ answer 7 tt (world vs ss xs os r)
-  unfolding flows refuses is_initialized ask refuse answer
+  refused_at : (alias : Bool) → refuses alias r.marks into.identifier ≡ true → flows again alias maybe e from into (world vs ss xs os r) ≡ refused 7 (world vs ss xs os r)
+  unfolding flows refuses is_initialized ask refuse
   refused_at false h = cc
   refused_at true h = bind_ok _ _ _ _ _ _ refl (if_false _ _ _ _ _ (not_true _ h) refl)
 
@@ -189,17 +181,16 @@ module _ (again : AliasingEffect → M (World lent) Done) (maybe : Bool) (e : Al
 
   module _ (alias b : Bool) (q : b ≡ refuses alias r.marks into.identifier) where
     -- "7 Alias into one not initialized in it"
-    pub flow_refused : (cs : List Place) → b ≡ true → flows again alias maybe e from into (world vs ss xs os r) ≡ sequel 7 (world vs ss xs os r) (follow again e cs Nothing)
-    flow_refused cs h = refused_at alias (sym q ∙ h) ∙ sym (sequel_refused 7 _ _ (λ z. absurd (omega arith)))
+    pub flow_refused : b ≡ true → flows again alias maybe e from into (world vs ss xs os r) ≡ refused 7 (world vs ss xs os r)
+    flow_refused h = refused_at alias (sym q ∙ h)
 
     -- the destination's kind, then the source's
     pub flow_goes : (i f : AbstractValue) (u v : Run) (n : Next) → b ≡ false
         → ((cs os : List ℕ) → kind_with_span into.identifier into.span (world vs ss cs os r) ≡ ok i (world vs ss cs os u))
         → ((cs os : List ℕ) → kind_with_span from.identifier from.span (world vs ss cs os u) ≡ ok f (world vs ss cs os v))
         → Comes maybe i.kind f.kind from into n
-        → (cs : List Place) → flows again alias maybe e from into (world vs ss xs os r) ≡ sequel 0 (world vs ss xs os v) (follow again e cs n)
+        → (cs : List Place) → flows again alias maybe e from into (world vs ss xs os r) ≡ follow again e cs n (world vs ss xs os v)
     unfolding flowing
     flow_goes i f u v n h g1 g2 c cs =
         goes_at alias (sym q ∙ h)
         ∙ bind_ok _ _ _ _ _ _ (g1 xs os) (bind_ok _ _ _ _ _ _ (g2 xs os) (c again e cs (world vs ss xs os v)))
-        ∙ sym (sequel_goes 0 _ _ refl)

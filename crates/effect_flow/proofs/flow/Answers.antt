@@ -2,7 +2,7 @@ use Rattle.effect_flow.proofs.Laws.Flow.{flow_refused, flow_goes}
 use Rattle.effect_flow.proofs.flow.Goals as goal
 
 pub returns-then-refuses_flow : goal.returns-then-refuses_flow
-returns-then-refuses_flow c = λ again e cs xs os. flow_refused again _ e _ _ _ _ xs os _ _ _ c.refuses_flow.ensures cs c.if-refuses_flow.true
+returns-then-refuses_flow c = λ again e cs xs os. (c.args.run, flow_refused again _ e _ _ _ _ xs os _ _ _ c.refuses_flow.ensures c.if-refuses_flow.true)
 
 pub returns : goal.returns
 returns c =

@@ -1,11 +1,9 @@
-use Rattle.effect_flow.proofs.Laws.Flow.{refuses_not, refuses_marked, refuses_unmarked}
+use Rattle.std.proofs.Common.{◌∙◌}
+use Rattle.effect_flow.proofs.Laws.Flow.{refuses_not, refuses_asked}
 use Rattle.effect_flow.proofs.refuses_flow.Goals as goal
 
-pub returns-then-not-alias : goal.returns-then-not-alias
-returns-then-not-alias c = refuses_not _ _ _ (c.if-not-alias.true)
+pub returns-then-alias : goal.returns-then-alias
+returns-then-alias c = refuses_asked _ _ _ c.if-alias.true _ c.is_marked.ensures
 
-pub returns-then-is_marked : goal.returns-then-is_marked
-returns-then-is_marked c = refuses_marked _ _ _ _ c.is_marked.ensures (c.if-not-alias.false) c.if-is_marked.true
-
-pub returns : goal.returns
-returns c = refuses_unmarked _ _ _ _ c.is_marked.ensures (c.if-not-alias.false) c.if-is_marked.false
+pub returns-else-alias : goal.returns-else-alias
+returns-else-alias c = c.if-alias.false ∙ refuses_not _ _ _ c.if-alias.false

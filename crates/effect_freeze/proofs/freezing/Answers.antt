@@ -1,3 +1,4 @@
+use Rattle.lent_world.proofs.Laws.Promise.{comes_as}
 use Rattle.effect_freeze.proofs.Laws.Freeze.{freezing_not, freezing_plain, freezing_walks}
 use Rattle.effect_freeze.proofs.freezing.Goals as goal
 
@@ -10,4 +11,4 @@ returns-then-not-is_transitive c =
 
 pub returns : goal.returns
 returns c =
-    λ again. freezing_walks _ _ _ _ _ _ _ _ _ c.freeze.ensures.0 c.freeze.ensures.1 again _ _ _ _ (c.if-not-freeze.false) (c.emit-listed.ensures _ _ _) c.is_transitive.ensures _ _ _ (c.if-not-is_transitive.false) (c.walk.ensures _)
+    λ again. comes_as _ _ _ _ _ (freezing_walks _ _ _ _ _ _ _ _ _ c.freeze.ensures.0 c.freeze.ensures.1 again _ _ _ _ (c.if-not-freeze.false) (c.emit-listed.ensures _ _ _) c.is_transitive.ensures (c.if-not-is_transitive.false)) (c.walk.ensures _)

@@ -9,6 +9,3 @@ invariant-loop-k l =
     (l.k ≤ 80)
     × (copied_places l.context l.f l.k (80 - l.k) l.out ≡ copied_places l.context l.f 0 80 l.initial.out)
     × (length l.out ≡ length l.initial.out)
-
-abbrev pub decreases-loop-k : goal.decreases-loop-k
-decreases-loop-k l = 80 - l.k

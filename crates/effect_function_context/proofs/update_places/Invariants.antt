@@ -1,5 +1,4 @@
 use mathlib.Core.Path.{◌≡◌}
-use Prim.Native.Nat.{◌-◌}
 use lib.ListN.{length}
 use Rattle.effect_function_context.proofs.Laws.Function.{Updates}
 use Rattle.effect_function_context.proofs.update_places.Given as goal
@@ -8,6 +7,3 @@ abbrev pub invariant-loop-k : goal.invariant-loop-k
 invariant-loop-k l =
     (length l.context ≡ length l.initial.context)
     × Updates l.values l.sets l.initial.context l.f l.places l.n l.k l.context
-
-abbrev pub decreases-loop-k : goal.decreases-loop-k
-decreases-loop-k l = l.n - l.k

@@ -13,7 +13,7 @@ use Rattle.def_effects.specs.declared.Place.{Place}
 use Rattle.def_effects.specs.declared.Session.{Session}
 use Rattle.def_effects.specs.Places.{no_span}
 use Rattle.def_effects.specs.Effects.{AliasingEffect}
-use Rattle.def_transfer.specs.Monad.{Res, ok, Done, and_then, ◌>>=◌, ◌>>◌, return, refuse, done, when◌then◌else◌}
+use Rattle.def_transfer.specs.Monad.{Res, ok, refused, Done, and_then, ◌>>=◌, ◌>>◌, return, refuse, done, when◌then◌else◌}
 use Rattle.def_transfer.specs.Tables.{World}
 use Rattle.def_transfer.specs.State as State
 use Rattle.def_transfer.specs.State.{kind_of, ask, change}
@@ -27,7 +27,6 @@ use Rattle.lent_effects.specs.Records.{put_effect, captures_of, counted_places}
 use Rattle.lent_work.specs.declared.Run.{Run}
 use Rattle.lent_work.specs.declared.Marks.{Marks}
 use Rattle.lent_work.specs.Marks.{is_marked, marked}
-use Rattle.laws_monad.specs.Answers.{answer}
 use Rattle.laws_monad.proofs.Laws.Answers.{bind_ok, if_true, if_false}
 use Rattle.lent_world.specs.World.{lent, world, put_listed}
 use Rattle.lent_work.specs.Access.{access_of}
@@ -54,13 +53,13 @@ module _ (vs ss cs os : List ℕ) (e : AliasingEffect) where
 -- ---- a place begins
 
 module _ (vs ss cs os : List ℕ) (r : Run) (i : ℕ) (b : Bool) (e : b ≡ is_marked r.marks i) where
-  pub begin_again : b ≡ true → Context.begin i (world vs ss cs os r) ≡ answer 6 tt (world vs ss cs os r)
-  unfolding Context.begin Context.is_initialized ask refuse answer
+  pub begin_again : b ≡ true → Context.begin i (world vs ss cs os r) ≡ refused 6 (world vs ss cs os r)
+  unfolding Context.begin Context.is_initialized ask refuse
   begin_again h = bind_ok _ _ _ _ _ _ refl (if_true _ _ _ _ _ (sym e ∙ h) refl)
 
   pub begin_first : (m : Marks) → b ≡ false → m ≡ marked r.marks i
-      → Context.begin i (world vs ss cs os r) ≡ answer 0 tt (world vs ss cs os (record { session = r.session; flag = r.flag; marks = m; listed = r.listed; freeze = r.freeze; entries = r.entries }))
-  unfolding Context.begin Context.is_initialized Context.put_initialized ask change answer
+      → Context.begin i (world vs ss cs os r) ≡ ok tt (world vs ss cs os (record { session = r.session; flag = r.flag; marks = m; listed = r.listed; freeze = r.freeze; entries = r.entries }))
+  unfolding Context.begin Context.is_initialized Context.put_initialized ask change
   begin_first m h g =
       bind_ok _ _ _ _ _ _ refl (if_false _ _ _ _ _ (sym e ∙ h)
       (ap (λ (k : Marks). ok tt (world vs ss cs os (record { session = r.session; flag = r.flag; marks = k; listed = r.listed; freeze = r.freeze; entries = r.entries }))) (sym g)))

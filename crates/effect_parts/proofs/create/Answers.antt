@@ -1,6 +1,7 @@
+use Rattle.std.proofs.Common.{refl}
 use Rattle.effect_parts.proofs.Laws.Part.{create_is}
 use Rattle.effect_parts.proofs.create.Goals as goal
 
 pub returns : goal.returns
 returns c =
-    create_is _ _ _ _ _ _ _ _ c.wide32.ensures c.put_value.ensures c.define.ensures
+    create_is _ _ _ _ _ _ _ _ refl c.put_value.ensures c.define.ensures

@@ -1,3 +1,4 @@
+use Rattle.std.proofs.Common.{refl}
 use Rattle.effect_parts.proofs.Laws.Part.{emit_full, emit_one}
 use Rattle.effect_parts.proofs.emit.Goals as goal
 
@@ -6,4 +7,4 @@ returns-then-run-ge4294967295 c = λ vs ss cs. emit_full vs ss cs _ _ _ c.if-run
 
 pub returns : goal.returns
 returns c =
-    λ vs ss cs. emit_one vs ss cs _ _ _ _ _ c.if-run-ge4294967295.false c.wide32.ensures c.put_effect.ensures
+    λ vs ss cs. emit_one vs ss cs _ _ _ _ _ c.if-run-ge4294967295.false refl c.put_effect.ensures

@@ -19,7 +19,7 @@ use Rattle.def_effects.specs.declared.MutationResult.TheVariants as Result
 use Rattle.def_effects.specs.Places.{no_span}
 use Rattle.def_effects.specs.Mutation.{is_strict, result_of}
 use Rattle.def_effects.specs.Effects.{AliasingEffect, MutateFrozen, MutateGlobal}
-use Rattle.def_transfer.specs.Monad.{Res, ok, M, Done, return}
+use Rattle.def_transfer.specs.Monad.{Res, ok, refused, M, Done, return}
 use Rattle.def_transfer.specs.Tables.{World}
 use Rattle.def_transfer.specs.State.{ask, kind, kind_with_span}
 use Rattle.def_transfer.specs.Context.{intern_diagnostic}
@@ -29,12 +29,10 @@ use Rattle.lent_diagnostics.proofs.Laws.Diagnostic.{span_differs, span_ends}
 use Rattle.lent_work.specs.declared.Run.{Run}
 use Rattle.lent_effects.specs.declared.AliasingEffect.TheVariants as Head
 use Rattle.lent_effects.specs.Records.{effect_with}
-use Rattle.laws_monad.specs.Answers.{answer}
-use Rattle.laws_monad.proofs.Laws.Answers.{bind_ok, bind_goes, bind_refused, if_true, if_false}
+use Rattle.laws_monad.proofs.Laws.Answers.{bind_ok, bind_fails, if_true, if_false}
 use Rattle.lent_world.specs.World.{lent, world}
 use Rattle.effect_acts.specs.declared.Next.TheVariants.{Nothing, Itself, Derived}
-use Rattle.effect_acts.specs.Acts.{follow, sequel}
-use Rattle.effect_acts.proofs.Laws.Sequel.{sequel_refused, sequel_goes}
+use Rattle.effect_acts.specs.Acts.{follow}
 use Rattle.effect_reports.specs.Mutations.{access_label}
 
 -- ---- the sentence of a set of reasons
@@ -111,81 +109,80 @@ hoisted_is p name access label h = ap (λ (x : Span). record { identifier = p.id
 
 -- ---- a mutation that is an error is reported
 
--- what the code has of a report: the diagnostic's numbers, or a refusal, and the context after
-abbrev pub Numbered : List ℕ → List ℕ → Diagnostic → ℕ → AliasingDiagnostic → Type 0
-Numbered cs us d n x = (vs ss os : List ℕ) (r : Run) → intern_diagnostic d (world vs ss cs os r) ≡ answer n x (world vs ss us os r)
+-- what the code has of a report: the diagnostic's numbers, and the context after
+abbrev pub Numbered : List ℕ → List ℕ → Diagnostic → AliasingDiagnostic → Type 0
+Numbered cs us d x = (vs ss os : List ℕ) (r : Run) → intern_diagnostic d (world vs ss cs os r) ≡ ok x (world vs ss us os r)
 
-module _ (cs us : List ℕ) (r : Run) (p : Place) (name : ℕ) (d : Diagnostic) (n : ℕ) (x : AliasingDiagnostic) (w : name ≡ Lent.name_of cs p.identifier) where
-  module _ (a : AbstractValue) (q : d ≡ modified p name a) (g : Numbered cs us d n x) where
+-- or a refusal
+abbrev pub Unnumbered : List ℕ → List ℕ → Diagnostic → ℕ → Type 0
+Unnumbered cs us d n = (vs ss os : List ℕ) (r : Run) → intern_diagnostic d (world vs ss cs os r) ≡ refused n (world vs ss us os r)
+
+module _ (cs us : List ℕ) (r : Run) (p : Place) (name : ℕ) (d : Diagnostic) (w : name ≡ Lent.name_of cs p.identifier) where
+  module _ (a : AbstractValue) (q : d ≡ modified p name a) where
     -- the diagnostic of the definition is the code's
-    same_modified : (vs ss os : List ℕ) → intern_diagnostic (modified p name a) (world vs ss cs os r) ≡ answer n x (world vs ss us os r)
-    same_modified vs ss os = ap (λ (y : Diagnostic). intern_diagnostic y (world vs ss cs os r)) (sym q) ∙ g vs ss os r
+    same_modified : (v : World lent) → intern_diagnostic (modified p name a) v ≡ intern_diagnostic d v
+    same_modified v = ap (λ (y : Diagnostic). intern_diagnostic y v) (sym q)
 
     -- a 257th diagnostic or instance
-    pub modified_refused : ¬ (n ≡ 0) → (again : AliasingEffect → M (World lent) Done) (e : AliasingEffect) (ps : List Place) (vs ss os : List ℕ)
-        → report_modified again p a (world vs ss cs os r) ≡ sequel n (world vs ss us os r) (follow again e ps Nothing)
+    pub modified_refused : (n : ℕ) → Unnumbered cs us d n → (again : AliasingEffect → M (World lent) Done) (vs ss os : List ℕ)
+        → report_modified again p a (world vs ss cs os r) ≡ refused n (world vs ss us os r)
     unfolding report_modified ask
-    modified_refused z again e ps vs ss os =
-        bind_ok _ _ _ _ _ _ (ap (λ (k : ℕ). ok k (world vs ss cs os r)) (sym w)) (bind_refused _ _ n _ _ x tt (same_modified vs ss os) z)
-        ∙ sym (sequel_refused n _ _ z)
+    modified_refused n g again vs ss os =
+        bind_ok _ _ _ _ _ _ (ap (λ (k : ℕ). ok k (world vs ss cs os r)) (sym w)) (bind_fails _ _ _ _ _ (same_modified (world vs ss cs os r) ∙ g vs ss os r))
 
-    module _ (b : Bool) (f : b ≡ is_frozen a.kind) where
+    module _ (x : AliasingDiagnostic) (g : Numbered cs us d x) (b : Bool) (f : b ≡ is_frozen a.kind) where
       -- a value that is surely Frozen
-      pub modified_frozen : n ≡ 0 → b ≡ true → (again : AliasingEffect → M (World lent) Done) (e : AliasingEffect) (ps : List Place) (vs ss os : List ℕ)
-          → report_modified again p a (world vs ss cs os r) ≡ sequel 0 (world vs ss us os r) (follow again e ps (Derived (Head.MutateFrozen p x)))
+      pub modified_frozen : b ≡ true → (again : AliasingEffect → M (World lent) Done) (e : AliasingEffect) (ps : List Place) (vs ss os : List ℕ)
+          → report_modified again p a (world vs ss cs os r) ≡ follow again e ps (Derived (Head.MutateFrozen p x)) (world vs ss us os r)
       unfolding report_modified ask follow effect_with
-      modified_frozen z h again e ps vs ss os =
-          bind_ok _ _ _ _ _ _ (ap (λ (k : ℕ). ok k (world vs ss cs os r)) (sym w)) (bind_goes _ _ n _ _ x _ (same_modified vs ss os) z (if_true _ _ _ _ _ (sym f ∙ h) refl))
-          ∙ sym (sequel_goes 0 _ _ refl)
+      modified_frozen h again e ps vs ss os =
+          bind_ok _ _ _ _ _ _ (ap (λ (k : ℕ). ok k (world vs ss cs os r)) (sym w)) (bind_ok _ _ _ _ _ _ (same_modified (world vs ss cs os r) ∙ g vs ss os r) (if_true _ _ _ _ _ (sym f ∙ h) refl))
 
       -- any other
-      pub modified_global : n ≡ 0 → b ≡ false → (again : AliasingEffect → M (World lent) Done) (e : AliasingEffect) (ps : List Place) (vs ss os : List ℕ)
-          → report_modified again p a (world vs ss cs os r) ≡ sequel 0 (world vs ss us os r) (follow again e ps (Derived (Head.MutateGlobal p x)))
+      pub modified_global : b ≡ false → (again : AliasingEffect → M (World lent) Done) (e : AliasingEffect) (ps : List Place) (vs ss os : List ℕ)
+          → report_modified again p a (world vs ss cs os r) ≡ follow again e ps (Derived (Head.MutateGlobal p x)) (world vs ss us os r)
       unfolding report_modified ask follow effect_with
-      modified_global z h again e ps vs ss os =
-          bind_ok _ _ _ _ _ _ (ap (λ (k : ℕ). ok k (world vs ss cs os r)) (sym w)) (bind_goes _ _ n _ _ x _ (same_modified vs ss os) z (if_false _ _ _ _ _ (sym f ∙ h) refl))
-          ∙ sym (sequel_goes 0 _ _ refl)
+      modified_global h again e ps vs ss os =
+          bind_ok _ _ _ _ _ _ (ap (λ (k : ℕ). ok k (world vs ss cs os r)) (sym w)) (bind_ok _ _ _ _ _ _ (same_modified (world vs ss cs os r) ∙ g vs ss os r) (if_false _ _ _ _ _ (sym f ∙ h) refl))
 
-  module _ (access : Span) (v : access ≡ Lent.access_span cs p.identifier) (q : d ≡ hoisted_access p name access) (g : Numbered cs us d n x) where
+  module _ (access : Span) (v : access ≡ Lent.access_span cs p.identifier) (q : d ≡ hoisted_access p name access) where
     -- the diagnostic of the definition is the code's
-    same_hoisted : (vs ss os : List ℕ) → intern_diagnostic (hoisted_access p name access) (world vs ss cs os r) ≡ answer n x (world vs ss us os r)
-    same_hoisted vs ss os = ap (λ (y : Diagnostic). intern_diagnostic y (world vs ss cs os r)) (sym q) ∙ g vs ss os r
+    same_hoisted : (v : World lent) → intern_diagnostic (hoisted_access p name access) v ≡ intern_diagnostic d v
+    same_hoisted v = ap (λ (y : Diagnostic). intern_diagnostic y v) (sym q)
 
     -- a 257th diagnostic or instance
-    pub hoisted_refused : ¬ (n ≡ 0) → (again : AliasingEffect → M (World lent) Done) (e : AliasingEffect) (ps : List Place) (vs ss os : List ℕ)
-        → report_hoisted again p (world vs ss cs os r) ≡ sequel n (world vs ss us os r) (follow again e ps Nothing)
+    pub hoisted_refused : (n : ℕ) → Unnumbered cs us d n → (again : AliasingEffect → M (World lent) Done) (vs ss os : List ℕ)
+        → report_hoisted again p (world vs ss cs os r) ≡ refused n (world vs ss us os r)
     unfolding report_hoisted ask
-    hoisted_refused z again e ps vs ss os =
+    hoisted_refused n g again vs ss os =
         bind_ok _ _ _ _ _ _ (ap (λ (k : ℕ). ok k (world vs ss cs os r)) (sym w))
-        (bind_ok _ _ _ _ _ _ (ap (λ (k : Span). ok k (world vs ss cs os r)) (sym v)) (bind_refused _ _ n _ _ x tt (same_hoisted vs ss os) z))
-        ∙ sym (sequel_refused n _ _ z)
+        (bind_ok _ _ _ _ _ _ (ap (λ (k : Span). ok k (world vs ss cs os r)) (sym v)) (bind_fails _ _ _ _ _ (same_hoisted (world vs ss cs os r) ∙ g vs ss os r)))
 
     -- an access before the declaration
-    pub hoisted_goes : n ≡ 0 → (again : AliasingEffect → M (World lent) Done) (e : AliasingEffect) (ps : List Place) (vs ss os : List ℕ)
-        → report_hoisted again p (world vs ss cs os r) ≡ sequel 0 (world vs ss us os r) (follow again e ps (Derived (Head.MutateFrozen p x)))
+    pub hoisted_goes : (x : AliasingDiagnostic) → Numbered cs us d x → (again : AliasingEffect → M (World lent) Done) (e : AliasingEffect) (ps : List Place) (vs ss os : List ℕ)
+        → report_hoisted again p (world vs ss cs os r) ≡ follow again e ps (Derived (Head.MutateFrozen p x)) (world vs ss us os r)
     unfolding report_hoisted ask follow effect_with
-    hoisted_goes z again e ps vs ss os =
+    hoisted_goes x g again e ps vs ss os =
         bind_ok _ _ _ _ _ _ (ap (λ (k : ℕ). ok k (world vs ss cs os r)) (sym w))
-        (bind_ok _ _ _ _ _ _ (ap (λ (k : Span). ok k (world vs ss cs os r)) (sym v)) (bind_goes _ _ n _ _ x _ (same_hoisted vs ss os) z refl))
-        ∙ sym (sequel_goes 0 _ _ refl)
+        (bind_ok _ _ _ _ _ _ (ap (λ (k : Span). ok k (world vs ss cs os r)) (sym v)) (bind_ok _ _ _ _ _ _ (same_hoisted (world vs ss cs os r) ∙ g vs ss os r) refl))
 
 -- ---- what a mutation lists, by its result
 
 module _ (vs ss cs : List ℕ) (r : Run) (p : Place) (y : MutationResult) (again : AliasingEffect → M (World lent) Done) (e : AliasingEffect) (ps : List Place) (os : List ℕ) where
   -- no mutation
-  pub result_none : y ≡ Result.None → report again e p y (world vs ss cs os r) ≡ sequel 0 (world vs ss cs os r) (follow again e ps Nothing)
+  pub result_none : y ≡ Result.None → report again e p y (world vs ss cs os r) ≡ follow again e ps Nothing (world vs ss cs os r)
   unfolding report follow
-  result_none h = ap (λ (k : MutationResult). report again e p k (world vs ss cs os r)) h ∙ sym (sequel_goes 0 _ _ refl)
+  result_none h = ap (λ (k : MutationResult). report again e p k (world vs ss cs os r)) h
 
   -- a mutation of a ref
-  pub result_ref : y ≡ Result.MutateRef → report again e p y (world vs ss cs os r) ≡ sequel 0 (world vs ss cs os r) (follow again e ps Nothing)
+  pub result_ref : y ≡ Result.MutateRef → report again e p y (world vs ss cs os r) ≡ follow again e ps Nothing (world vs ss cs os r)
   unfolding report follow
-  result_ref h = ap (λ (k : MutationResult). report again e p k (world vs ss cs os r)) h ∙ sym (sequel_goes 0 _ _ refl)
+  result_ref h = ap (λ (k : MutationResult). report again e p k (world vs ss cs os r)) h
 
   -- a mutation that may be
-  pub result_mutate : y ≡ Result.Mutate → report again e p y (world vs ss cs os r) ≡ sequel 0 (world vs ss cs os r) (follow again e ps Itself)
+  pub result_mutate : y ≡ Result.Mutate → report again e p y (world vs ss cs os r) ≡ follow again e ps Itself (world vs ss cs os r)
   unfolding report follow
-  result_mutate h = ap (λ (k : MutationResult). report again e p k (world vs ss cs os r)) h ∙ sym (sequel_goes 0 _ _ refl)
+  result_mutate h = ap (λ (k : MutationResult). report again e p k (world vs ss cs os r)) h
 
   module _ (a : AbstractValue) (u : Run) (k : (cs os : List ℕ) → kind p.identifier (world vs ss cs os r) ≡ ok a (world vs ss cs os u)) (m : Res (World lent) Done) where
     -- a mutation of a Global
@@ -212,11 +209,10 @@ module _ (vs ss cs : List ℕ) (r : Run) (p : Place) (y : MutationResult) (again
 
 module _ (vs ss cs : List ℕ) (r : Run) (variant : MutateVariant) (p : Place) (b : Bool) (q : b ≡ Lent.is_ref cs p.identifier) (again : AliasingEffect → M (World lent) Done) (e : AliasingEffect) (ps : List Place) (os : List ℕ) where
   -- a ref
-  pub mutation_ref : b ≡ true → mutating again variant e p (world vs ss cs os r) ≡ sequel 0 (world vs ss cs os r) (follow again e ps Nothing)
+  pub mutation_ref : b ≡ true → mutating again variant e p (world vs ss cs os r) ≡ follow again e ps Nothing (world vs ss cs os r)
   unfolding mutating mutate ask return report follow
   mutation_ref h =
       bind_ok _ _ _ _ _ _ (bind_ok _ _ _ _ _ _ refl (if_true _ _ _ _ _ (sym q ∙ h) refl)) refl
-      ∙ sym (sequel_goes 0 _ _ refl)
 
   -- any other place
   pub mutation_goes : (a : AbstractValue) (u : Run) (s : Bool) (y : MutationResult) (m : Res (World lent) Done) → b ≡ false

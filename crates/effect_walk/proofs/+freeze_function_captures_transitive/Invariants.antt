@@ -17,8 +17,5 @@ invariant-loop-k l =
     (length l.values ≡ length l.initial.values)
     × Runs l.initial.values l.sets l.context l.reason l.v l.freeze l.entries l.f l.n l.k l.values l.made l.all
 
-abbrev pub decreases-loop-k : goal.decreases-loop-k
-decreases-loop-k l = l.n - l.k
-
 abbrev pub decreases-freeze_function_captures_transitive : goal.decreases-freeze_function_captures_transitive
 decreases-freeze_function_captures_transitive l = 4096 - l.freeze

@@ -1,11 +1,10 @@
 -- Laws by which the code of the walk meets the definition. Assumes nothing.
-use Rattle.std.specs.Prelude.{ℕ, zero, suc, ◌+◌, ◌-◌, ◌*◌, ◌≤◌, ◌<◌, ◌≡◌, Bool, ◌&&◌}
+use Rattle.std.specs.Prelude.{ℕ, zero, suc, ◌+◌, ◌-◌, ◌*◌, ◌≤◌, ◌<◌, ◌≡◌, Bool, ◌&&◌, Option, None, Some}
 use native.Mathlib.Omega.{arith}
 use Rattle.std.proofs.Common.{add-one, ap₂, ◌∙◌}
 use Rattle.std.proofs.Math.Path.{refl, sym, ap}
 use Rattle.std.proofs.Math.Bool.{true, false}
 use mathlib.Core.List.{List, []}
-use Rattle.std.proofs.Math.Option.{Option, none, some}
 use Rattle.base_tests.specs.Tests.{ite, is_some}
 use Rattle.def_kinds.specs.declared.ValueKind.TheVariants.{Frozen}
 use Rattle.def_kinds.specs.declared.AbstractValue.{AbstractValue}
@@ -63,24 +62,24 @@ module _ (ss cs : List ℕ) (s : Still) where
   -- ---- a place of the context
 
   module _ (F : ℕ → M (World lent) Done) (reason : ℕ) (vs : List ℕ) (made all : ℕ) where
-    to_freeze_is : (i : ℕ) (b : Bool) → b ≡ freezes vs ss i → to_freeze i (walking vs ss cs s made all) ≡ ok (ite b (set_at ss i) none) (walking vs ss cs s made all)
+    to_freeze_is : (i : ℕ) (b : Bool) → b ≡ freezes vs ss i → to_freeze i (walking vs ss cs s made all) ≡ ok (ite b (set_at ss i) None) (walking vs ss cs s made all)
     unfolding to_freeze set_of peek freezes return when◌then◌else◌ ◌>>=◌ and_then
-    to_freeze_is i b e = go (is_some (set_at ss i) && freezable (kind_of (value_at vs) (set_at ss i)).kind) ∙ ap (λ (x : Bool). ok (ite x (set_at ss i) none) (walking vs ss cs s made all)) (sym e)
+    to_freeze_is i b e = go (is_some (set_at ss i) && freezable (kind_of (value_at vs) (set_at ss i)).kind) ∙ ap (λ (x : Bool). ok (ite x (set_at ss i) None) (walking vs ss cs s made all)) (sym e)
       where
-        go : (x : Bool) → (elim x as (λ y. Res (World lent) (Option ℕ)) [ true ↦ ok (set_at ss i) (walking vs ss cs s made all) | false ↦ ok none (walking vs ss cs s made all) ]) ≡ ok (ite x (set_at ss i) none) (walking vs ss cs s made all)
+        go : (x : Bool) → (elim x as (λ y. Res (World lent) (Option ℕ)) [ true ↦ ok (set_at ss i) (walking vs ss cs s made all) | false ↦ ok None (walking vs ss cs s made all) ]) ≡ ok (ite x (set_at ss i) None) (walking vs ss cs s made all)
         go true = refl
         go false = refl
 
     place_shut : (p : Place) (i : ℕ) (b : Bool) → p.identifier ≡ i → b ≡ freezes vs ss i → b ≡ false → enter_place F reason p (walking vs ss cs s made all) ≡ answer 0 tt (walking vs ss cs s made all)
     unfolding enter_place
     place_shut p i b q e h =
-        bind_ok _ _ _ _ _ _ (ap (λ (x : ℕ). to_freeze x (walking vs ss cs s made all)) q ∙ to_freeze_is i b e ∙ ap (λ (x : Bool). ok (ite x (set_at ss i) none) (walking vs ss cs s made all)) h)
-        (each_ends (freeze_and_enter F reason) (values_of none) (walking vs ss cs s made all) refl)
+        bind_ok _ _ _ _ _ _ (ap (λ (x : ℕ). to_freeze x (walking vs ss cs s made all)) q ∙ to_freeze_is i b e ∙ ap (λ (x : Bool). ok (ite x (set_at ss i) None) (walking vs ss cs s made all)) h)
+        (each_ends (freeze_and_enter F reason) (values_of None) (walking vs ss cs s made all) refl)
 
     place_opens : (p : Place) (i : ℕ) (b : Bool) → p.identifier ≡ i → b ≡ freezes vs ss i → b ≡ true → enter_place F reason p (walking vs ss cs s made all) ≡ each (values_of (set_at ss i)) (freeze_and_enter F reason) (walking vs ss cs s made all)
     unfolding enter_place
     place_opens p i b q e h =
-        bind_ok _ _ _ _ _ _ (ap (λ (x : ℕ). to_freeze x (walking vs ss cs s made all)) q ∙ to_freeze_is i b e ∙ ap (λ (x : Bool). ok (ite x (set_at ss i) none) (walking vs ss cs s made all)) h) refl
+        bind_ok _ _ _ _ _ _ (ap (λ (x : ℕ). to_freeze x (walking vs ss cs s made all)) q ∙ to_freeze_is i b e ∙ ap (λ (x : Bool). ok (ite x (set_at ss i) None) (walking vs ss cs s made all)) h) refl
 
     -- a value is frozen, then entered
     freezes_and_enters : (v : ℕ) (us : List ℕ) (x : Res (World lent) Done) → us ≡ frozen vs v reason → F v (walking us ss cs s made all) ≡ x → freeze_and_enter F reason v (walking vs ss cs s made all) ≡ x
@@ -125,21 +124,21 @@ unfolding freeze_function_captures_transitive
 depth_more ss cs s vs reason v made all d h = then_ok _ _ _ _ _ _ (count_one ss cs s vs made all h) refl
 
 -- the context that is looked at
-context_none : (F : ℕ → M (World lent) Done) (ss cs : List ℕ) (s : Still) (vs : List ℕ) (reason v made all : ℕ) → link_of cs v ≡ none
+context_none : (F : ℕ → M (World lent) Done) (ss cs : List ℕ) (s : Still) (vs : List ℕ) (reason v made all : ℕ) → link_of cs v ≡ None
     → enter_context F reason v (walking vs ss cs s made all) ≡ answer 0 tt (walking vs ss cs s made all)
 unfolding enter_context ask linked_context
 context_none F ss cs s vs reason v made all e =
     bind_ok _ _ _ _ _ _ refl
-    (ap (λ (o : Option ℕ). each (elim o as (λ x. List Place) [ none ↦ [] | some f ↦ function_context f (walking vs ss cs s made all).rest ]) (enter_place F reason) (walking vs ss cs s made all)) e
+    (ap (λ (o : Option ℕ). each (elim o as (λ x. List Place) [ None ↦ [] | Some f ↦ function_context f (walking vs ss cs s made all).rest ]) (enter_place F reason) (walking vs ss cs s made all)) e
     ∙ each_ends (enter_place F reason) [] (walking vs ss cs s made all) refl)
 
-context_some : (F : ℕ → M (World lent) Done) (ss cs : List ℕ) (s : Still) (vs : List ℕ) (reason v made all f n : ℕ) → link_of cs v ≡ some f → n ≡ field Layout.functions cs f 1
+context_some : (F : ℕ → M (World lent) Done) (ss cs : List ℕ) (s : Still) (vs : List ℕ) (reason v made all f n : ℕ) → link_of cs v ≡ Some f → n ≡ field Layout.functions cs f 1
     → enter_context F reason v (walking vs ss cs s made all) ≡ each (places_in Layout.contexts cs f 0 0 (n - 0)) (enter_place F reason) (walking vs ss cs s made all)
 unfolding enter_context ask linked_context function_context context_of
 context_some F ss cs s vs reason v made all f n e g =
     let z : n - 0 ≡ n = omega arith in
     bind_ok _ _ _ _ _ _ refl
-    (ap (λ (o : Option ℕ). each (elim o as (λ x. List Place) [ none ↦ [] | some f ↦ places_in Layout.contexts cs f 0 0 (field Layout.functions cs f 1) ]) (enter_place F reason) (walking vs ss cs s made all)) e
+    (ap (λ (o : Option ℕ). each (elim o as (λ x. List Place) [ None ↦ [] | Some f ↦ places_in Layout.contexts cs f 0 0 (field Layout.functions cs f 1) ]) (enter_place F reason) (walking vs ss cs s made all)) e
     ∙ ap (λ (m : ℕ). each (places_in Layout.contexts cs f 0 0 m) (enter_place F reason) (walking vs ss cs s made all)) (sym g ∙ sym z))
 
 -- a depth from the entries still allowed on is a successor while one is allowed
@@ -155,7 +154,7 @@ module _ (vs₀ ss cs : List ℕ) (reason v freeze entries : ℕ) where
 
   -- a value without a function: only the entry is counted
   -- "Each entry is counted, repeats too"
-  pub enters_plain : (made all : ℕ) (o : Option ℕ) → freeze < 4096 → made ≡ freeze + 1 → all ≡ one_more entries → o ≡ link_of cs v → o ≡ none → Enters vs₀ ss cs reason v freeze entries vs₀ 0 made all
+  pub enters_plain : (made all : ℕ) (o : Option ℕ) → freeze < 4096 → made ≡ freeze + 1 → all ≡ one_more entries → o ≡ link_of cs v → o ≡ None → Enters vs₀ ss cs reason v freeze entries vs₀ 0 made all
   enters_plain made all o h m a l n = record {
     grows = omega arith;
     equal = λ s d q. deeper (λ x. freeze_function_captures_transitive x reason v (walking vs₀ ss cs s freeze entries) ≡ answer 0 tt (walking vs₀ ss cs s made all)) freeze d h q (λ e r.
@@ -164,7 +163,7 @@ module _ (vs₀ ss cs : List ℕ) (reason v freeze entries : ℕ) where
   }
 
   -- the loop over the context begins
-  pub runs_start : (made all f n : ℕ) (o : Option ℕ) → freeze < 4096 → made ≡ freeze + 1 → all ≡ one_more entries → o ≡ link_of cs v → o ≡ some f → n ≡ field Layout.functions cs f 1 → Runs vs₀ ss cs reason v freeze entries f n 0 vs₀ made all
+  pub runs_start : (made all f n : ℕ) (o : Option ℕ) → freeze < 4096 → made ≡ freeze + 1 → all ≡ one_more entries → o ≡ link_of cs v → o ≡ Some f → n ≡ field Layout.functions cs f 1 → Runs vs₀ ss cs reason v freeze entries f n 0 vs₀ made all
   runs_start made all f n o h m a l e g = record {
     less = omega arith;
     room = h;

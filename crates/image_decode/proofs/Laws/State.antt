@@ -2,24 +2,13 @@
 use Rattle.std.specs.Prelude.{ℕ, ◌≤◌, ◌^◌, ◌%◌, ◌≡◌, refl, Bool, true, false, List, [], length}
 use Rattle.std.proofs.Common.{sym, ap, ap₂, ◌∙◌, subst, eq-eqb, ne_eqb}
 use Rattle.std.specs.Int.Bits.{bit_or, or_zero_l}
-use Rattle.def_kinds.specs.declared.ValueKind.{ValueKind}
-use Rattle.def_kinds.specs.Kinds.{kind_at}
-use Rattle.def_kinds.specs.Values.{mk}
-use Rattle.lent_values.specs.Cells.{put_value}
 use Rattle.lent_sets.specs.Rows.{number, row_number, set_at, put_set, add_set}
 use Rattle.base_sets.specs.Members.{bits_of}
 use Rattle.lent_sets.proofs.Laws.Row.{add_length, add_number, add_row}
 use Rattle.lent_sets.proofs.Laws.Code.{put_cut, add_none}
 use Rattle.def_image.specs.Layout.{cell}
 use Rattle.def_image.specs.Decode.{member_of}
-use Rattle.image_decode.specs.Decoded.{decoded_value, decoded_pair}
-
--- a value is put
--- its number, kind and reasons are the record's
-pub value_is : (im vs us : List ℕ) (k v x r w : ℕ) (kd : ValueKind) → v ≡ cell im 1 k 0 → x ≡ cell im 1 k 1 → kd ≡ kind_at x → r ≡ cell im 1 k 2 → w ≡ v → us ≡ put_value vs w (mk kd r) → us ≡ decoded_value im k vs
-unfolding decoded_value
-value_is im vs us k v x r w kd e f g h i j =
-    j ∙ ap₂ (λ (y : ℕ) (z : ValueKind). put_value vs y (mk z r)) (i ∙ e) (g ∙ ap kind_at f) ∙ ap (λ (y : ℕ). put_value vs (cell im 1 k 0) (mk (kind_at (cell im 1 k 1)) y)) h
+use Rattle.image_decode.specs.Decoded.{decoded_pair}
 
 -- value 0 is no member
 -- "value 0 .. means defined with an empty set"

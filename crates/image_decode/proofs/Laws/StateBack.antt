@@ -1,7 +1,6 @@
 -- What the decoded values and sets hold is what image `Decode` says: its tables of values and of sets. Assumes nothing.
-use Rattle.std.specs.Prelude.{ℕ, zero, suc, ◌+◌, ◌*◌, ◌-◌, ◌^◌, ◌%◌, ◌<◌, max, ◌≡◌, refl, Bool, true, false, List, length}
+use Rattle.std.specs.Prelude.{ℕ, zero, suc, ◌+◌, ◌*◌, ◌-◌, ◌^◌, ◌%◌, ◌<◌, max, ◌≡◌, refl, Bool, true, false, List, length, Option, None, Some}
 use Rattle.std.proofs.Common.{sym, ap, ap₂, ◌∙◌, subst, ⊎_elim, pow-suc, arith, lit<, eq-eqb, ne_eqb}
-use Rattle.std.proofs.Math.Option.{Option, none, some}
 use Rattle.std.specs.Int.Bits.{bit_or}
 use Rattle.std.proofs.lemmas.Nat.{or_lt}
 use Rattle.std.proofs.Math.Pow.{pow-lt}
@@ -44,7 +43,7 @@ at_other f i j x e = ap (λ (b : Bool). elim b [ true ↦ x | false ↦ f j ]) (
 -- ---- values
 
 -- zeros hold no value
-pub no_value : (m v : ℕ) → value_at (zeros m) v ≡ none
+pub no_value : (m v : ℕ) → value_at (zeros m) v ≡ None
 unfolding value_at cell_of
 no_value m v = ap cell_of (zero_word m v)
 
@@ -55,7 +54,7 @@ value_length im k vs = put_length vs (value_number im k) (mk (kind_at (value_kin
 
 -- the values of an image in range are read back as its table of values
 -- each number has a word, and reasons fit above a kind
-pub values_back : (im : Image) (vs : List ℕ) → ((x : ℕ) → value_at vs x ≡ none) → (n : ℕ) → ((k : ℕ) → k < n → (value_number im k < length vs) × (value_reasons im k < 4294967296))
+pub values_back : (im : Image) (vs : List ℕ) → ((x : ℕ) → value_at vs x ≡ None) → (n : ℕ) → ((k : ℕ) → k < n → (value_number im k < length vs) × (value_reasons im k < 4294967296))
     → (v : ℕ) → value_at (decoded_values im n vs) v ≡ value_table im n v
 unfolding decoded_values after value_table decoded_value
 values_back im vs z zero r v = z v
@@ -65,10 +64,10 @@ values_back im vs z (suc n) r v =
     ∙ value_same (after (decoded_value im) n vs) (value_number im n) a
     (subst (λ (m : ℕ). value_number im n < m) (sym (after_length (decoded_value im) (value_length im) n vs)) (r n (omega arith)).0)
     (r n (omega arith)).1
-    ∙ sym (at_same (value_table im n) (value_number im n) v (some a) e))
+    ∙ sym (at_same (value_table im n) (value_number im n) v (Some a) e))
     (λ d. value_other (after (decoded_value im) n vs) (value_number im n) a v d
     ∙ values_back im vs z n (λ k l. r k (omega arith)) v
-    ∙ sym (at_other (value_table im n) (value_number im n) v (some a) d))
+    ∙ sym (at_other (value_table im n) (value_number im n) v (Some a) d))
     (same_or_not (value_number im n) v)
   where
     a : AbstractValue
@@ -77,7 +76,7 @@ values_back im vs z (suc n) r v =
 -- ---- sets
 
 -- zeros hold no set
-pub no_set : (m i : ℕ) → set_at (zeros m) i ≡ none
+pub no_set : (m i : ℕ) → set_at (zeros m) i ≡ None
 unfolding set_at row_number number
 no_set m i = ap (λ (x : ℕ). marked (x % 2) x) (none_in 16 (i * 16))
   where
@@ -112,22 +111,22 @@ bits_even : (rs : List ℕ) (i : ℕ) → bits_of (set_at rs i) % 2 ≡ 0
 bits_even rs i = go (set_at rs i) refl
   where
     go : (o : Option ℕ) → set_at rs i ≡ o → bits_of o % 2 ≡ 0
-    go none e = refl
-    go (some s) e = sym (bit_low s) ∙ set_zero rs i s e
+    go None e = refl
+    go (Some s) e = sym (bit_low s) ∙ set_zero rs i s e
 
 -- the bits of a set, said twice
 same_bits : (o : Option ℕ) → bits_of o ≡ bits_of o
-same_bits none = refl
-same_bits (some s) = refl
+same_bits None = refl
+same_bits (Some s) = refl
 
 -- the union that a pair stores
-pair_stored : (n : ℕ) (rs : List ℕ) (i v : ℕ) → Fit n rs → i < n → v < 1024 → set_at (put_set rs i (bit_or (bits_of (set_at rs i)) (member_of v))) i ≡ some (bit_or (bits_of (set_at rs i)) (member_of v))
+pair_stored : (n : ℕ) (rs : List ℕ) (i v : ℕ) → Fit n rs → i < n → v < 1024 → set_at (put_set rs i (bit_or (bits_of (set_at rs i)) (member_of v))) i ≡ Some (bit_or (bits_of (set_at rs i)) (member_of v))
 pair_stored n rs i v f h l =
     let s : ℕ = bit_or (bits_of (set_at rs i)) (member_of v) in
     let a : bits_of (set_at rs i) % 2 ≡ 0 = bits_even rs i in
     let b : member_of v % 2 ≡ 0 = member_even v in
     let o : s % 2 ≡ max (bits_of (set_at rs i) % 2) (member_of v % 2) = or_odd (bits_of (set_at rs i)) (member_of v) in
-    set_same n rs i s f h (or_lt 1024 (bits_of (set_at rs i)) (member_of v) (bits_small rs i) (member_small v l)) ∙ ap some (let z : s - s % 2 ≡ s = omega arith in z)
+    set_same n rs i s f h (or_lt 1024 (bits_of (set_at rs i)) (member_of v) (bits_small rs i) (member_small v l)) ∙ ap Some (let z : s - s % 2 ≡ s = omega arith in z)
 
 -- a pair put keeps the length of the rows
 pair_fits : (im : Image) (m n : ℕ) (ss : List ℕ) → Fit m ss → Fit m (after (decoded_pair im) n ss)
@@ -142,11 +141,11 @@ pair_back im m n rs f h l before i =
     ⊎_elim
     (λ e. ap (set_at (put_set rs j (bit_or (bits_of (set_at rs j)) (member_of v)))) (sym e)
     ∙ pair_stored m rs j v f h l
-    ∙ ap (λ (x : ℕ). some (bit_or x (member_of v))) (same_bits (set_at rs j) ∙ ap bits_of (before j))
-    ∙ sym (at_same (set_table im n) j i (some (bit_or (bits_of (set_table im n j)) (member_of v))) e))
+    ∙ ap (λ (x : ℕ). Some (bit_or x (member_of v))) (same_bits (set_at rs j) ∙ ap bits_of (before j))
+    ∙ sym (at_same (set_table im n) j i (Some (bit_or (bits_of (set_table im n j)) (member_of v))) e))
     (λ d. set_other rs j (bit_or (bits_of (set_at rs j)) (member_of v)) i d
     ∙ before i
-    ∙ sym (at_other (set_table im n) j i (some (bit_or (bits_of (set_table im n j)) (member_of v))) d))
+    ∙ sym (at_other (set_table im n) j i (Some (bit_or (bits_of (set_table im n j)) (member_of v))) d))
     (same_or_not j i)
   where
     j : ℕ
@@ -156,7 +155,7 @@ pair_back im m n rs f h l before i =
     v = pair_value im n
 
 -- the pairs of an image in range are read back as its table of sets
-pub sets_back : (im : Image) (m : ℕ) (ss : List ℕ) → Fit m ss → ((x : ℕ) → set_at ss x ≡ none) → (n : ℕ) → ((k : ℕ) → k < n → (pair_identifier im k < m) × (pair_value im k < 1024))
+pub sets_back : (im : Image) (m : ℕ) (ss : List ℕ) → Fit m ss → ((x : ℕ) → set_at ss x ≡ None) → (n : ℕ) → ((k : ℕ) → k < n → (pair_identifier im k < m) × (pair_value im k < 1024))
     → (i : ℕ) → set_at (decoded_sets im n ss) i ≡ set_table im n i
 unfolding decoded_sets after set_table
 sets_back im m ss f z zero r i = z i

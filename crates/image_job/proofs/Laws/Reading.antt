@@ -8,23 +8,14 @@ use Rattle.std.proofs.lemmas.Bool.{not-false}
 use Rattle.base_tests.specs.Tests.{ite}
 use Rattle.base_tests.proofs.Laws.Choice.{ite_eq, ite_ne}
 use Rattle.lent_copies.specs.Copies.{zeros}
-use Rattle.def_effects.specs.declared.Place.{Place}
 use Rattle.base_tests.proofs.Laws.Bool.{or_no_first, or_no_second}
-use Rattle.def_image.specs.Layout.{wrong_length, words_of, word, values, pairs, candidates, count_of}
+use Rattle.def_image.specs.Layout.{wrong_length, words_of, values, pairs, candidates, count_of}
 use Rattle.def_image.specs.Refusals.{refusal_of_words, refusal_of}
-use Rattle.def_image.specs.Decode.{place_at}
 use Rattle.image_words.specs.Loaded.{loaded}
 use Rattle.image_words.proofs.Laws.Load.{loaded_whole}
 use Rattle.image_decode.specs.Decoded.{decoded_values, decoded_sets, decoded_context, decoded_candidates}
 use Rattle.image_job.specs.declared.Job.{Job}
 use Rattle.image_job.specs.Reading.{Tables, tables, Read, given, job_of, filled, no_job, refused_with, read_words, lent_wrong, read_class, read_image}
-
--- ---- the job
-
--- the words of the header and the place of the lvalue, read one after the other
-pub job_is : (im : List ℕ) (n l o i c : ℕ) (p : Place) → n ≡ word im 2 → l ≡ word im 3 → p ≡ place_at im l → o ≡ word im 4 → i ≡ count_of im 0 → c ≡ count_of im 5 → ◌≡◌ {A = Job} (record { refusal = 0; session = record { next = n; access = 0; span = record { start = 4294967295; end = 4294967295 }; entries = 0 }; lvalue = p; own = o; identifiers = i; candidates = c }) (job_of im)
-unfolding job_of
-job_is im n l o i c p hn hl hp ho hi hc = cc
 
 -- ---- the words of an image
 
@@ -60,36 +51,6 @@ wrong_here m n rest h = sym (ap (λ (b : Bool). not b || rest) (ne_eqb m n h))
 -- a length that is
 pub right_here : (m n : ℕ) (rest : Bool) → m ≡ n → rest ≡ (not (eqb m n) || rest)
 right_here m n rest h = sym (ap (λ (b : Bool). not b || rest) (eq-eqb m n h))
-
--- the five lengths, tested one after the other
--- one law for each way through `lent_wrong`
-module _ (w v s c x : ℕ) where
-  -- scratch for the words has another length
-  -- nothing else is looked at
-  pub wrong_words : (w ≡ 16384 → ⊥) → true ≡ lent_wrong w v s c x
-  unfolding lent_wrong
-  wrong_words h = wrong_here w 16384 _ h
-
-  -- the values have
-  pub wrong_values : w ≡ 16384 → (v ≡ 1024 → ⊥) → true ≡ lent_wrong w v s c x
-  unfolding lent_wrong
-  wrong_values g h = wrong_here v 1024 _ h ∙ right_here w 16384 _ g
-
-  -- the sets have
-  pub wrong_sets : w ≡ 16384 → v ≡ 1024 → (s ≡ 8192 → ⊥) → true ≡ lent_wrong w v s c x
-  unfolding lent_wrong
-  wrong_sets f g h = wrong_here s 8192 _ h ∙ right_here v 1024 _ g ∙ right_here w 16384 _ f
-
-  -- the context has
-  pub wrong_context_is : w ≡ 16384 → v ≡ 1024 → s ≡ 8192 → (c ≡ 238534 → ⊥) → true ≡ lent_wrong w v s c x
-  unfolding lent_wrong
-  wrong_context_is e f g h = wrong_here c 238534 _ h ∙ right_here s 8192 _ g ∙ right_here v 1024 _ f ∙ right_here w 16384 _ e
-
-  -- the candidates decide
-  -- all else is right
-  pub wrong_candidates : w ≡ 16384 → v ≡ 1024 → s ≡ 8192 → c ≡ 238534 → not (eqb x 6272) ≡ lent_wrong w v s c x
-  unfolding lent_wrong
-  wrong_candidates d e f g = right_here c 238534 _ g ∙ right_here s 8192 _ f ∙ right_here v 1024 _ e ∙ right_here w 16384 _ d
 
 -- ---- the bytes of an image
 

@@ -1,8 +1,8 @@
-use Rattle.image_pieces.proofs.Laws.Suffices.{refusal_suffices}
 use native.Mathlib.Omega.{arith}
-use Rattle.image_text.proofs.Laws.Lines.{refusal_is}
+use Rattle.def_image.specs.Listing.{ascii, refusal_line}
+use Rattle.image_pieces.proofs.Laws.Suffices.{refusal_suffices}
 use Rattle.image_lines.proofs.put_refusal.Goals as goal
 
 pub returns : goal.returns
-returns c =
-    record { bytes = refusal_is _ _ _ _ _ c.put_refused-a.ensures c.put_number-b.ensures c.put_newline.ensures; suffices = refusal_suffices _ (omega arith) }
+unfolding ascii refusal_line
+returns c = record { bytes = c.put_line.ensures; suffices = refusal_suffices _ (omega arith) }

@@ -9,4 +9,4 @@ returns-then-not-is_defined c = record { bytes = set_absent _ _ _ (sym c.is_defi
 
 pub returns : goal.returns
 returns c =
-    record { bytes = set_is _ _ _ _ _ _ _ (sym c.is_defined.ensures ∙ c.if-not-is_defined.false) c.put_byte-p.ensures c.put_number-a.ensures c.put_members-b.ensures c.put_newline.ensures; suffices = set_suffices _ _ _ (omega arith) refl }
+    record { bytes = set_is _ _ _ _ _ _ _ (sym c.is_defined.ensures ∙ c.if-not-is_defined.false) c.put_text-p.ensures c.put_number-a.ensures c.put_members-b.ensures c.put_newline.ensures; suffices = set_suffices _ _ _ (omega arith) refl }

@@ -1,11 +1,16 @@
+-- `image_lines::put_value_line` meets its contract: a value that has an entry has a line. Assumes nothing.
 use mathlib.Core.Path.{ap, ◌∙◌}
-use Rattle.lent_values.specs.Cells.{value_at}
+use mathlib.Core.List.{[], ◌∷◌}
+use Rattle.std.specs.Prelude.{Some}
+use Rattle.def_image.specs.Listing.{ascii, line, value_line}
+use Rattle.image_text.specs.Texts.{cursor, put_all}
 use Rattle.image_text.proofs.Laws.Lines.{value_absent, value_present}
 use Rattle.image_lines.proofs.put_value_line.Goals as goal
 
-pub returns-in-Absent : goal.returns-in-Absent
-returns-in-Absent c = value_absent _ _ _ _ (c.value_at.ensures ∙ ap (value_at _) c.wide32.ensures) c.in-Absent.is
+pub returns-in-None : goal.returns-in-None
+returns-in-None c = value_absent _ _ _ _ c.value_at.ensures c.in-None.is
 
-pub returns-in-Present : goal.returns-in-Present
-returns-in-Present c =
-    value_present _ _ _ _ _ _ (c.value_at.ensures ∙ ap (value_at _) c.wide32.ensures) c.in-Present.is c.put_value.ensures
+pub returns-in-Some : goal.returns-in-Some
+unfolding ascii value_line
+returns-in-Some c =
+    value_present _ _ _ _ _ _ c.value_at.ensures c.in-Some.is (c.put_line.ensures ∙ ap (λ k. put_all (line (ascii "V") (Some c.args.v ∷ Some k ∷ Some c.in-Some.a.reason ∷ [])) (cursor c.args.at c.args.buffer.now)) c.kind_word.ensures)

@@ -8,6 +8,3 @@ use Rattle.image_listing.proofs.put_effects.Given as goal
 
 abbrev pub invariant-loop-k : goal.invariant-loop-k
 invariant-loop-k l = (length l.buffer ≡ length l.initial.buffer) × (put_all (lines_from (l.to - l.k) l.k (effect_line l.output l.count)) (cursor l.next l.buffer) ≡ put_all (lines_from (l.to - l.initial.k) l.initial.k (effect_line l.output l.count)) (cursor l.initial.next l.initial.buffer))
-
-abbrev pub decreases-loop-k : goal.decreases-loop-k
-decreases-loop-k l = l.to - l.k

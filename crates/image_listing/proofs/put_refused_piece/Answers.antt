@@ -5,5 +5,5 @@ use Rattle.image_listing.proofs.put_refused_piece.Goals as goal
 pub returns-then-k-eq0 : goal.returns-then-k-eq0
 returns-then-k-eq0 c = as_text (refused_line _ _ c.if-k-eq0.true) c.put_refusal.ensures
 
-pub returns : goal.returns
-returns c = as_text (refused_past _ _ c.if-k-eq0.false) (no_text _)
+pub returns-else-k-eq0 : goal.returns-else-k-eq0
+returns-else-k-eq0 c = as_text (refused_past _ _ c.if-k-eq0.false) (no_text _)

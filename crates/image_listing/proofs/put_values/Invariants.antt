@@ -8,6 +8,3 @@ use Rattle.image_listing.proofs.put_values.Given as goal
 
 abbrev pub invariant-loop-v : goal.invariant-loop-v
 invariant-loop-v l = (length l.buffer ≡ length l.initial.buffer) × (put_all (lines_from (l.to - l.v) l.v (λ k. value_line k (value_at l.values k))) (cursor l.next l.buffer) ≡ put_all (lines_from (l.to - l.initial.v) l.initial.v (λ k. value_line k (value_at l.values k))) (cursor l.initial.next l.initial.buffer))
-
-abbrev pub decreases-loop-v : goal.decreases-loop-v
-decreases-loop-v l = l.to - l.v

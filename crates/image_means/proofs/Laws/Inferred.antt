@@ -2,12 +2,11 @@
 use Prim.Native.Nat.{ℕ, zero, suc, ◌+◌, ◌*◌, ◌/◌, ◌%◌, ◌≤◌, ◌<◌}
 use Rattle.std.proofs.Common.{eq-or-lt_of_le, ◌∙◌, eq-eqb, ne_eqb, lt-ltb, le-ltb}
 use native.Mathlib.Omega.{arith}
-use Rattle.std.specs.Prelude.{◌≡◌, Bool, ◌&&◌}
+use Rattle.std.specs.Prelude.{◌≡◌, Bool, ◌&&◌, Option, None, Some}
 use Rattle.std.proofs.Math.Path.{refl, sym, ap, ap₂, subst, fun_ext}
 use Rattle.std.proofs.Math.Bool.{true, false, not}
 use Rattle.std.proofs.Math.Logic.{⊎_elim}
 use mathlib.Core.List.{List, ◌∷◌}
-use Rattle.std.proofs.Math.Option.{Option, none, some}
 use lib.Dec.{eqb, ltb}
 use Rattle.std.proofs.Math.ListN.{length, get_or, get_or-eq_default}
 use Rattle.std.proofs.Math.Seq.{get_or-take}
@@ -99,17 +98,17 @@ module _ (im : Image) (ok : refusal_of_words im ≡ 0) where
   number_past zero l a h = refl
   number_past (suc k) l a h = ap₂ (λ (x y : ℕ). x * 18446744073709551616 + y % 18446744073709551616) (number_past k l (suc a) (omega arith)) (get_or-eq_default l 0 {n = a} h)
 
-  set_past : (i : ℕ) → count_of im identifiers ≤ i → set_at (lent_sets im) i ≡ none
+  set_past : (i : ℕ) → count_of im identifiers ≤ i → set_at (lent_sets im) i ≡ None
   unfolding set_at row_number
   set_past i h = ap (λ (x : ℕ). marked (x % 2) x) (number_past 16 (lent_sets im) (i * 16) (let z = sets_length im ok in omega arith))
 
-  table_past : (m i : ℕ) → m ≤ count_of im pairs → count_of im identifiers ≤ i → set_table im m i ≡ none
+  table_past : (m i : ℕ) → m ≤ count_of im pairs → count_of im identifiers ≤ i → set_table im m i ≡ None
   unfolding set_table with_pair at
   table_past zero i l h = refl
   table_past (suc m) i l h =
       let r = pair_range im ok m (omega arith) in
       let a = r.0 in
-      ap (λ (b : Bool). elim b as (λ _. Option ℕ) [ true ↦ some (union (bits_of (set_table im m (pair_identifier im m))) (member_of (pair_value im m))) | false ↦ set_table im m i ]) (ne_eqb (pair_identifier im m) i (λ e. omega arith)) ∙ table_past m i (omega arith) h
+      ap (λ (b : Bool). elim b as (λ _. Option ℕ) [ true ↦ Some (union (bits_of (set_table im m (pair_identifier im m))) (member_of (pair_value im m))) | false ↦ set_table im m i ]) (ne_eqb (pair_identifier im m) i (λ e. omega arith)) ∙ table_past m i (omega arith) h
 
   sets_is : set_at (lent_sets im) ≡ set_table im (count_of im pairs)
   sets_is = fun_ext (λ i. ⊎_elim (λ l. set_kept im ok i l ∙ rows_is i) (λ l. set_past i l ∙ sym (table_past (count_of im pairs) i (omega arith) l)) (lt_or_ge i (count_of im identifiers)))
@@ -267,8 +266,8 @@ module _ (im : Image) (small : (i : ℕ) → word im i < 4294967296) (good : ref
   unfolding world_of transitive effects_in Lent.diagnostics_in key_in option_in Lent.interned_count Lent.instance_count
   context_is = λ j. record {
     interned = effects_in Layout.interned c 0 (none_interned im j);
-    cached = fun_ext {f = key_in Layout.cached c} {g = λ v. none} (λ v. ap (λ (x : ℕ). ite (eqb x 0) none (some (key_head_in Layout.cached c v (numbers_in Layout.cached c v 12 1 0 (field Layout.cached c v 11))))) (far_zero im Layout.cached (omega arith) v 0)) j;
-    links = fun_ext {f = λ v. option_in Layout.links c v 0} {g = λ v. none} (λ v. ap (λ (x : ℕ). ite (eqb x 0) none (some (field Layout.links c v 1))) (far_zero im Layout.links (omega arith) v 0)) j;
+    cached = fun_ext {f = key_in Layout.cached c} {g = λ v. None} (λ v. ap (λ (x : ℕ). ite (eqb x 0) None (Some (key_head_in Layout.cached c v (numbers_in Layout.cached c v 12 1 0 (field Layout.cached c v 11))))) (far_zero im Layout.cached (omega arith) v 0)) j;
+    links = fun_ext {f = λ v. option_in Layout.links c v 0} {g = λ v. None} (λ v. ap (λ (x : ℕ). ite (eqb x 0) None (Some (field Layout.links c v 1))) (far_zero im Layout.links (omega arith) v 0)) j;
     functions = functions_is j;
     identifiers = identifiers_is j;
     transitive = not (eqb (options_back im (zeros 238534) (let z = long in omega arith) j) 0);

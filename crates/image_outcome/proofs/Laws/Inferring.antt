@@ -17,7 +17,7 @@ use Rattle.lent_copies.specs.Copies.{zeros}
 use Rattle.def_image.specs.Layout.{Image, wrong_length, words_of, count_of, identifiers, candidates, functions}
 use Rattle.def_image.specs.Refusals.{earns_two, wrong_header, wrong_edition, too_many_records, refusal_of_words, refusal_of}
 use Rattle.image_job.specs.declared.Job.{Job}
-use Rattle.call_outcome.specs.declared.Applied.{Applied}
+use Rattle.call_outcome.specs.Calls.{Answered}
 use Rattle.def_effects.specs.declared.Place.{Place}
 use Rattle.def_effects.specs.declared.Session.{Session}
 use Rattle.def_transfer.specs.Monad.{and_then, ◌>>=◌, ◌>>◌, atomically, Res, ok, refused, Done}
@@ -41,12 +41,12 @@ use Rattle.image_outcome.specs.Inferring.{empty, set_words, candidate_words, job
 
 -- what is shown of a call that is refused
 -- one way through `shown_of`
-pub answered_refused : (a : Applied) (r : Shown) → (a.refusal ≡ 0 → ⊥) → r ≡ refused_as a.refusal → r ≡ answered a
+pub answered_refused : (a : Answered) (r : Shown) → (a.refusal ≡ 0 → ⊥) → r ≡ refused_as a.refusal → r ≡ answered a
 unfolding answered
 answered_refused a r h e = e ∙ sym (ite_ne a.refusal 0 _ _ h)
 
 -- and of one that is not
-pub answered_ran : (a : Applied) → a.refusal ≡ 0 → record { refusal = 0; count = a.count; entries = a.entries; access = a.session.access } ≡ answered a
+pub answered_ran : (a : Answered) → a.refusal ≡ 0 → record { refusal = 0; count = a.count; entries = a.entries; access = a.session.access } ≡ answered a
 unfolding answered
 answered_ran a h = sym (ite_eq a.refusal 0 _ _ h)
 
@@ -160,7 +160,7 @@ rest_cleared ss us m k l =
 
 -- what is left after the call, and after the rest of the rows is cleared
 -- the way through `run_tables`
-pub runs_job : (vs ss cs xs : List ℕ) (j : Job) (os s64 s32 : List ℕ) (m n e : ℕ) (a : Applied) (r : Shown) (ws us ds ps t64 t32 ts : List ℕ) → m ≡ set_words j → n ≡ candidate_words j → e ≡ 1024 + m → m ≤ length ss → e ≤ length s64 → length os ≡ Layout.output_words → length s32 ≡ Layout.saved_words
+pub runs_job : (vs ss cs xs : List ℕ) (j : Job) (os s64 s32 : List ℕ) (m n e : ℕ) (a : Answered) (r : Shown) (ws us ds ps t64 t32 ts : List ℕ) → m ≡ set_words j → n ≡ candidate_words j → e ≡ 1024 + m → m ≤ length ss → e ≤ length s64 → length os ≡ Layout.output_words → length s32 ≡ Layout.saved_words
     → given a ws us ds ps t64 t32 ≡ outcome (call vs (take m ss) false cs j.session (take n xs) j.lvalue j.own os (take e s64) s32)
     → length us ≡ length (take m ss)
     → (m ≤ length (us ++ drop m ss) → ts ≡ take m (us ++ drop m ss) ++ zeros (length (us ++ drop m ss) - m))

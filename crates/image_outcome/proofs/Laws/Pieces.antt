@@ -1,8 +1,7 @@
 -- The pieces of what the bytes of an image leave, one after the other, are the text that is inferred of them. Assumes nothing.
-use Rattle.std.specs.Prelude.{ℕ, zero, suc, ◌+◌, ◌-◌, ◌*◌, ◌%◌, ◌^◌, ◌≤◌, ◌≡◌, refl, Bool, true, false, List, [], ◌∷◌, ◌++◌, eqb, length, get_or}
+use Rattle.std.specs.Prelude.{ℕ, zero, suc, ◌+◌, ◌-◌, ◌*◌, ◌%◌, ◌^◌, ◌≤◌, ◌≡◌, refl, Bool, true, false, List, [], ◌∷◌, ◌++◌, eqb, length, get_or, Option}
 use Rattle.std.proofs.Common.{arith, sym, ap, ap₂, ◌∙◌, ⊎_elim}
 use Rattle.std.proofs.Math.Path.{fun_ext}
-use Rattle.std.proofs.Math.Option.{Option}
 use Rattle.base_tests.specs.Tests.{ite}
 use Rattle.base_tests.proofs.Laws.Order.{same_or_not}
 use Rattle.base_tests.proofs.Laws.Choice.{ite_eq, ite_ne}

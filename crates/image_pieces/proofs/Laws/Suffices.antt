@@ -1,7 +1,6 @@
 -- The buffer of a piece suffices for every piece, whatever the lent tables hold. Assumes nothing.
-use Rattle.std.specs.Prelude.{ℕ, zero, suc, ◌+◌, ◌-◌, ◌/◌, ◌%◌, ◌≤◌, ◌<◌, ◌≡◌, refl, Bool, true, false, List, [], ◌∷◌, eqb, ltb, length, get_or}
+use Rattle.std.specs.Prelude.{ℕ, zero, suc, ◌+◌, ◌-◌, ◌/◌, ◌%◌, ◌≤◌, ◌<◌, ◌≡◌, refl, Bool, true, false, List, [], ◌∷◌, eqb, ltb, length, get_or, Option, None, Some}
 use Rattle.std.proofs.Common.{arith, ap, lit<, length-append}
-use Rattle.std.proofs.Math.Option.{Option, none, some}
 use Rattle.std.proofs.lemmas.Nat.{ones-le}
 use Rattle.base_tests.specs.Tests.{ite, All}
 use Rattle.base_sets.specs.Members.{members}
@@ -16,7 +15,6 @@ use Rattle.lent_sets.proofs.Laws.Set.{members_count}
 use Rattle.lent_tables.specs.declared.Table.{Table}
 use Rattle.lent_tables.specs.Words.{within, index, field, place_in}
 use Rattle.lent_effects.specs.declared.AliasingEffect.{AliasingEffect as Head}
-use Rattle.lent_effects.specs.declared.AliasingEffect.TheVariants as Head
 use Rattle.lent_effects.specs.Records.{heads, head_in, effect_in, effect_with, counted_places, captures}
 use Rattle.def_kinds.specs.Values.{mk}
 use Rattle.def_image.specs.Listing.{ascii, decimal, shown, line, lines_from, mutation_reason, effect_row, value_line, set_line, shown_all, undefined_identifier, or_absent, refusal_line}
@@ -172,14 +170,14 @@ cell_small : (x : ℕ) (v : ℕ) → v < 4294967296 → length (value_line v (ce
 unfolding cell_of value_line ascii
 cell_small x v l = go (eqb (x % 8) 0)
   where
-    shows : (a : AbstractValue) → a.reason < 4294967296 → length (value_line v (some a)) ≤ 35
+    shows : (a : AbstractValue) → a.reason < 4294967296 → length (value_line v (Some a)) ≤ 35
     shows a h =
-        let e = line_length (ascii "V") (some v ∷ some (Kinds.code_of a.kind) ∷ some a.reason ∷ []) in
+        let e = line_length (ascii "V") (Some v ∷ Some (Kinds.code_of a.kind) ∷ Some a.reason ∷ []) in
         let k = code_lt a.kind in
-        let s = columns_small (some v ∷ some (Kinds.code_of a.kind) ∷ some a.reason ∷ []) (l, (omega arith, (h, tt))) in
+        let s = columns_small (Some v ∷ Some (Kinds.code_of a.kind) ∷ Some a.reason ∷ []) (l, (omega arith, (h, tt))) in
         omega arith
 
-    go : (b : Bool) → length (value_line v (elim b [ true ↦ none | false ↦ some (mk (Kinds.kind_at (x % 8 - 1)) (x / 8 % 4294967296)) ])) ≤ 35
+    go : (b : Bool) → length (value_line v (elim b [ true ↦ None | false ↦ Some (mk (Kinds.kind_at (x % 8 - 1)) (x / 8 % 4294967296)) ])) ≤ 35
     go true = omega arith
     go false = shows (mk (Kinds.kind_at (x % 8 - 1)) (x / 8 % 4294967296)) (omega arith)
 
@@ -195,11 +193,11 @@ values_suffice vs a b p q l =
 -- a letter, the identifier, and at most 1,024 values of five bytes
 pub set_suffices : (ss : List ℕ) (i : ℕ) (o : Option ℕ) → i < 4294967296 → set_at ss i ≡ o → length (set_line i o) ≤ piece_bytes
 unfolding set_line ascii shown_all shown
-set_suffices ss i none l h = omega arith
-set_suffices ss i (some s) l h =
-    let e = line_length (ascii "P") (some i ∷ or_absent (members s)) in
+set_suffices ss i None l h = omega arith
+set_suffices ss i (Some s) l h =
+    let e = line_length (ascii "P") (Some i ∷ or_absent (members s)) in
     let f = length-append (decimal i) (shown_all (or_absent (members s))) in
-    let d = shown_small (some i) l in
+    let d = shown_small (Some i) l in
     let m = ones-le 1024 s (set_fits ss i s h) in
     let n = members_count s in
     let a = absent_small (members s) (all_map (members s) (λ v p. p.1) (set_values ss i s h)) in
@@ -207,11 +205,11 @@ set_suffices ss i (some s) l h =
 
 -- ---- the first line, the last line, a refusal
 
-pub head_suffices : (n m : ℕ) → n < 4294967296 → m < 4294967296 → length (line (ascii "OK") (some n ∷ some m ∷ [])) ≤ piece_bytes
+pub head_suffices : (n m : ℕ) → n < 4294967296 → m < 4294967296 → length (line (ascii "OK") (Some n ∷ Some m ∷ [])) ≤ piece_bytes
 unfolding ascii
 head_suffices n m p q =
-    let e = line_length (ascii "OK") (some n ∷ some m ∷ []) in
-    let s = columns_small (some n ∷ some m ∷ []) (p, (q, tt)) in
+    let e = line_length (ascii "OK") (Some n ∷ Some m ∷ []) in
+    let s = columns_small (Some n ∷ Some m ∷ []) (p, (q, tt)) in
     omega arith
 
 -- an access is a word, so its identifier is one
@@ -229,6 +227,6 @@ end_suffices a h =
 pub refusal_suffices : (n : ℕ) → n < 4294967296 → length (refusal_line n) ≤ piece_bytes
 unfolding refusal_line ascii
 refusal_suffices n h =
-    let e = line_length (ascii "REFUSED") (some n ∷ []) in
-    let s = columns_small (some n ∷ []) (h, tt) in
+    let e = line_length (ascii "REFUSED") (Some n ∷ []) in
+    let s = columns_small (Some n ∷ []) (h, tt) in
     omega arith

@@ -1,9 +1,8 @@
 -- Which lines a piece has by its number, and what is written of it: one law for each way through the functions that write it. Assumes nothing.
-use Rattle.std.specs.Prelude.{ℕ, ◌+◌, ◌-◌, ◌*◌, ◌≤◌, ◌<◌, ◌≡◌, refl, List, [], ◌∷◌, ◌++◌, length, take, drop}
+use Rattle.std.specs.Prelude.{ℕ, ◌+◌, ◌-◌, ◌*◌, ◌≤◌, ◌<◌, ◌≡◌, refl, List, [], ◌∷◌, ◌++◌, length, take, drop, Option, Some}
 use native.Mathlib.Omega.{arith}
 use Rattle.std.proofs.Math.Path.{sym, ap}
 use Rattle.std.proofs.Common.{◌∙◌}
-use Rattle.std.proofs.Math.Option.{Option, some}
 use Rattle.std.proofs.Math.Seq.{take-append_seam}
 use Rattle.base_tests.proofs.Laws.Choice.{ite_lt, ite_ge, ite_eq, ite_ne}
 use Rattle.lent_values.specs.Cells.{value_at}
@@ -50,7 +49,7 @@ no_text c = record { bytes = refl; suffices = omega arith }
 
 module _ (s : Shown) (vs ss os : List ℕ) (k : ℕ) where
   -- the first line
-  pub listed_head : k ≡ 0 → line (ascii "OK") (some s.count ∷ some s.entries ∷ []) ≡ listed_piece s vs ss os k
+  pub listed_head : k ≡ 0 → line (ascii "OK") (Some s.count ∷ Some s.entries ∷ []) ≡ listed_piece s vs ss os k
   unfolding listed_piece
   listed_head h = sym (ite_eq k 0 _ _ h)
 

@@ -1,10 +1,9 @@
 -- The pieces, one after the other, are the listing. Assumes nothing.
-use Rattle.std.specs.Prelude.{ℕ, zero, suc, ◌+◌, ◌-◌, ◌*◌, ◌≤◌, ◌<◌, ◌≡◌, refl}
+use Rattle.std.specs.Prelude.{ℕ, zero, suc, ◌+◌, ◌-◌, ◌*◌, ◌≤◌, ◌<◌, ◌≡◌, refl, Some}
 use native.Mathlib.Omega.{arith}
 use Rattle.std.proofs.Common.{suc-mul, ◌∙◌, ⊎_elim}
 use Rattle.std.proofs.Math.Path.{sym, ap, ap₂}
 use mathlib.Core.List.{List, [], ◌∷◌, ◌++◌, append_assoc, append-nil}
-use Rattle.std.proofs.Math.Option.{some}
 use Rattle.base_tests.proofs.Laws.Order.{lt_or_ge}
 use Rattle.base_tests.proofs.Laws.Choice.{ite_lt, ite_ge, ite_eq, ite_ne}
 use Rattle.lent_values.specs.Cells.{value_at}
@@ -156,7 +155,7 @@ module _ (s : Shown) (vs ss os : List ℕ) where
       lines_same (piece s vs ss os) p 541 0 0 (λ i l. ite_eq s.refusal 0 _ _ r)
       ∙ parts
       ∙ ap₂ (λ (x y : List ℕ). x ++ y)
-      (sym (listed_head s vs ss os 0 refl) ∙ sym (ap (λ (n : ℕ). line (ascii "OK") (some n ∷ some s.entries ∷ [])) (effects_length os 0 s.count)))
+      (sym (listed_head s vs ss os 0 refl) ∙ sym (ap (λ (n : ℕ). line (ascii "OK") (Some n ∷ Some s.entries ∷ [])) (effects_length os 0 s.count)))
       (ap₂ (λ (x y : List ℕ). x ++ y) (runs_effects h)
       (ap₂ (λ (x y : List ℕ). x ++ y) runs_values (ap₂ (λ (x y : List ℕ). x ++ y) runs_sets (sym (listed_end s vs ss os 540 refl)))))
 

@@ -1,17 +1,20 @@
--- `image_read::read_image` meets its contract: one law for each of its three ways. Assumes nothing.
+-- `image_read::read_image` meets its contract: a law for each of its ways. Assumes nothing.
+use Rattle.lent_copies.proofs.Laws.Copy.{cleared}
 use Rattle.image_job.proofs.Laws.Reading.{read_lent, read_length, read_words_is, words_fit, whole_length}
 use mathlib.Core.Path.{sym, ap, ◌∙◌}
 use lib.Seq.{length-take-le}
 use Rattle.lent_copies.specs.Copies.{zeros}
 use Rattle.image_read.proofs.read_image.Goals as goal
+use Rattle.image_read.proofs.read_image.Goals.{then-lent_wrong-via-then-lent_wrong, then-lent_wrong-via-else-lent_wrong+then-length_wrong}
 
 pub returns-then-lent_wrong : goal.returns-then-lent_wrong
-returns-then-lent_wrong c =
-    (read_lent _ _ _ _ _ _ _ (sym c.if-lent_wrong.true ∙ c.lent_wrong.ensures) c.no_job.ensures, c.clear32.ensures)
-
-pub returns-then-length_wrong : goal.returns-then-length_wrong
-returns-then-length_wrong c =
-    (read_length _ _ _ _ _ _ _ (sym c.if-lent_wrong.false ∙ c.lent_wrong.ensures) (sym c.if-length_wrong.true ∙ c.length_wrong.ensures) c.no_job-then-length_wrong.ensures, c.clear32-then-length_wrong.ensures)
+returns-then-lent_wrong c = (
+  elim c.then-lent_wrong.branch [
+    | then-lent_wrong-via-then-lent_wrong w ↦ read_lent _ _ _ _ _ _ _ (sym w.if-lent_wrong.true ∙ c.lent_wrong.ensures) c.no_job.ensures
+    | then-lent_wrong-via-else-lent_wrong+then-length_wrong w ↦ read_length _ _ _ _ _ _ _ (sym w.if-lent_wrong.false ∙ c.lent_wrong.ensures) (sym w.if-length_wrong.true ∙ w.length_wrong.ensures) c.no_job.ensures
+  ],
+  cleared _ _ (c.fill.ensures.after (λ y h. h)),
+)
 
 pub slice_bounds-read_words-end : goal.slice_bounds-read_words-end
 slice_bounds-read_words-end c = words_fit _ _ _ _ _ _ (sym c.if-lent_wrong.false ∙ c.lent_wrong.ensures) (sym c.if-length_wrong.false ∙ c.length_wrong.ensures)
@@ -22,4 +25,4 @@ slice_bounds-read_words-end-2 c =
 
 pub returns : goal.returns
 returns c =
-    (read_words_is _ _ _ _ _ _ _ _ (sym c.if-lent_wrong.false ∙ c.lent_wrong.ensures) (sym c.if-length_wrong.false ∙ c.length_wrong.ensures) (length-take-le _ _ (words_fit _ _ _ _ _ _ (sym c.if-lent_wrong.false ∙ c.lent_wrong.ensures) (sym c.if-length_wrong.false ∙ c.length_wrong.ensures))) c.read_words-job.ensures, c.clear32-2.ensures ∙ ap zeros (whole_length c.read_words-job.new.words _ _ (words_fit _ _ _ _ _ _ (sym c.if-lent_wrong.false ∙ c.lent_wrong.ensures) (sym c.if-length_wrong.false ∙ c.length_wrong.ensures)) c.read_words-job.auto.words))
+    (read_words_is _ _ _ _ _ _ _ _ (sym c.if-lent_wrong.false ∙ c.lent_wrong.ensures) (sym c.if-length_wrong.false ∙ c.length_wrong.ensures) (length-take-le _ _ (words_fit _ _ _ _ _ _ (sym c.if-lent_wrong.false ∙ c.lent_wrong.ensures) (sym c.if-length_wrong.false ∙ c.length_wrong.ensures))) c.read_words-job.ensures, (cleared _ _ (c.fill-2.ensures.after (λ y h. h))) ∙ ap zeros (whole_length c.read_words-job.new.words _ _ (words_fit _ _ _ _ _ _ (sym c.if-lent_wrong.false ∙ c.lent_wrong.ensures) (sym c.if-length_wrong.false ∙ c.length_wrong.ensures)) c.read_words-job.auto.words))

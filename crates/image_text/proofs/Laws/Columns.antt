@@ -1,10 +1,6 @@
 -- One law for each way through the functions that write digits, columns and words. Assumes nothing.
-use Rattle.std.specs.Prelude.{ℕ, ◌+◌, ◌/◌, ◌%◌, ◌≤◌, ◌<◌, ◌≡◌, List, [], ◌∷◌}
+use Rattle.std.specs.Prelude.{ℕ, ◌+◌, ◌/◌, ◌%◌, ◌≤◌, ◌<◌, ◌≡◌, List, [], ◌∷◌, None, Some, Option}
 use Rattle.std.proofs.Common.{arith, sym, ap, ◌∙◌}
-use Rattle.std.proofs.Math.Option.{none, some}
-use Rattle.lent_keys.specs.declared.Found.{Found}
-use Rattle.lent_keys.specs.declared.Found.TheVariants.{Nowhere, At}
-use Rattle.lent_keys.specs.KeyRecords.{option_of}
 use Rattle.def_image.specs.Listing.{digit, decimal, shown}
 use Rattle.image_text.specs.Texts.{Cursor, put_all, column}
 use Rattle.image_text.proofs.Laws.Text.{then_put}
@@ -26,21 +22,15 @@ decimal_next n m x c d e h q p y r =
 
 -- a blank, then digits
 -- the way of `put_number`
-pub number_is : (n : ℕ) (c d e : Cursor) → d ≡ put_all (32 ∷ []) c → e ≡ put_all (decimal n) d → e ≡ put_all (column (some n)) c
+pub number_is : (n : ℕ) (c d e : Cursor) → d ≡ put_all (32 ∷ []) c → e ≡ put_all (decimal n) d → e ≡ put_all (column (Some n)) c
 unfolding column shown
 number_is n c d e p q = then_put (32 ∷ []) (decimal n) c d e p q
 
--- a blank, then a dash
--- the way of `put_absent`
-pub absent_is : (c d e : Cursor) → d ≡ put_all (32 ∷ []) c → e ≡ put_all (45 ∷ []) d → e ≡ put_all (column none) c
-unfolding column shown
-absent_is c d e p q = then_put (32 ∷ []) (45 ∷ []) c d e p q
-
 -- a column that is absent
 -- one way through `put_column`
-pub column_absent : (x : Found) (c d : Cursor) → x ≡ Nowhere → d ≡ put_all (column none) c → d ≡ put_all (column (option_of x)) c
-column_absent x c d e p = p ∙ sym (ap (λ (y : Found). put_all (column (option_of y)) c) e)
+pub column_absent : (x : Option ℕ) (c d : Cursor) → x ≡ None → d ≡ put_all (column None) c → d ≡ put_all (column x) c
+column_absent x c d e p = p ∙ sym (ap (λ (y : Option ℕ). put_all (column y) c) e)
 
 -- a column with a number
-pub column_present : (x : Found) (n : ℕ) (c d : Cursor) → x ≡ At n → d ≡ put_all (column (some n)) c → d ≡ put_all (column (option_of x)) c
-column_present x n c d e p = p ∙ sym (ap (λ (y : Found). put_all (column (option_of y)) c) e)
+pub column_present : (x : Option ℕ) (n : ℕ) (c d : Cursor) → x ≡ Some n → d ≡ put_all (column (Some n)) c → d ≡ put_all (column x) c
+column_present x n c d e p = p ∙ sym (ap (λ (y : Option ℕ). put_all (column y) c) e)

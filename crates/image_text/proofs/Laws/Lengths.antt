@@ -1,7 +1,6 @@
 -- How long the parts of a listing are. Assumes nothing.
-use Rattle.std.specs.Prelude.{ℕ, zero, suc, ◌+◌, ◌*◌, ◌/◌, ◌%◌, ◌≤◌, ◌<◌, ◌≡◌, List, [], ◌∷◌, map, length}
+use Rattle.std.specs.Prelude.{ℕ, zero, suc, ◌+◌, ◌*◌, ◌/◌, ◌%◌, ◌≤◌, ◌<◌, ◌≡◌, List, [], ◌∷◌, map, length, Option, None, Some}
 use Rattle.std.proofs.Common.{arith, suc-mul, ap, ⊎_elim, length-append}
-use Rattle.std.proofs.Math.Option.{Option, none, some}
 use Rattle.base_tests.specs.Tests.{All}
 use Rattle.base_tests.proofs.Laws.Order.{lt_or_ge}
 use Rattle.def_image.specs.Listing.{digit, decimal, shown, shown_all, line, lines_from, or_absent}
@@ -39,14 +38,14 @@ value_below v h = omega arith
 
 -- a number of 32 bits, or none
 abbrev pub Small : Option ℕ → Type 0
-Small none = Unit {0}
-Small (some n) = n < 4294967296
+Small None = Unit {0}
+Small (Some n) = n < 4294967296
 
 -- such a number has at most ten digits
 pub shown_small : (x : Option ℕ) → Small x → length (shown x) ≤ 10
 unfolding shown
-shown_small none h = omega arith
-shown_small (some n) h = digits 9 n (word_below n h)
+shown_small None h = omega arith
+shown_small (Some n) h = digits 9 n (word_below n h)
 
 -- the columns of a line, eleven bytes each, and its end
 pub columns_small : (xs : List (Option ℕ)) → All Small xs → length (shown_all xs) ≤ 11 * length xs + 1
@@ -59,13 +58,13 @@ columns_small (x ∷ xs) a =
     omega arith
 
 -- the values of a set, five bytes each, and the end of the line
-pub values_small : (l : List ℕ) → All (λ v. v < 1024) l → length (shown_all (map some l)) ≤ 5 * length l + 1
+pub values_small : (l : List ℕ) → All (λ v. v < 1024) l → length (shown_all (map Some l)) ≤ 5 * length l + 1
 unfolding shown_all shown
 values_small [] a = omega arith
 values_small (v ∷ l) a =
     let i = values_small l a.1 in
     let s = digits 3 v (value_below v a.0) in
-    let e = length-append (decimal v) (shown_all (map some l)) in
+    let e = length-append (decimal v) (shown_all (map Some l)) in
     omega arith
 
 -- the same with the dash of an empty set

@@ -1,20 +1,18 @@
 -- Laws of the loops that write lines, one for each way through them. Assumes nothing.
-use Rattle.std.specs.Prelude.{ℕ, zero, suc, ◌+◌, ◌-◌, ◌≤◌, ◌<◌, ◌≡◌, refl, true, false, length}
+use Rattle.std.specs.Prelude.{ℕ, zero, suc, ◌+◌, ◌-◌, ◌≤◌, ◌<◌, ◌≡◌, refl, true, false, length, Option, None, Some}
 use Rattle.std.proofs.Common.{arith, ◌∙◌}
 use Rattle.std.proofs.Math.Path.{sym, ap}
 use mathlib.Core.List.{List, [], ◌∷◌, map}
-use Rattle.std.proofs.Math.Option.{Option, none, some}
 use Rattle.base_sets.specs.Members.{members, bits_of, values_of}
 use Rattle.lent_sets.specs.Rows.{set_at, next_member, left}
 use Rattle.base_tests.specs.Tests.{is_some}
 use Rattle.lent_sets.proofs.Laws.Row.{Walk, walk_start, walk_step, walk_end, none_of}
 use Rattle.def_effects.specs.declared.Place.{Place}
 use Rattle.lent_effects.specs.declared.AliasingEffect.{AliasingEffect as Head}
-use Rattle.lent_effects.specs.declared.AliasingEffect.TheVariants as Head
 use Rattle.lent_effects.specs.Records.{effect_with}
 use Rattle.lent_context.specs.Lent.{effects_in}
-use Rattle.def_image.specs.Listing.{ascii, newline, shown, shown_all, line, lines_from, effect_row, mutation_reason, row, place, set_line, or_absent}
-use Rattle.image_text.specs.Texts.{Cursor, put_all, column, columns, head_line}
+use Rattle.def_image.specs.Listing.{ascii, newline, shown, shown_all, lines_from, effect_row, set_line, or_absent}
+use Rattle.image_text.specs.Texts.{Cursor, put_all, column, columns}
 use Rattle.image_text.proofs.Laws.Text.{put_append}
 use Rattle.image_text.proofs.Laws.Lines.{line_word, line_column}
 use Rattle.lent_layout.specs.Layout.{output}
@@ -64,19 +62,6 @@ not_shown (Head.MutateGlobal p d) cs = refl
 not_shown (Head.Impure p d) cs = refl
 not_shown (Head.Render p) cs = refl
 
--- a line of an effect by the row of its variant
--- each way through `put_effect` but one
-pub effect_is : (e h : Head) (xs : List (Option ℕ)) (c d : Cursor) → e ≡ h → xs ≡ effect_row (effect_with h []) → d ≡ put_all (line (ascii "E") xs) c → d ≡ put_all (head_line e) c
-unfolding head_line
-effect_is e h xs c d q r p =
-    p ∙ ap (λ (y : List (Option ℕ)). put_all (line (ascii "E") y) c) r ∙ sym (ap (λ (y : Head). put_all (head_line y) c) q)
-
--- a Mutate, whose reason may be none
-pub mutate_is : (e : Head) (p : Place) (r : ℕ) (o : Option ℕ) (c d : Cursor) → e ≡ Head.Mutate p r → o ≡ mutation_reason r → d ≡ put_all (line (ascii "E") (row 1 (place p) none none o none)) c → d ≡ put_all (head_line e) c
-unfolding effect_with
-mutate_is e p r o c d q m y =
-    effect_is e (Head.Mutate p r) (row 1 (place p) none none o none) c d q (ap (λ (x : Option ℕ). row 1 (place p) none none x none) m) y
-
 -- as many effects as the count says
 pub effects_length : (os : List ℕ) (k n : ℕ) → length (effects_in output os k n) ≡ n
 unfolding effects_in
@@ -94,46 +79,46 @@ shown_columns (x ∷ xs) c d e p q =
 
 -- the values of a set that is there
 values_of_is : (o : Option ℕ) → is_some o ≡ true → values_of o ≡ members (bits_of o)
-values_of_is none h = absurd (let z : ◌≡◌ {A = ℕ} 0 1 = cc in omega arith)
-values_of_is (some s) h = refl
+values_of_is None h = absurd (let z : ◌≡◌ {A = ℕ} 0 1 = cc in omega arith)
+values_of_is (Some s) h = refl
 
 module _ (ss : List ℕ) (i : ℕ) where
   -- an identifier that is not defined has no values
   -- one way through `put_members`
-  pub members_none : (c d : Cursor) → is_some (set_at ss i) ≡ false → d ≡ put_all (column none) c → d ≡ put_all (columns (or_absent (values_of (set_at ss i)))) c
+  pub members_none : (c d : Cursor) → is_some (set_at ss i) ≡ false → d ≡ put_all (column None) c → d ≡ put_all (columns (or_absent (values_of (set_at ss i)))) c
   unfolding columns column shown
   members_none c d h p = p ∙ sym (ap (λ (o : Option ℕ). put_all (columns (or_absent (values_of o))) c) (none_of (set_at ss i) h))
 
   -- nor has one whose set is empty
   -- "or `-` for an empty set"
-  pub members_empty : (u : ℕ) (c d : Cursor) → is_some (set_at ss i) ≡ true → u ≡ next_member ss i 1 → 1024 ≤ u → d ≡ put_all (column none) c → d ≡ put_all (columns (or_absent (values_of (set_at ss i)))) c
+  pub members_empty : (u : ℕ) (c d : Cursor) → is_some (set_at ss i) ≡ true → u ≡ next_member ss i 1 → 1024 ≤ u → d ≡ put_all (column None) c → d ≡ put_all (columns (or_absent (values_of (set_at ss i)))) c
   unfolding columns column shown
   members_empty u c d h e l p =
       let w = walk_start ss i u h e in
       p ∙ sym (ap (λ (m : List ℕ). put_all (columns (or_absent m)) c) (values_of_is (set_at ss i) h ∙ w.1 ∙ walk_end ss i _ u w.0 l))
 
   -- any other has them from the lowest on
-  pub members_start : (u : ℕ) (c : Cursor) → is_some (set_at ss i) ≡ true → u ≡ next_member ss i 1 → u < 1024 → put_all (columns (map some (left (bits_of (set_at ss i)) u))) c ≡ put_all (columns (or_absent (values_of (set_at ss i)))) c
+  pub members_start : (u : ℕ) (c : Cursor) → is_some (set_at ss i) ≡ true → u ≡ next_member ss i 1 → u < 1024 → put_all (columns (map Some (left (bits_of (set_at ss i)) u))) c ≡ put_all (columns (or_absent (values_of (set_at ss i)))) c
   members_start u c h e l =
       let w = walk_start ss i u h e in
       let n = (walk_step ss i (bits_of (set_at ss i)) u (next_member ss i (u + 1)) w.0 l refl).2 in
-      ap (λ (m : List ℕ). put_all (columns (map some m)) c) n
+      ap (λ (m : List ℕ). put_all (columns (map Some m)) c) n
       ∙ sym (ap (λ (m : List ℕ). put_all (columns (or_absent m)) c) (values_of_is (set_at ss i) h ∙ w.1 ∙ n))
 
   -- one value more
-  pub members_step : (v u : ℕ) (z c d : Cursor) → Walk ss i (bits_of (set_at ss i)) v → v < 1024 → u ≡ next_member ss i (v + 1) → d ≡ put_all (column (some v)) c → put_all (columns (map some (left (bits_of (set_at ss i)) v))) c ≡ z → put_all (columns (map some (left (bits_of (set_at ss i)) u))) d ≡ z
+  pub members_step : (v u : ℕ) (z c d : Cursor) → Walk ss i (bits_of (set_at ss i)) v → v < 1024 → u ≡ next_member ss i (v + 1) → d ≡ put_all (column (Some v)) c → put_all (columns (map Some (left (bits_of (set_at ss i)) v))) c ≡ z → put_all (columns (map Some (left (bits_of (set_at ss i)) u))) d ≡ z
   unfolding columns
   members_step v u z c d w l e p q =
-      let r = columns (map some (left (bits_of (set_at ss i)) u)) in
+      let r = columns (map Some (left (bits_of (set_at ss i)) u)) in
       ap (put_all r) p
-      ∙ sym (put_append (column (some v)) r c)
-      ∙ sym (ap (λ (m : List ℕ). put_all (columns (map some m)) c) (walk_step ss i (bits_of (set_at ss i)) v u w l e).2) ∙ q
+      ∙ sym (put_append (column (Some v)) r c)
+      ∙ sym (ap (λ (m : List ℕ). put_all (columns (map Some m)) c) (walk_step ss i (bits_of (set_at ss i)) v u w l e).2) ∙ q
 
   -- no value is left
   -- the loop's end
-  pub members_end : (v : ℕ) (z c : Cursor) → Walk ss i (bits_of (set_at ss i)) v → 1024 ≤ v → put_all (columns (map some (left (bits_of (set_at ss i)) v))) c ≡ z → c ≡ z
+  pub members_end : (v : ℕ) (z c : Cursor) → Walk ss i (bits_of (set_at ss i)) v → 1024 ≤ v → put_all (columns (map Some (left (bits_of (set_at ss i)) v))) c ≡ z → c ≡ z
   unfolding columns put_all
-  members_end v z c w l q = sym (ap (λ (m : List ℕ). put_all (columns (map some m)) c) (walk_end ss i (bits_of (set_at ss i)) v w l)) ∙ q
+  members_end v z c w l q = sym (ap (λ (m : List ℕ). put_all (columns (map Some m)) c) (walk_end ss i (bits_of (set_at ss i)) v w l)) ∙ q
 
 -- an identifier that is not defined has no line
 -- one way through `put_set_line`
@@ -142,8 +127,8 @@ unfolding set_line put_all
 set_absent i o c h = sym (ap (λ (x : Option ℕ). put_all (set_line i x) c) (none_of o h))
 
 -- any other has one
-pub set_is : (i : ℕ) (o : Option ℕ) (c c0 c1 c2 e : Cursor) → is_some o ≡ true → c0 ≡ put_all (80 ∷ []) c → c1 ≡ put_all (column (some i)) c0 → c2 ≡ put_all (columns (or_absent (values_of o))) c1 → e ≡ put_all (newline ∷ []) c2 → e ≡ put_all (set_line i o) c
+pub set_is : (i : ℕ) (o : Option ℕ) (c c0 c1 c2 e : Cursor) → is_some o ≡ true → c0 ≡ put_all (80 ∷ []) c → c1 ≡ put_all (column (Some i)) c0 → c2 ≡ put_all (columns (or_absent (values_of o))) c1 → e ≡ put_all (newline ∷ []) c2 → e ≡ put_all (set_line i o) c
 unfolding set_line ascii
-set_is i none c c0 c1 c2 e h p0 p1 p2 p3 = absurd (let z : ◌≡◌ {A = ℕ} 0 1 = cc in omega arith)
-set_is i (some s) c c0 c1 c2 e h p0 p1 p2 p3 =
-    line_word (ascii "P") (some i ∷ or_absent (members s)) c c0 e p0 (line_column (some i) (or_absent (members s)) c0 c1 e p1 (shown_columns (or_absent (members s)) c1 c2 e p2 p3))
+set_is i None c c0 c1 c2 e h p0 p1 p2 p3 = absurd (let z : ◌≡◌ {A = ℕ} 0 1 = cc in omega arith)
+set_is i (Some s) c c0 c1 c2 e h p0 p1 p2 p3 =
+    line_word (ascii "P") (Some i ∷ or_absent (members s)) c c0 e p0 (line_column (Some i) (or_absent (members s)) c0 c1 e p1 (shown_columns (or_absent (members s)) c1 c2 e p2 p3))

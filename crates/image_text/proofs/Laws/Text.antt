@@ -1,6 +1,7 @@
 -- Laws of a text in a buffer: a text after a text, and what stands in the buffer where it fits. Assumes nothing.
-use Rattle.std.specs.Prelude.{ℕ, suc, ◌+◌, ◌≤◌, ◌<◌, ◌≡◌, refl, List, [], ◌∷◌, ◌++◌, length, set, take, drop}
-use Rattle.std.proofs.Common.{arith, sym, ap, ◌∙◌, length-set}
+use Rattle.std.specs.Prelude.{ℕ, suc, ◌+◌, ◌≤◌, ◌<◌, ◌≡◌, refl, List, [], ◌∷◌, ◌++◌, length, set, take, drop, get_or}
+use Rattle.std.proofs.Common.{arith, sym, ap, ◌∙◌, length-set, drop-cons}
+use Rattle.std.proofs.Math.ListN.{drop_of_length-le}
 use Rattle.std.proofs.lemmas.List.Edits.{sets, sets-eq}
 use Rattle.base_tests.proofs.Laws.Choice.{ite_lt, ite_ge}
 use Rattle.image_text.specs.Texts.{Cursor, cursor, put_byte, put_all}
@@ -43,3 +44,18 @@ put_sets (x ∷ xs) k bs h =
 -- a buffer that suffices holds the text and nothing else is changed
 pub put_fits : (xs : List ℕ) (k : ℕ) (bs : List ℕ) → k + length xs ≤ length bs → put_all xs (cursor k bs) ≡ cursor (k + length xs) (take k bs ++ xs ++ drop (k + length xs) bs)
 put_fits xs k bs h = put_sets xs k bs h ∙ ap (cursor (k + length xs)) (sets-eq xs bs k h)
+
+-- ---- a text that is written byte by byte
+
+-- one byte more
+pub text_step : (xs : List ℕ) (i : ℕ) (z c d : Cursor) → i < length xs → d ≡ put_all (get_or xs i 0 ∷ []) c → put_all (drop i xs) c ≡ z → put_all (drop (i + 1) xs) d ≡ z
+text_step xs i z c d h p e =
+    ap (put_all (drop (i + 1) xs)) p
+    ∙ ap (λ (n : ℕ). put_all (drop n xs) (put_all (get_or xs i 0 ∷ []) c)) (let m : i + 1 ≡ suc i = omega arith in m)
+    ∙ sym (put_append (get_or xs i 0 ∷ []) (drop (suc i) xs) c)
+    ∙ sym (ap (λ (l : List ℕ). put_all l c) (drop-cons xs i 0 h)) ∙ e
+
+-- no byte is left
+pub text_end : (xs : List ℕ) (i : ℕ) (z c : Cursor) → length xs ≤ i → put_all (drop i xs) c ≡ z → c ≡ z
+unfolding put_all
+text_end xs i z c h e = sym (ap (λ (l : List ℕ). put_all l c) (drop_of_length-le xs h)) ∙ e

@@ -1,6 +1,6 @@
 -- Laws by which the loop that loads the words meets its definition, and that it loads the image whole. Assumes nothing.
-use Rattle.std.specs.Prelude.{ℕ, zero, suc, ◌+◌, ◌/◌, ◌≤◌, ◌<◌, ◌≡◌, refl, List, [], ◌∷◌, length, get_or, set}
-use Rattle.std.proofs.Common.{arith, eq-or-lt_of_le, sym, ap, ◌∙◌, ⊎_elim, get_or-set_same, get_or-set_other, ext_get_or}
+use Rattle.std.specs.Prelude.{ℕ, zero, suc, ◌+◌, ◌/◌, ◌≤◌, ◌<◌, ◌≡◌, refl, List, [], ◌∷◌, length, get_or}
+use Rattle.std.proofs.Common.{arith, sym, ap, ◌∙◌, ext_get_or}
 use Rattle.def_image.specs.Layout.{words_of, word}
 use Rattle.def_image.specs.Decode.{list_from}
 use Rattle.image_words.specs.Loaded.{loaded}
@@ -21,15 +21,6 @@ from_at (suc n) k f (suc j) h = from_at n (suc k) f j (omega arith) ∙ ap f (le
 -- the same of a list from 0 on
 pub first_at : (n : ℕ) (f : ℕ → ℕ) (j : ℕ) → j < n → get_or (list_from n 0 f) j 0 ≡ f j
 first_at n f j h = from_at n 0 f j h ∙ ap f (let e : 0 + j ≡ j = omega arith in e)
-
--- one more word is loaded
-pub load_more : (bs vs us : List ℕ) (k x : ℕ) → x ≡ word (words_of bs) k → us ≡ set vs k x → k < length vs → ((j : ℕ) → j < k → get_or vs j 0 ≡ word (words_of bs) j) → (j : ℕ) → j < k + 1 → get_or us j 0 ≡ word (words_of bs) j
-load_more bs vs us k x w e l h j q =
-    ap (λ (y : List ℕ). get_or y j 0) e
-    ∙ ⊎_elim
-    (λ z. ap (λ (m : ℕ). get_or (set vs k x) m 0) z ∙ get_or-set_same vs k x 0 l ∙ w ∙ ap (word (words_of bs)) (sym z))
-    (λ z. get_or-set_other vs k j x 0 (λ y. omega arith) ∙ h j z)
-    (eq-or-lt_of_le (let y : j ≤ k = omega arith in y))
 
 -- all words are loaded
 -- the loop's end is the whole

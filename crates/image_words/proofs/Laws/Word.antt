@@ -1,29 +1,7 @@
--- The length of an image, and its words by their bytes: the ways through the code. Assumes nothing.
-use Rattle.std.specs.Prelude.{ℕ, zero, suc, ◌+◌, ◌*◌, ◌/◌, ◌%◌, ◌≤◌, ◌<◌, ◌≡◌, refl, Bool, true, not, ◌||◌, List, [], ◌∷◌, eqb, ltb, length, get_or}
-use Rattle.std.proofs.Common.{arith, sym, ap, ◌∙◌, lt-ltb, le-ltb}
-use Rattle.def_image.specs.Layout.{wrong_length, words_of, word}
-
--- ---- the length
-
--- "from 68"
--- too short is wrong, whatever else
-pub short : (bs : List ℕ) → length bs < 68 → true ≡ wrong_length bs
-unfolding wrong_length
-short bs h = sym (ap (λ (x : Bool). x || (ltb 65536 (length bs) || not (eqb (length bs % 4) 0))) (lt-ltb (length bs) 68 h))
-
--- "to 65,536 bytes"
-pub long : (bs : List ℕ) → 68 ≤ length bs → 65536 < length bs → true ≡ wrong_length bs
-unfolding wrong_length
-long bs g h =
-    sym (ap (λ (x : Bool). x || (ltb 65536 (length bs) || not (eqb (length bs % 4) 0))) (le-ltb (length bs) 68 g)
-    ∙ ap (λ (x : Bool). x || not (eqb (length bs % 4) 0)) (lt-ltb 65536 (length bs) h))
-
--- "and a multiple of 4 (else 1)"
-pub fourfold : (bs : List ℕ) → 68 ≤ length bs → length bs ≤ 65536 → not (eqb (length bs % 4) 0) ≡ wrong_length bs
-unfolding wrong_length
-fourfold bs g h =
-    sym (ap (λ (x : Bool). x || (ltb 65536 (length bs) || not (eqb (length bs % 4) 0))) (le-ltb (length bs) 68 g)
-    ∙ ap (λ (x : Bool). x || not (eqb (length bs % 4) 0)) (le-ltb 65536 (length bs) h))
+-- The words of an image by their bytes: the ways through the code. Assumes nothing.
+use Rattle.std.specs.Prelude.{ℕ, zero, suc, ◌+◌, ◌*◌, ◌/◌, ◌≤◌, ◌<◌, ◌≡◌, refl, List, [], ◌∷◌, length, get_or}
+use Rattle.std.proofs.Common.{arith, ◌∙◌}
+use Rattle.def_image.specs.Layout.{words_of, word}
 
 -- ---- a word
 
@@ -64,8 +42,3 @@ word_in (a ∷ b ∷ c ∷ d ∷ bs) zero h = refl
 word_in (a ∷ b ∷ c ∷ d ∷ bs) (suc k) h =
     four_past a b c d bs (4 * k) (4 * suc k) (omega arith)
     ∙ word_in bs k (let g : length (a ∷ b ∷ c ∷ d ∷ bs) ≡ suc (suc (suc (suc (length bs)))) = refl in omega arith)
-
--- the code's four bytes are that word
-pub word_is : (bs : List ℕ) (k a b c d r : ℕ) → k < length bs / 4 → a ≡ get_or bs (4 * k) 0 → b ≡ get_or bs (4 * k + 1) 0 → c ≡ get_or bs (4 * k + 2) 0 → d ≡ get_or bs (4 * k + 3) 0 → r ≡ a + 256 * (b + 256 * (c + 256 * d)) → r ≡ word (words_of bs) k
-unfolding four_at
-word_is bs k a b c d r h e f g i j = let w = word_in bs k h in cc

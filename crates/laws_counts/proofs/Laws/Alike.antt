@@ -1,10 +1,9 @@
 -- The text does the same over tables without limits: each function up to the parts of the step. Assumes nothing.
 use Prim.Native.Nat.{ℕ, zero, suc}
-use Rattle.std.specs.Prelude.{◌≡◌, Bool, true, false, ◌||◌, eqb}
+use Rattle.std.specs.Prelude.{◌≡◌, Bool, true, false, ◌||◌, eqb, Option, None, Some}
 use Rattle.std.proofs.Math.Path.{refl, ap}
 use Rattle.std.proofs.Common.{sym}
 use mathlib.Core.List.{List, [], ◌∷◌}
-use Rattle.std.proofs.Math.Option.{Option, none, some}
 use Rattle.def_kinds.specs.declared.AbstractValue.{AbstractValue}
 use Rattle.def_effects.specs.declared.Span.{Span}
 use Rattle.def_effects.specs.declared.Place.{Place}
@@ -95,15 +94,15 @@ module _ {T : Tables} where
   -- a value where none stands yet
   pub or_insert_same : (v : ℕ) (o : Option AbstractValue) → Same T (or_insert v o) (or_insert v o)
   unfolding or_insert
-  or_insert_same v none = search touching
-  or_insert_same v (some a) = search touching
+  or_insert_same v None = search touching
+  or_insert_same v (Some a) = search touching
 
   -- a place gets the values of another, by the other's set
   -- with none, the other's own value
   pub assign_set_same : (into from : ℕ) (o : Option ℕ) → Same T (assign_set into from o) (assign_set into from o)
   unfolding assign_set
-  assign_set_same into from (some s) = search touching
-  assign_set_same into from none = search (touching, or_insert_same, define_same)
+  assign_set_same into from (Some s) = search touching
+  assign_set_same into from None = search (touching, or_insert_same, define_same)
 
   -- a place gets the values of another
   -- the other's set is read first
@@ -136,8 +135,8 @@ module _ {T : Tables} where
   -- the effect found under a key, or the one given
   pub intern_new_same : (e : AliasingEffect) (o : Option AliasingEffect) → Same T (intern_new e o) (intern_new e o)
   unfolding intern_new
-  intern_new_same e (some x) = search touching
-  intern_new_same e none = search (touching, put_effect_same)
+  intern_new_same e (Some x) = search touching
+  intern_new_same e None = search (touching, put_effect_same)
 
   -- `intern_effect`
   pub intern_same : (e : AliasingEffect) → Same T (intern_effect e) (intern_effect e)
@@ -162,8 +161,8 @@ module _ {T : Tables} where
   -- the number found, or a fresh one
   pub or_fresh_same : (k : EffectKey) (o : Option ℕ) → Same T (or_fresh k o) (or_fresh k o)
   unfolding or_fresh
-  or_fresh_same k (some n) = search touching
-  or_fresh_same k none = search (touching, fresh_number_same, cache_same)
+  or_fresh_same k (Some n) = search touching
+  or_fresh_same k None = search (touching, fresh_number_same, cache_same)
 
   -- `get_or_create_value_id`
   pub number_for_same : (k : EffectKey) → Same T (get_or_create_value_id k) (get_or_create_value_id k)
@@ -188,14 +187,14 @@ module _ {T : Tables} where
   -- the identity found, or the next
   pub new_identity_same : (o : Option ℕ) → Same T (new_identity o) (new_identity o)
   unfolding new_identity
-  new_identity_same (some n) = search touching
-  new_identity_same none = search touching
+  new_identity_same (Some n) = search touching
+  new_identity_same None = search touching
 
   -- the instance found, or a new one
   pub new_instance_same : (n : ℕ) (d : Diagnostic) (o : Option ℕ) → Same T (new_instance n d o) (new_instance n d o)
   unfolding new_instance
-  new_instance_same n d (some m) = search touching
-  new_instance_same n d none = search (touching, put_diagnostic_same)
+  new_instance_same n d (Some m) = search touching
+  new_instance_same n d None = search (touching, put_diagnostic_same)
 
   -- `intern_aliasing_diagnostic`
   pub intern_diagnostic_same : (d : Diagnostic) → Same T (intern_diagnostic d) (intern_diagnostic d)

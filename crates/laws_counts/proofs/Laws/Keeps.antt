@@ -2,10 +2,9 @@
 -- stays in them, and in the freeze walk if it stays where an entry is counted. Assumes nothing.
 use Prim.Native.Nat.{ℕ, zero, suc}
 use native.Mathlib.Omega.{arith}
-use Rattle.std.specs.Prelude.{◌≡◌, true}
+use Rattle.std.specs.Prelude.{◌≡◌, true, Option, None, Some}
 use Rattle.std.proofs.Math.Path.{ap}
 use mathlib.Core.List.{List, [], ◌∷◌}
-use Rattle.std.proofs.Math.Option.{Option, none, some}
 use Rattle.def_kinds.specs.declared.AbstractValue.{AbstractValue}
 use Rattle.def_effects.specs.declared.Span.{Span}
 use Rattle.def_effects.specs.declared.Place.{Place}
@@ -89,15 +88,15 @@ module _ {T : Tables} {μ : Work T → ℕ} where
   -- a value where none stands yet
   pub or_insert_grows : {b : ℕ} (v : ℕ) (o : Option AbstractValue) → Grows μ b (or_insert {T = T} v o)
   unfolding or_insert
-  or_insert_grows v none = search base
-  or_insert_grows v (some a) = search base
+  or_insert_grows v None = search base
+  or_insert_grows v (Some a) = search base
 
   -- a place gets the values of another, by the other's set
   -- with none, the other's own value
   pub assign_set_grows : {b : ℕ} (into from : ℕ) (o : Option ℕ) → Grows μ b (assign_set {T = T} into from o)
   unfolding assign_set
-  assign_set_grows into from (some s) = search base
-  assign_set_grows into from none = search (base, or_insert_grows, define_grows)
+  assign_set_grows into from (Some s) = search base
+  assign_set_grows into from None = search (base, or_insert_grows, define_grows)
 
   -- a place gets the values of another
   -- the other's set is read first
@@ -131,8 +130,8 @@ module _ {T : Tables} {μ : Work T → ℕ} where
   -- refused 8 where there is no room
   pub intern_new_grows : {b : ℕ} (e : AliasingEffect) (o : Option AliasingEffect) → Grows μ b (intern_new {T = T} e o)
   unfolding intern_new
-  intern_new_grows e (some x) = search base
-  intern_new_grows e none = search (base, put_effect_grows)
+  intern_new_grows e (Some x) = search base
+  intern_new_grows e None = search (base, put_effect_grows)
 
   -- `intern_effect`
   pub intern_grows : {b : ℕ} (e : AliasingEffect) → Grows μ b (intern_effect {T = T} e)
@@ -158,8 +157,8 @@ module _ {T : Tables} {μ : Work T → ℕ} where
   -- the number found, or a fresh one
   pub or_fresh_grows : {b : ℕ} (k : EffectKey) (o : Option ℕ) → Grows μ b (or_fresh {T = T} k o)
   unfolding or_fresh
-  or_fresh_grows k (some n) = search base
-  or_fresh_grows k none = search (base, fresh_number_grows, cache_grows)
+  or_fresh_grows k (Some n) = search base
+  or_fresh_grows k None = search (base, fresh_number_grows, cache_grows)
 
   -- `get_or_create_value_id`
   pub number_for_grows : {b : ℕ} (k : EffectKey) → Grows μ b (get_or_create_value_id {T = T} k)
@@ -185,15 +184,15 @@ module _ {T : Tables} {μ : Work T → ℕ} where
   -- refused 10 where there is none
   pub new_identity_grows : {b : ℕ} (o : Option ℕ) → Grows μ b (new_identity {T = T} o)
   unfolding new_identity
-  new_identity_grows (some n) = search base
-  new_identity_grows none = search base
+  new_identity_grows (Some n) = search base
+  new_identity_grows None = search base
 
   -- the instance found, or a new one
   -- refused 10 where there is no room
   pub new_instance_grows : {b : ℕ} (n : ℕ) (d : Diagnostic) (o : Option ℕ) → Grows μ b (new_instance {T = T} n d o)
   unfolding new_instance
-  new_instance_grows n d (some m) = search base
-  new_instance_grows n d none = search (base, put_diagnostic_grows)
+  new_instance_grows n d (Some m) = search base
+  new_instance_grows n d None = search (base, put_diagnostic_grows)
 
   -- `intern_aliasing_diagnostic`
   pub intern_diagnostic_grows : {b : ℕ} (d : Diagnostic) → Grows μ b (intern_diagnostic {T = T} d)

@@ -2,9 +2,8 @@
 -- and no entry is lost. Assumes nothing.
 use Prim.Native.Nat.{ℕ, zero, suc, ◌+◌, ◌≤◌, ◌<◌}
 use Rattle.std.proofs.Common.{le_trans, zero-add, arith, sym, ap, ◌∙◌}
-use Rattle.std.specs.Prelude.{◌≡◌, refl, Bool, List, [], ◌∷◌, length}
+use Rattle.std.specs.Prelude.{◌≡◌, refl, Bool, List, [], ◌∷◌, length, Option, None, Some}
 use Rattle.std.proofs.Math.Bool.{true, false}
-use Rattle.std.proofs.Math.Option.{Option, none, some}
 use Rattle.base_tests.proofs.Laws.Choice.{ite_lt}
 use Rattle.def_kinds.specs.declared.ValueKind.{ValueKind}
 use Rattle.def_kinds.specs.declared.AbstractValue.{AbstractValue}
@@ -142,8 +141,8 @@ module _ {T : Tables} where
   -- the early errors of an instruction
   early_errors_same : (o : Option ℕ) → Same T (early_errors o) (early_errors o)
   unfolding early_errors
-  early_errors_same none = search touching
-  early_errors_same (some f) = search (touching, early_error_same) depth 12
+  early_errors_same None = search touching
+  early_errors_same (Some f) = search (touching, early_error_same) depth 12
 
   -- an undefined lvalue becomes defined
   define_lvalue_same : (i : ℕ) → Same T (define_lvalue i) (define_lvalue i)
@@ -274,8 +273,8 @@ unfolding mutated
 fits_freely ins c f = record { few = f.few; captures = f.captures; inside = go ins.own f.inside }
   where
     go : (o : Option ℕ) → mutated lent o c ≤ 32 → mutated (unlimited lent) o c ≤ 32
-    go none l = l
-    go (some g) l = l
+    go None l = l
+    go (Some g) l = l
 
 -- "The output list has 1,120 records (32 + 64 × 17, so it suffices)": over lent tables nothing is lost
 -- for every instruction of the document's sizes, refused or not; the session's entries are a word

@@ -1,11 +1,10 @@
 -- What an instruction lists and walks at the most, by its candidates' keys. Assumes nothing.
 use Prim.Native.Nat.{ℕ, zero, suc, ◌+◌, ◌*◌, ◌≤◌}
 use native.Mathlib.Omega.{arith}
-use Rattle.std.specs.Prelude.{◌≡◌}
+use Rattle.std.specs.Prelude.{◌≡◌, Option, None, Some}
 use Rattle.std.proofs.Math.Path.{refl, subst}
 use Rattle.std.proofs.Common.{sym}
 use mathlib.Core.List.{List, [], ◌∷◌}
-use Rattle.std.proofs.Math.Option.{Option, none, some}
 use Rattle.def_effects.specs.declared.Place.{Place}
 use Rattle.def_effects.specs.Effects.{AliasingEffect}
 use Rattle.def_effects.specs.Keys.{EffectKey, effect_key}
@@ -48,8 +47,8 @@ module _ {T : Tables} (found : Finding T) (𝓜 : Measure T) where
   -- the early errors of an instruction: one for each place mutated inside, at the most
   early_errors_grows : (o : Option ℕ) (w : World T) → of (after (early_errors o w)) ≤ of w.rest.work + listing * mutated T o w.rest.context
   unfolding early_errors mutated ask ◌>>=◌ and_then
-  early_errors_grows none w = (done_grows {μ = of} {b = listing * 0}).grows w
-  early_errors_grows (some f) w = let q = total_same listing (T.mutated_inside w.rest.context f) in let h = (each_grows (λ p. listing) (T.mutated_inside w.rest.context f) (early_error_grows f)).grows w in omega arith
+  early_errors_grows None w = (done_grows {μ = of} {b = listing * 0}).grows w
+  early_errors_grows (Some f) w = let q = total_same listing (T.mutated_inside w.rest.context f) in let h = (each_grows (λ p. listing) (T.mutated_inside w.rest.context f) (early_error_grows f)).grows w in omega arith
 
   -- what comes after the early errors
   -- the candidates; the lvalue and the session's entries add nothing

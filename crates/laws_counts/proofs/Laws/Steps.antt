@@ -2,11 +2,10 @@
 -- Assumes nothing.
 use Prim.Native.Nat.{ℕ, suc, ◌+◌, ◌*◌}
 use native.Mathlib.Omega.{arith}
-use Rattle.std.specs.Prelude.{◌≡◌, Bool, eqb, leb, length}
+use Rattle.std.specs.Prelude.{◌≡◌, Bool, eqb, leb, length, Option, None, Some}
 use Rattle.std.proofs.Math.Path.{refl, ap}
 use Rattle.std.proofs.Math.Bool.{true, false}
 use mathlib.Core.List.{List, [], ◌∷◌}
-use Rattle.std.proofs.Math.Option.{Option, none, some}
 use Rattle.base_tests.specs.Tests.{ite}
 use Rattle.def_kinds.specs.declared.ValueKind.{ValueKind}
 use Rattle.def_kinds.specs.declared.AbstractValue.{AbstractValue}
@@ -202,15 +201,15 @@ module _ {T : Tables} (𝓜 : Measure T) where
 
 -- the one law of tables that the bounds need: what is found under a key has that key
 abbrev pub Finding : Tables → Type 0
-Finding T = (c : T.Context) (k : EffectKey) (e : AliasingEffect) → T.find_effect c k ≡ some e → k ≡ effect_key e
+Finding T = (c : T.Context) (k : EffectKey) (e : AliasingEffect) → T.find_effect c k ≡ Some e → k ≡ effect_key e
 
 module _ {T : Tables} (found : Finding T) (e : AliasingEffect) where
   -- the effect that is used has the key of the one that was given
   -- one found has it by the laws of the tables, a new one is the one given
-  known : (o : Option AliasingEffect) → ((x : AliasingEffect) → o ≡ some x → effect_key e ≡ effect_key x) → (w : World T) → Holds (λ x. effect_key e ≡ effect_key x) (intern_new e o w)
+  known : (o : Option AliasingEffect) → ((x : AliasingEffect) → o ≡ Some x → effect_key e ≡ effect_key x) → (w : World T) → Holds (λ x. effect_key e ≡ effect_key x) (intern_new e o w)
   unfolding intern_new ask ◌>>=◌ ◌>>◌ and_then when◌then◌else◌ return refuse put_effect change
-  known (some x) h w = refreshed_key e x (h x refl)
-  known none h w = go (leb 2048 (T.interned_count w.rest.context))
+  known (Some x) h w = refreshed_key e x (h x refl)
+  known None h w = go (leb 2048 (T.interned_count w.rest.context))
     where
       go : (b : Bool) → Holds (λ x. effect_key e ≡ effect_key x) ((when b then refuse 8 else (put_effect {T = T} e >> return e)) w)
       go true = tt
@@ -230,8 +229,8 @@ started T = record { initialized = T.none_initialized; listed = T.none_listed; f
 
 -- how many places the own function mutates inside, none without such a function
 unfoldable pub mutated : (T : Tables) → Option ℕ → T.Context → ℕ
-mutated T none c = 0
-mutated T (some f) c = length (T.mutated_inside c f)
+mutated T None c = 0
+mutated T (Some f) c = length (T.mutated_inside c f)
 
 -- how many effects an instruction lists at the most
 abbrev pub lists : (T : Tables) → Instruction → T.Context → ℕ

@@ -2,10 +2,9 @@
 use Prim.Native.Nat.{ℕ, zero, suc, ◌+◌, ◌-◌, ◌/◌, ◌%◌, ◌≤◌, ◌<◌}
 use Rattle.std.proofs.Common.{le_refl, ◌∙◌, inl, inr, ⊎_elim}
 use native.Mathlib.Omega.{arith}
-use Rattle.std.specs.Prelude.{◌≡◌, Bool, ◌&&◌, ◌||◌, List, [], ◌∷◌, get_or, set}
+use Rattle.std.specs.Prelude.{◌≡◌, Bool, ◌&&◌, ◌||◌, List, [], ◌∷◌, get_or, set, Option, None, Some}
 use Rattle.std.proofs.Math.Path.{refl, sym, ap}
 use Rattle.std.proofs.Math.Bool.{true, false, not}
-use Rattle.std.proofs.Math.Option.{Option, none, some}
 use Rattle.std.proofs.Math.Dec.{eqb, ltb}
 use Rattle.std.proofs.Math.ListN.{length}
 use borrow.Author.Tests.{eq-eqb, ne_eqb, lt-ltb, le-ltb}
@@ -182,7 +181,7 @@ module _ (im : Image) where
   unfolding link_class link_limit
   link_right f v =
       record_zero Layout.links v (link_limit f v (field Layout.links (lent_context im) v 0)) (lent_context im)
-      (λ w. ap (λ (x : ℕ). word_class (link_limit f v x w) 0) (far_zero Layout.links (omega arith) v 0) ∙ pos_ite (eqb v 0) none _ pos_none (pos_at (some 2 ∷ none ∷ []) w (pos_some 2 (omega arith), (pos_none, tt))))
+      (λ w. ap (λ (x : ℕ). word_class (link_limit f v x w) 0) (far_zero Layout.links (omega arith) v 0) ∙ pos_ite (eqb v 0) None _ pos_none (pos_at (Some 2 ∷ None ∷ []) w (pos_some 2 (omega arith), (pos_none, tt))))
       (far_zero Layout.links (omega arith) v)
 
   -- a number without a key earns nothing
@@ -190,7 +189,7 @@ module _ (im : Image) where
   unfolding cached_class no_key_class
   key_right n f v =
       ite_yes (eqb v 0 || eqb (field Layout.cached (lent_context im) v 0) 0) _ _ (go (eqb v 0))
-      ∙ record_zero Layout.cached v (λ w. none) (lent_context im) (λ w. pos_none) (far_zero Layout.cached (omega arith) v)
+      ∙ record_zero Layout.cached v (λ w. None) (lent_context im) (λ w. pos_none) (far_zero Layout.cached (omega arith) v)
     where
       go : (b : Bool) → (b || eqb (field Layout.cached (lent_context im) v 0) 0) ≡ true
       go true = refl
@@ -297,7 +296,7 @@ module _ (im : Image) (small : (i : ℕ) → word im i < 4294967296) (ok : refus
   unfolding identifier_limit
   naming_pos k v =
       let u : Pos (used_if (identifier_flags im k / 2 % 2) any) = pos_used (identifier_flags im k / 2 % 2) any (pos_some 4294967296 (omega arith)) in
-      pos_at (some 4 ∷ some 513 ∷ used_if (identifier_flags im k / 2 % 2) any ∷ used_if (identifier_flags im k / 2 % 2) any ∷ []) v (pos_some 4 (omega arith), (pos_some 513 (omega arith), (u, (u, tt))))
+      pos_at (Some 4 ∷ Some 513 ∷ used_if (identifier_flags im k / 2 % 2) any ∷ used_if (identifier_flags im k / 2 % 2) any ∷ []) v (pos_some 4 (omega arith), (pos_some 513 (omega arith), (u, (u, tt))))
 
   -- an identifier that is not hoisted has no access
   -- "access start, end (both words zero if not hoisted)"
@@ -362,7 +361,7 @@ module _ (im : Image) (small : (i : ℕ) → word im i < 4294967296) (ok : refus
   unfolding function_limit
   shape_pos k v =
       pos_ite (ltb v 3) _ (run_limit n (inside_count im k) (v - 3))
-      (pos_at (some 4 ∷ any ∷ any ∷ []) v (pos_some 4 (omega arith), (pos_some 4294967296 (omega arith), (pos_some 4294967296 (omega arith), tt))))
+      (pos_at (Some 4 ∷ any ∷ any ∷ []) v (pos_some 4 (omega arith), (pos_some 4294967296 (omega arith), (pos_some 4294967296 (omega arith), tt))))
       (pos_run n (inside_count im k) (v - 3) (some_identifier im ok))
 
   -- its record, with flags, counts and places mutated inside

@@ -1,11 +1,10 @@
 -- The instruction of an accepted image earns no class: each candidate is written as a right record, and lvalue and own function are in range. Assumes nothing.
 use Prim.Native.Nat.{ℕ, zero, suc, ◌+◌, ◌-◌, ◌*◌, ◌≤◌, ◌<◌}
 use Rattle.std.proofs.Common.{arith, sym, ◌∙◌, lt-ltb, le-ltb, le-leb}
-use Rattle.std.specs.Prelude.{◌≡◌, true, eqb, ltb, leb, length, get_or}
+use Rattle.std.specs.Prelude.{◌≡◌, true, eqb, ltb, leb, length, get_or, Option, Some}
 use Rattle.std.proofs.Math.Path.{refl, ap, subst}
 use Rattle.std.proofs.Math.Bool.{not}
 use mathlib.Core.List.{List, [], ◌∷◌}
-use Rattle.std.proofs.Math.Option.{Option, some}
 use Rattle.std.proofs.Math.Seq.{get_or-take}
 use Rattle.base_tests.specs.Tests.{ite}
 use Rattle.base_tests.proofs.Laws.Choice.{ite_ge, ite_ne}
@@ -45,26 +44,26 @@ use Rattle.lent_layout.specs.Layout.{candidate_table}
 
 -- of a word of an effect, where its function and its diagnostic are
 -- what else it uses has a limit that is not 0
-pos_effect : (n f d c m v : ℕ) → 0 < n → Pos (used_if (Classes.uses c 5) (some f)) → Pos (used_if (Classes.uses c 6) (some d)) → Pos (effect_limit n f d c m v)
+pos_effect : (n f d c m v : ℕ) → 0 < n → Pos (used_if (Classes.uses c 5) (Some f)) → Pos (used_if (Classes.uses c 6) (Some d)) → Pos (effect_limit n f d c m v)
 unfolding effect_limit middle_limit
 pos_effect n f d c m v h p q =
     pos_ite (ltb v 18) _ (used_if (Classes.uses c 7) (run_limit n m (v - 18)))
-    (pos_ite (eqb v 0) (some 18) _ (pos_some 18 (omega arith))
+    (pos_ite (eqb v 0) (Some 18) _ (pos_some 18 (omega arith))
     (pos_ite (ltb v 6) (used_if (Classes.uses c 0) (place_limit n (v - 1))) _ (pos_used (Classes.uses c 0) (place_limit n (v - 1)) (pos_place n (v - 1) h))
     (pos_ite (ltb v 11) (used_if (Classes.uses c 1) (place_limit n (v - 6))) _ (pos_used (Classes.uses c 1) (place_limit n (v - 6)) (pos_place n (v - 6) h))
     (pos_at
-    (used_if (Classes.uses c 2) (some 6) ∷ used_if (Classes.uses c 3) (some 12) ∷ used_if (Classes.uses c 4) (some 2) ∷ used_if (Classes.uses c 5) (some f)
-    ∷ used_if (Classes.uses c 6) (some 256) ∷ used_if (Classes.uses c 6) (some d) ∷ used_if (Classes.uses c 7) any ∷ [])
+    (used_if (Classes.uses c 2) (Some 6) ∷ used_if (Classes.uses c 3) (Some 12) ∷ used_if (Classes.uses c 4) (Some 2) ∷ used_if (Classes.uses c 5) (Some f)
+    ∷ used_if (Classes.uses c 6) (Some 256) ∷ used_if (Classes.uses c 6) (Some d) ∷ used_if (Classes.uses c 7) any ∷ [])
     (v - 11) (
-      pos_used (Classes.uses c 2) (some 6) (pos_some 6 (omega arith)),
+      pos_used (Classes.uses c 2) (Some 6) (pos_some 6 (omega arith)),
       (
-        pos_used (Classes.uses c 3) (some 12) (pos_some 12 (omega arith)),
+        pos_used (Classes.uses c 3) (Some 12) (pos_some 12 (omega arith)),
         (
-          pos_used (Classes.uses c 4) (some 2) (pos_some 2 (omega arith)),
+          pos_used (Classes.uses c 4) (Some 2) (pos_some 2 (omega arith)),
           (
             p,
             (
-              pos_used (Classes.uses c 6) (some 256) (pos_some 256 (omega arith)),
+              pos_used (Classes.uses c 6) (Some 256) (pos_some 256 (omega arith)),
               (
                 q,
                 (pos_used (Classes.uses c 7) any (pos_some 4294967296 (omega arith)), tt),
@@ -136,14 +135,14 @@ module _ (im : Image) (small : (i : ℕ) → word im i < 4294967296) (ok : refus
     Made a m e = (field t e k 0 ≡ a) × Good t k (lim a m) e
 
     -- the code is written first
-    made_code : (a m : ℕ) → a < 18 → lim a m 0 ≡ some 18 → Pos (used_if (Classes.uses a 5) (some f)) → Pos (used_if (Classes.uses a 6) (some (instance_count c))) → Made a m (put_field t d k 0 a)
+    made_code : (a m : ℕ) → a < 18 → lim a m 0 ≡ Some 18 → Pos (used_if (Classes.uses a 5) (Some f)) → Pos (used_if (Classes.uses a 6) (Some (instance_count c))) → Made a m (put_field t d k 0 a)
     made_code a m l e p q = (
       word_back t k d 0 a row (omega arith) (let z : 0 + k * 98 + 98 ≤ length d = (let y = row in omega arith) in z),
       put_below t k (lim a m) d 0 a 18 e l (zero_good t k (lim a m) d (λ v. pos_effect n f (instance_count c) a m v (some_identifier im ok) p q) blank),
     )
 
     -- then a word
-    made_word : (a m : ℕ) (e : List ℕ) (w x l : ℕ) → 1 ≤ w → lim a m w ≡ some l → x < l → Made a m e → Made a m (put_field t e k w x)
+    made_word : (a m : ℕ) (e : List ℕ) (w x l : ℕ) → 1 ≤ w → lim a m w ≡ Some l → x < l → Made a m e → Made a m (put_field t e k w x)
     made_word a m e w x l h q b g = (word_beside t k e w x 0 (λ z. omega arith) ∙ g.0, put_below t k (lim a m) e w x l q b g.1)
 
     -- or a place
@@ -169,13 +168,13 @@ module _ (im : Image) (small : (i : ℕ) → word im i < 4294967296) (ok : refus
     second_fine a e h = place_fine im small ok (second_place im k) (used a 2 e (omega arith) h)
 
     -- a candidate of one place
-    one : (a : ℕ) → code im k ≡ a → a < 18 → has 1 (get_or used_words a []) ≡ true → Limits (lim a 0) 1 n → lim a 0 0 ≡ some 18 → Pos (used_if (Classes.uses a 5) (some f)) → Pos (used_if (Classes.uses a 6) (some (instance_count c)))
+    one : (a : ℕ) → code im k ≡ a → a < 18 → has 1 (get_or used_words a []) ≡ true → Limits (lim a 0) 1 n → lim a 0 0 ≡ Some 18 → Pos (used_if (Classes.uses a 5) (Some f)) → Pos (used_if (Classes.uses a 6) (Some (instance_count c)))
         → Made a 0 (put_place t (put_field t d k 0 a) k 1 (place_at im (first_place im k)))
     one a e l h q z p r = made_place a 0 (put_field t d k 0 a) 1 (place_at im (first_place im k)) (omega arith) q (first_fine a e h) (made_code a 0 l z p r)
 
     -- a candidate of two places
-    two : (a : ℕ) → code im k ≡ a → a < 18 → has 1 (get_or used_words a []) ≡ true → has 2 (get_or used_words a []) ≡ true → Limits (lim a 0) 1 n → Limits (lim a 0) 6 n → lim a 0 0 ≡ some 18 → Pos (used_if (Classes.uses a 5) (some f))
-        → Pos (used_if (Classes.uses a 6) (some (instance_count c)))
+    two : (a : ℕ) → code im k ≡ a → a < 18 → has 1 (get_or used_words a []) ≡ true → has 2 (get_or used_words a []) ≡ true → Limits (lim a 0) 1 n → Limits (lim a 0) 6 n → lim a 0 0 ≡ Some 18 → Pos (used_if (Classes.uses a 5) (Some f))
+        → Pos (used_if (Classes.uses a 6) (Some (instance_count c)))
         → Made a 0 (put_place t (put_place t (put_field t d k 0 a) k 1 (place_at im (first_place im k))) k 6 (place_at im (second_place im k)))
     two a e l h i q u z p r =
         made_place a 0 (put_place t (put_field t d k 0 a) k 1 (place_at im (first_place im k))) 6 (place_at im (second_place im k)) (omega arith) u (second_fine a e i) (one a e l h q z p r)

@@ -2,11 +2,10 @@
 use Prim.Native.Nat.{ℕ, zero, suc, ◌+◌, ◌-◌, ◌*◌, ◌/◌, ◌%◌, ◌≤◌, ◌<◌}
 use Rattle.std.proofs.Common.{eq-or-lt_of_le, le_refl, div-add-mod', div-lt_iff_lt-mul, mod-lt, add-mul, sym, ap, ◌∙◌, lt-ltb, eq-eqb}
 use native.Mathlib.Omega.{arith}
-use Rattle.std.specs.Prelude.{◌≡◌, Bool, true, false, not, get_or}
+use Rattle.std.specs.Prelude.{◌≡◌, Bool, true, false, not, get_or, Option, None, Some}
 use Rattle.std.proofs.Math.Path.{refl, subst}
 use Rattle.std.proofs.Math.Logic.{⊎_elim}
 use mathlib.Core.List.{List, [], ◌∷◌}
-use Rattle.std.proofs.Math.Option.{Option, none, some}
 use Rattle.std.proofs.Math.ListN.{length}
 use Rattle.std.proofs.Math.Seq.{set_out}
 use Rattle.base_tests.specs.Tests.{All}
@@ -40,13 +39,13 @@ earns_not n b e = ap (earns n) e
 
 -- a word below its limit
 -- "3 a code, flag, number, index or reason bit lies outside its range"
-pub word_below : (l x : ℕ) → x < l → word_class (some l) x ≡ 0
+pub word_below : (l x : ℕ) → x < l → word_class (Some l) x ≡ 0
 unfolding word_class
 word_below l x h = ap (λ (b : Bool). earns 3 (not b)) (lt-ltb x l h)
 
 -- a word without use that is zero
 -- "Unused words are zero"
-pub word_none : (x : ℕ) → x ≡ 0 → word_class none x ≡ 0
+pub word_none : (x : ℕ) → x ≡ 0 → word_class None x ≡ 0
 unfolding word_class
 word_none x e = ap (λ (b : Bool). earns 4 (not b)) (eq-eqb x 0 e)
 
@@ -77,7 +76,7 @@ record_good t i lim c h = lowest_both t.width (λ w. word_class (lim w) (field t
 -- the limits of the five words of a place that begins at a word
 -- "places: identifier, `Effect` in declared order from 0, reactive 0 or 1, start, end"
 abbrev pub Limits : (ℕ → Option ℕ) → ℕ → ℕ → Type 0
-Limits lim w n = (lim w ≡ some n) × (lim (w + 1) ≡ some 8) × (lim (w + 2) ≡ some 2) × (lim (w + 3) ≡ any) × (lim (w + 4) ≡ any)
+Limits lim w n = (lim w ≡ Some n) × (lim (w + 1) ≡ Some 8) × (lim (w + 2) ≡ Some 2) × (lim (w + 3) ≡ any) × (lim (w + 4) ≡ any)
 
 -- a place whose words are in their ranges
 abbrev pub Fine : ℕ → Place → Type 0
@@ -109,7 +108,7 @@ module _ (t : Table) (i : ℕ) (lim : ℕ → Option ℕ) where
       go false e = kept (put_out t c i w x e)
 
   -- a word with a limit that is said
-  pub put_below : (c : List ℕ) (w x l : ℕ) → lim w ≡ some l → x < l → Good t i lim c → Good t i lim (put_field t c i w x)
+  pub put_below : (c : List ℕ) (w x l : ℕ) → lim w ≡ Some l → x < l → Good t i lim c → Good t i lim (put_field t c i w x)
   put_below c w x l e h = put_good c w x (ap (λ (o : Option ℕ). word_class o x) e ∙ word_below l x h)
 
   -- a place in its ranges is written
@@ -135,7 +134,7 @@ unfolding run_limit
 run_at n count m j v e h l =
     let a : v / 5 ≡ m = omega arith in
     let b : v % 5 ≡ j = omega arith in
-    ite_lt (v / 5) count (place_limit n (v % 5)) none (omega arith) ∙ ap (place_limit n) b
+    ite_lt (v / 5) count (place_limit n (v % 5)) None (omega arith) ∙ ap (place_limit n) b
 
 -- so each place of a run that begins at word w has its five limits
 pub run_limits : (lim : ℕ → Option ℕ) (w n count : ℕ) → ((v : ℕ) → w ≤ v → lim v ≡ run_limit n count (v - w)) → (m : ℕ) → m < count → Limits lim (w + m * 5) n
@@ -192,7 +191,7 @@ module _ (g : ℕ → List ℕ → List ℕ) (Z : ℕ → List ℕ → Type 0) (
 -- "those after the last .. are zero"
 pub stray_none : (t : Table) (c : List ℕ) (n : ℕ) → 0 < t.width → ((j : ℕ) → n ≤ j → Zero t j c) → stray_after t c n ≡ 0
 unfolding stray_after stray_from index
-stray_none t c n w z = lowest_both ((t.count - n) * t.width) (λ k. word_class none (get_or c (index t n 0 + k) 0)) (λ k l. word_none (get_or c (index t n 0 + k) 0) (at k l))
+stray_none t c n w z = lowest_both ((t.count - n) * t.width) (λ k. word_class None (get_or c (index t n 0 + k) 0)) (λ k l. word_none (get_or c (index t n 0 + k) 0) (at k l))
   where
     at : (k : ℕ) → k < (t.count - n) * t.width → get_or c (index t n 0 + k) 0 ≡ 0
     at k l =

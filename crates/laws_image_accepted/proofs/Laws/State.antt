@@ -1,12 +1,11 @@
 -- The state of an accepted image earns no class: each word of its values and each row of its sets is right. Assumes nothing.
 use Prim.Native.Nat.{ℕ, zero, suc, ◌+◌, ◌*◌, ◌/◌, ◌%◌, ◌≤◌, ◌<◌, zero-le}
 use native.Mathlib.Omega.{arith}
-use Rattle.std.specs.Prelude.{◌≡◌, Bool, ◌&&◌, ◌||◌, ◌⊎◌, List, ltb, leb, length, get_or, set}
+use Rattle.std.specs.Prelude.{◌≡◌, Bool, ◌&&◌, ◌||◌, ◌⊎◌, List, ltb, leb, length, get_or, set, Option, None, Some}
 use Rattle.std.proofs.Math.Path.{refl, ap, subst}
 use Rattle.std.proofs.Common.{sym, ◌∙◌, inl, inr, get_or-set_same, get_or-set_other}
 use Rattle.std.proofs.Math.Bool.{true, false, not}
 use Rattle.std.proofs.Math.Logic.{⊎_elim}
-use Rattle.std.proofs.Math.Option.{Option, none, some}
 use Rattle.std.proofs.Math.Dec.{eqb}
 use Rattle.std.specs.Int.Bits.{bit_or}
 use Rattle.std.proofs.Math.Seq.{get_or-take, set_out}
@@ -125,8 +124,8 @@ module _ (im : Image) (ok : refusal_of_words im ≡ 0) where
   -- the members of a set that may be absent
   bits_all : (o : Option ℕ) → All (Ok n m) (values_of o) → All (Ok n m) (members (bits_of o))
   unfolding members digits_from
-  bits_all none a = tt
-  bits_all (some s) a = a
+  bits_all None a = tt
+  bits_all (Some s) a = a
 
   -- the value of a pair, as a set
   -- "value 0 .. means defined with an empty set"

@@ -1,8 +1,7 @@
 -- The order of states: above or equal is reflexive, transitive and, on entries, antisymmetric; a joined state is above or equal to both and
 -- below or equal to each state that is; merge yields None exactly if the other adds nothing; merge and merge_from agree. Assumes nothing.
-use Rattle.std.specs.Prelude.{ℕ, ◌<◌, ◌≡◌, refl, Bool, true, false, not, ◌&&◌, ◌||◌, T, eqb}
+use Rattle.std.specs.Prelude.{ℕ, ◌<◌, ◌≡◌, refl, Bool, true, false, not, ◌&&◌, ◌||◌, T, eqb, Option, None, Some}
 use Rattle.std.proofs.Common.{arith, sym, ap, ◌∙◌, subst, eqb→eq}
-use Rattle.std.proofs.Math.Option.{Option, none, some}
 use Rattle.std.proofs.Math.Dec.{eqb_refl}
 use Rattle.std.specs.Int.Bits.{bit_or}
 use Rattle.base_tests.proofs.Laws.Bool.{both, both_left, both_right}
@@ -24,31 +23,31 @@ use Rattle.base_tests.proofs.Laws.Below.{all_at, all_from, any_not_all}
 
 pub value_says : (x y : Option AbstractValue) → T (value_above x y) → Above (join_option Values.join) x y
 unfolding value_above join_option
-value_says none none t = refl
-value_says (some a) none t = refl
-value_says none (some b) t = absurd t
-value_says (some a) (some b) t = ap some (above_says a b t)
+value_says None None t = refl
+value_says (Some a) None t = refl
+value_says None (Some b) t = absurd t
+value_says (Some a) (Some b) t = ap Some (above_says a b t)
 
 pub value_test : (x y : Option AbstractValue) → Above (join_option Values.join) x y → T (value_above x y)
 unfolding value_above join_option
-value_test none none e = tt
-value_test (some a) none e = tt
-value_test none (some b) e = let z : ◌≡◌ {A = ℕ} 0 1 = cc in absurd (omega arith)
-value_test (some a) (some b) e = above_test a b (let z : Values.join a b ≡ a = cc in z)
+value_test None None e = tt
+value_test (Some a) None e = tt
+value_test None (Some b) e = let z : ◌≡◌ {A = ℕ} 0 1 = cc in absurd (omega arith)
+value_test (Some a) (Some b) e = above_test a b (let z : Values.join a b ≡ a = cc in z)
 
 pub set_says : (x y : Option ℕ) → T (set_above x y) → Above (join_option union) x y
 unfolding set_above join_option
-set_says none none t = refl
-set_says (some m) none t = refl
-set_says none (some n) t = absurd t
-set_says (some m) (some n) t = ap some (eqb→eq (union m n) m t)
+set_says None None t = refl
+set_says (Some m) None t = refl
+set_says None (Some n) t = absurd t
+set_says (Some m) (Some n) t = ap Some (eqb→eq (union m n) m t)
 
 pub set_test : (x y : Option ℕ) → Above (join_option union) x y → T (set_above x y)
 unfolding set_above join_option
-set_test none none e = tt
-set_test (some m) none e = tt
-set_test none (some n) e = let z : ◌≡◌ {A = ℕ} 0 1 = cc in absurd (omega arith)
-set_test (some m) (some n) e = let z : union m n ≡ m = cc in subst (λ (k : ℕ). T (eqb k m)) (sym z) (eqb_refl m)
+set_test None None e = tt
+set_test (Some m) None e = tt
+set_test None (Some n) e = let z : ◌≡◌ {A = ℕ} 0 1 = cc in absurd (omega arith)
+set_test (Some m) (Some n) e = let z : union m n ≡ m = cc in subst (λ (k : ℕ). T (eqb k m)) (sym z) (eqb_refl m)
 
 abbrev values_join : Joins (Option AbstractValue) (join_option Values.join)
 values_join = option_joins Values.join value_joins
@@ -131,17 +130,17 @@ not_and false b = refl
 
 pub adds_value_is : (x y : Option AbstractValue) → adds_value x y ≡ not (value_above x y)
 unfolding adds_value value_above Values.above
-adds_value_is none none = refl
-adds_value_is (some a) none = refl
-adds_value_is none (some b) = refl
-adds_value_is (some a) (some b) = ap (λ (c : Bool). not (eqb (code_of (Values.join a b).kind) (code_of a.kind)) || not c) (contains_join a b) ∙ unfold Values.join in not_and (eqb (code_of (Values.join a b).kind) (code_of a.kind)) (Values.contains a b)
+adds_value_is None None = refl
+adds_value_is (Some a) None = refl
+adds_value_is None (Some b) = refl
+adds_value_is (Some a) (Some b) = ap (λ (c : Bool). not (eqb (code_of (Values.join a b).kind) (code_of a.kind)) || not c) (contains_join a b) ∙ unfold Values.join in not_and (eqb (code_of (Values.join a b).kind) (code_of a.kind)) (Values.contains a b)
 
 pub adds_set_is : (x y : Option ℕ) → adds_set x y ≡ not (set_above x y)
 unfolding adds_set set_above
-adds_set_is none none = refl
-adds_set_is (some m) none = refl
-adds_set_is none (some n) = refl
-adds_set_is (some m) (some n) = refl
+adds_set_is None None = refl
+adds_set_is (Some m) None = refl
+adds_set_is None (Some n) = refl
+adds_set_is (Some m) (Some n) = refl
 
 pub adds_not_above : (s t : Entries) → adds s t ≡ not (above s t)
 unfolding adds above
@@ -152,28 +151,28 @@ adds_not_above s t =
 
 -- ---- merge yields None exactly if the other adds nothing
 
-pub merge_none : (s t : Entries) → T (above s t) → merge s t ≡ none
+pub merge_none : (s t : Entries) → T (above s t) → merge s t ≡ None
 unfolding merge
 merge_none s t h = rw (merge, adds_not_above s t) (go (above s t) h)
   where
-    go : (b : Bool) → T b → ◌≡◌ {A = Option Entries} (elim (not b) as (λ x. Option Entries) [ true ↦ some (joined s t) | false ↦ none ]) none
+    go : (b : Bool) → T b → ◌≡◌ {A = Option Entries} (elim (not b) as (λ x. Option Entries) [ true ↦ Some (joined s t) | false ↦ None ]) None
     go true h = refl
     go false h = absurd h
 
-pub none_above : (s t : Entries) → merge s t ≡ none → T (above s t)
+pub none_above : (s t : Entries) → merge s t ≡ None → T (above s t)
 unfolding merge
 none_above s t h = go (above s t) (rw (merge, adds_not_above s t) at h)
   where
-    go : (b : Bool) → ◌≡◌ {A = Option Entries} (elim (not b) as (λ x. Option Entries) [ true ↦ some (joined s t) | false ↦ none ]) none → T b
+    go : (b : Bool) → ◌≡◌ {A = Option Entries} (elim (not b) as (λ x. Option Entries) [ true ↦ Some (joined s t) | false ↦ None ]) None → T b
     go true h = tt
     go false h = let z : ◌≡◌ {A = ℕ} 0 1 = cc in absurd (omega arith)
 
 -- and else the joined state
-pub merge_some : (s t u : Entries) → merge s t ≡ some u → u ≡ joined s t
+pub merge_some : (s t u : Entries) → merge s t ≡ Some u → u ≡ joined s t
 unfolding merge
 merge_some s t u h = go (adds s t) h
   where
-    go : (b : Bool) → ◌≡◌ {A = Option Entries} (elim b as (λ x. Option Entries) [ true ↦ some (joined s t) | false ↦ none ]) (some u) → u ≡ joined s t
+    go : (b : Bool) → ◌≡◌ {A = Option Entries} (elim b as (λ x. Option Entries) [ true ↦ Some (joined s t) | false ↦ None ]) (Some u) → u ≡ joined s t
     go true h = cc
     go false h = cc
 

@@ -2,10 +2,12 @@
 use Prim.Native.Nat.{ℕ, zero, suc, ◌≤◌, ◌<◌}
 use Rattle.std.proofs.Math.Path.{◌≡◌, refl, ap}
 use Rattle.std.proofs.Common.{◌∙◌, arith, le-leb}
-use Rattle.std.specs.Prelude.{Bool, leb}
+use Rattle.std.specs.Prelude.{Bool, leb, Result, Ok, Err}
 use Rattle.std.proofs.Math.Bool.{true, false}
 use Rattle.std.proofs.lemmas.Bool.{lt-leb}
+use Rattle.std.specs.Result.{IsErrAnd}
 use Rattle.def_transfer.specs.Monad.{Res, ok, refused, M, and_then, ◌>>=◌, ◌>>◌, return, refuse, done, when◌then◌else◌}
+use Rattle.def_refusals.specs.declared.Refusal.{Refusal}
 use Rattle.laws_monad.specs.Answers.{answer}
 
 module _ {W A : Type 0} where
@@ -34,9 +36,14 @@ module _ {W A : Type 0} where
   unfolding refuse
   refuse_at n w = refl
 
+-- what `?` returns is the refusal that it met
+pub passes : {A : Type 0} (r : Result A Refusal) (q : Refusal) → IsErrAnd r (λ y. y ≡ q) → r ≡ Err q
+passes (Ok a) q h = absurd h
+passes (Err y) q h = ap Err h
+
 -- nothing is done
-pub done_ok : {W : Type 0} (w : W) → done w ≡ answer 0 tt w
-unfolding done return answer
+pub done_ok : {W : Type 0} (w : W) → done w ≡ ok tt w
+unfolding done return
 done_ok w = refl
 
 module _ {W A B : Type 0} where
@@ -51,6 +58,15 @@ module _ {W A B : Type 0} where
   unfolding ◌>>=◌ and_then answer
   bind_goes m k zero w u a x e h g = ap (λ (y : Res W A). and_then y k) e ∙ g
   bind_goes m k (suc r) w u a x e h g = absurd (omega arith)
+
+  -- the first is refused, and so is the whole, in that world
+  pub bind_fails : (m : M W A) (k : A → M W B) (n : ℕ) (w u : W) → m w ≡ refused n u → (m >>= k) w ≡ refused n u
+  unfolding ◌>>=◌ and_then
+  bind_fails m k n w u e = ap (λ (y : Res W A). and_then y k) e
+
+  pub then_fails : (m : M W A) (k : M W B) (n : ℕ) (w u : W) → m w ≡ refused n u → (m >> k) w ≡ refused n u
+  unfolding ◌>>◌
+  then_fails m k n w u e = bind_fails m (λ _. k) n w u e
 
   -- the first is never refused
   pub bind_ok : (m : M W A) (k : A → M W B) (w u : W) (a : A) (x : Res W B) → m w ≡ ok a u → k a u ≡ x → (m >>= k) w ≡ x

@@ -3,9 +3,9 @@ use Prim.Native.Nat.{ℕ}
 use Rattle.std.proofs.Math.Path.{◌≡◌, refl, ap}
 use Rattle.std.proofs.Common.{◌∙◌}
 use mathlib.Core.List.{List, [], ◌∷◌}
-use Rattle.def_transfer.specs.Monad.{ok, M, Done, return, done, each}
+use Rattle.def_transfer.specs.Monad.{ok, refused, M, Done, return, done, each}
 use Rattle.laws_monad.specs.Answers.{answer}
-use Rattle.laws_monad.proofs.Laws.Answers.{then_ok, then_goes, then_refused}
+use Rattle.laws_monad.proofs.Laws.Answers.{then_ok, then_goes, then_refused, then_fails}
 
 -- a list, from its first element on
 module _ {W A : Type 0} where
@@ -20,6 +20,14 @@ module _ {W A : Type 0} where
   pub each_ok : (f : A → M W Done) (x : A) (l xs : List A) (w u : W) → l ≡ x ∷ xs → f x w ≡ ok tt u → each l f w ≡ each xs f u
   unfolding each
   each_ok f x l xs w u c e = ap (λ (k : List A). each k f w) c ∙ then_ok (f x) (each xs f) w u tt (each xs f u) e refl
+
+  pub each_fails : (f : A → M W Done) (x : A) (l xs : List A) (n : ℕ) (w u : W) → l ≡ x ∷ xs → f x w ≡ refused n u → each l f w ≡ refused n u
+  unfolding each
+  each_fails f x l xs n w u c e = ap (λ (k : List A). each k f w) c ∙ then_fails (f x) (each xs f) n w u e
+
+  pub each_done : (f : A → M W Done) (l : List A) (w : W) → l ≡ [] → each l f w ≡ ok tt w
+  unfolding each done return
+  each_done f l w c = ap (λ (k : List A). each k f w) c
 
   pub each_ends : (f : A → M W Done) (l : List A) (w : W) → l ≡ [] → each l f w ≡ answer 0 tt w
   unfolding each answer done return

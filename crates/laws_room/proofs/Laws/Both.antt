@@ -1,12 +1,11 @@
 -- The same write into two lists, one longer by zeros: what each write of a word keeps of both, a write of an effect, of a key, of a
 -- diagnostic keeps. Assumes nothing.
 use Prim.Native.Nat.{ℕ, zero, suc, ◌+◌, ◌*◌, ◌-◌, ◌<◌}
-use Rattle.std.specs.Prelude.{◌≡◌, refl, Bool, ◌&&◌, length, get_or, set}
+use Rattle.std.specs.Prelude.{◌≡◌, refl, Bool, ◌&&◌, length, get_or, set, Option}
 use Rattle.std.proofs.Math.Path.{ap, subst}
 use Rattle.std.proofs.Common.{sym, ◌∙◌, length-set}
 use Rattle.std.proofs.Math.Bool.{true, false}
 use mathlib.Core.List.{List, [], ◌∷◌, ◌++◌}
-use Rattle.std.proofs.Math.Option.{Option}
 use Rattle.std.proofs.Math.Dec.{eqb}
 use Rattle.std.proofs.lemmas.List.{set-append_left}
 use Rattle.base_tests.specs.Tests.{ite}

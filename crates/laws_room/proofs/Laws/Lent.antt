@@ -1,7 +1,6 @@
 -- Theorem 1 of the lent tables: how many effects are interned at the end of a call. Assumes nothing.
-use Rattle.std.specs.Prelude.{ℕ, suc, ◌+◌, ◌*◌, ◌≤◌, ◌<◌, ◌≡◌, refl, List, length, get_or, set}
+use Rattle.std.specs.Prelude.{ℕ, suc, ◌+◌, ◌*◌, ◌≤◌, ◌<◌, ◌≡◌, refl, List, length, get_or, set, Some}
 use Rattle.std.proofs.Common.{arith, ap, ◌∙◌, inl, ⊎_elim, get_or-set_same, get_or-set_other}
-use Rattle.std.proofs.Math.Option.{some}
 use Rattle.std.proofs.Math.Seq.{set_out}
 use Rattle.base_tests.proofs.Laws.Order.{lt_or_ge}
 use Rattle.def_effects.specs.Effects.{AliasingEffect}
@@ -64,7 +63,7 @@ key_counted c n k =
 -- a link is none
 pub link_counted : (c : List ℕ) (v f : ℕ) → interned_count (put_link c v f) ≡ interned_count c
 unfolding interned_count put_link
-link_counted c v f = option_outside Layout.links c v 0 (some f) Layout.interned_count (inl (omega arith))
+link_counted c v f = option_outside Layout.links c v 0 (Some f) Layout.interned_count (inl (omega arith))
 
 -- nor is a place made Read
 pub read_counted : (c : List ℕ) (f i : ℕ) → interned_count (make_read c f i) ≡ interned_count c

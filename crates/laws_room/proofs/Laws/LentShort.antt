@@ -1,10 +1,9 @@
 -- Theorem 2 of the lent tables: a context with words for so many effects does what the same one does with more words, where there is room
 -- for what the candidates need. Assumes nothing.
-use Rattle.std.specs.Prelude.{ℕ, ◌+◌, ◌*◌, ◌≤◌, ◌≡◌, Bool, set}
+use Rattle.std.specs.Prelude.{ℕ, ◌+◌, ◌*◌, ◌≤◌, ◌≡◌, Bool, set, None, Some, Result, Ok, Err}
 use Rattle.std.proofs.Common.{arith, ◌∙◌}
 use Rattle.std.proofs.Math.Path.{refl, sym, ap, ap₂, subst, fun_ext}
 use mathlib.Core.List.{List}
-use Rattle.std.proofs.Math.Option.{none, some}
 use Rattle.base_tests.specs.Tests.{ite}
 use Rattle.lent_keys.specs.KeyRecords as Keys
 use Rattle.def_effects.specs.Effects.{AliasingEffect}
@@ -16,8 +15,6 @@ use Rattle.lent_tables.proofs.Laws.Word.{record_ends, within_record, within_word
 use Rattle.lent_effects.specs.Records.{effect_in, put_effect}
 use Rattle.lent_effects.proofs.Laws.EffectFrames.{effect_cong}
 use Rattle.lent_order.specs.Order.{order_at, inserted}
-use Rattle.base_search.specs.declared.Spot.{Spot}
-use Rattle.base_search.specs.declared.Spot.TheVariants.{At, Before}
 use Rattle.base_search.specs.Search.{along}
 use Rattle.def_key_order.specs.KeyOrder.{compare_keys}
 use Rattle.lent_layout.specs.Layout as Layout
@@ -81,18 +78,18 @@ module _ (room n : ℕ) where
   unfolding find_effect order_at
   found_alike {c} {d} p k = ap (effect_at d) (spot_alike p k) ∙ go (effect_spot c k)
     where
-      go : (s : Spot) → effect_at d s ≡ effect_at c s
-      go (At j) =
-          ap (λ (r : ℕ). some (effect_in Layout.interned d r)) (field_alike p Layout.effect_order j 0)
-          ∙ ap some (effect_cong Layout.interned c d (field Layout.effect_order c j 0) (field_alike p Layout.interned (field Layout.effect_order c j 0)))
-      go (Before q) = refl
+      go : (s : Result ℕ ℕ) → effect_at d s ≡ effect_at c s
+      go (Ok j) =
+          ap (λ (r : ℕ). Some (effect_in Layout.interned d r)) (field_alike p Layout.effect_order j 0)
+          ∙ ap Some (effect_cong Layout.interned c d (field Layout.effect_order c j 0) (field_alike p Layout.interned (field Layout.effect_order c j 0)))
+      go (Err q) = refl
 
   -- an effect, where there is a record for it
   pub effect_pads : {c d : List ℕ} → Short c d → (e : AliasingEffect) → interned_count d + size (effect_key e) ≤ room → Short (add_effect c e) (add_effect d e)
   unfolding add_effect index end
   effect_pads {c} {d} p e l =
       subst (λ (m : ℕ). Short (add_effect c e) (set (inserted Layout.effect_order (place_of (effect_spot d (effect_key e))) m m (put_effect Layout.interned d m e)) Layout.interned_count (m + 1))) (sym (count_alike p))
-      (subst (λ (q : Spot). Short (add_effect c e) (set (inserted Layout.effect_order (place_of q) (interned_count c) (interned_count c) (put_effect Layout.interned d (interned_count c) e)) Layout.interned_count (interned_count c + 1))) (sym (spot_alike p (effect_key e)))
+      (subst (λ (q : Result ℕ ℕ). Short (add_effect c e) (set (inserted Layout.effect_order (place_of q) (interned_count c) (interned_count c) (put_effect Layout.interned d (interned_count c) e)) Layout.interned_count (interned_count c + 1))) (sym (spot_alike p (effect_key e)))
       (set_alike
       (insert_both Layout.effect_order Short (λ a b q j. field_alike q Layout.effect_order j 0) (λ a b j x q. before Layout.effect_order (omega arith) j a b 0 x q) (place_of (effect_spot c (effect_key e))) (interned_count c) (interned_count c) _ _
       (effect_both Layout.interned (interned_count c) Short inside c d e p)) Layout.interned_count (interned_count c + 1) (omega arith)))
@@ -124,18 +121,18 @@ module _ (room n : ℕ) where
   unfolding find_number order_at
   number_alike {c} {d} p k = ap (number_at d) (key_spot_alike p k) ∙ go (key_spot c k)
     where
-      go : (s : Spot) → number_at d s ≡ number_at c s
-      go (At j) =
-          ap (λ (r : ℕ). ite (is_keyed d r) (some r) none) (field_alike p Layout.key_order j 0)
-          ∙ ap (λ (b : Bool). ite b (some (field Layout.key_order c j 0)) none) (keyed_same c d (field Layout.key_order c j 0) (field_alike p Layout.cached (field Layout.key_order c j 0)))
-      go (Before q) = refl
+      go : (s : Result ℕ ℕ) → number_at d s ≡ number_at c s
+      go (Ok j) =
+          ap (λ (r : ℕ). ite (is_keyed d r) (Some r) None) (field_alike p Layout.key_order j 0)
+          ∙ ap (λ (b : Bool). ite b (Some (field Layout.key_order c j 0)) None) (keyed_same c d (field Layout.key_order c j 0) (field_alike p Layout.cached (field Layout.key_order c j 0)))
+      go (Err q) = refl
 
   -- a key
   pub key_pads : {c d : List ℕ} → Short c d → (v : ℕ) (k : EffectKey) → Short (put_key c v k) (put_key d v k)
   unfolding put_key cached_at end
   key_pads {c} {d} p v k =
       subst (λ (m : ℕ). Short (put_key c v k) (set (inserted Layout.key_order (place_of (key_spot d k)) v m (Keys.put_key Layout.cached d v k)) Layout.key_count (one_more m))) (sym (keys_alike p))
-      (subst (λ (q : Spot). Short (put_key c v k) (set (inserted Layout.key_order (place_of q) v (key_count c) (Keys.put_key Layout.cached d v k)) Layout.key_count (one_more (key_count c)))) (sym (key_spot_alike p k))
+      (subst (λ (q : Result ℕ ℕ). Short (put_key c v k) (set (inserted Layout.key_order (place_of q) v (key_count c) (Keys.put_key Layout.cached d v k)) Layout.key_count (one_more (key_count c)))) (sym (key_spot_alike p k))
       (set_alike
       (insert_both Layout.key_order Short (λ a b q j. field_alike q Layout.key_order j 0) (λ a b j x q. before Layout.key_order (omega arith) j a b 0 x q) (place_of (key_spot c k)) v (key_count c) _ _
       (key_both Layout.cached v Short (before Layout.cached (omega arith) v) _ _ k p)) Layout.key_count (one_more (key_count c)) (omega arith)))
@@ -143,7 +140,7 @@ module _ (room n : ℕ) where
   -- a link
   pub link_pads : {c d : List ℕ} → Short c d → (v f : ℕ) → Short (put_link c v f) (put_link d v f)
   unfolding put_link end
-  link_pads p v f = option_both Layout.links v Short (before Layout.links (omega arith) v) _ _ 0 (some f) p
+  link_pads p v f = option_both Layout.links v Short (before Layout.links (omega arith) v) _ _ 0 (Some f) p
 
   -- context places made Read
   pub read_pads : {c d : List ℕ} → Short c d → (f i : ℕ) → Short (make_read c f i) (make_read d f i)

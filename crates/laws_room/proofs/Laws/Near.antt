@@ -1,12 +1,11 @@
 -- What is asked of a measure of the interned effects and of contexts that differ in their room, and a logic over both: `Near 𝓟 b m` says
 -- that m, refused or not, does the same where there is more room, and adds at most b to what is used. Assumes nothing.
-use Rattle.std.specs.Prelude.{ℕ, ◌+◌, ◌*◌, ◌≤◌, ◌≡◌, refl, Bool}
+use Rattle.std.specs.Prelude.{ℕ, ◌+◌, ◌*◌, ◌≤◌, ◌≡◌, refl, Bool, Some}
 use native.Mathlib.Omega.{arith}
 use Rattle.std.proofs.Common.{sym, ◌∙◌}
 use Rattle.std.proofs.Math.Path.{ap, subst}
 use Rattle.std.proofs.Math.Bool.{true, false}
 use mathlib.Core.List.{List, [], ◌∷◌}
-use Rattle.std.proofs.Math.Option.{some}
 use Rattle.std.proofs.Math.ListN.{length}
 use Rattle.def_effects.specs.Effects.{AliasingEffect}
 use Rattle.def_effects.specs.Keys.{EffectKey, effect_key}
@@ -20,7 +19,7 @@ use Rattle.laws_room.specs.Room.{size}
 -- a measure of what the interned effects take: an effect added takes its size at the most, nothing else takes or gives any
 pub record Measured (T : Tables) : Type 0 where
   pub used : T.Context → ℕ
-  pub found : (c : T.Context) (k : EffectKey) (e : AliasingEffect) → T.find_effect c k ≡ some e → k ≡ effect_key e
+  pub found : (c : T.Context) (k : EffectKey) (e : AliasingEffect) → T.find_effect c k ≡ Some e → k ≡ effect_key e
   pub most : (c : T.Context) (e : AliasingEffect) → used (T.add_effect c e) ≤ used c + size (effect_key e)
   pub least : (c : T.Context) (e : AliasingEffect) → used c ≤ used (T.add_effect c e)
   pub key_used : (c : T.Context) (n : ℕ) (k : EffectKey) → used (T.put_key c n k) ≡ used c

@@ -2,12 +2,11 @@
 -- any. Assumes nothing.
 use Prim.Native.Nat.{ℕ, zero, suc}
 use native.Mathlib.Omega.{arith}
-use Rattle.std.specs.Prelude.{◌≡◌, Bool, ◌||◌, leb}
+use Rattle.std.specs.Prelude.{◌≡◌, Bool, ◌||◌, leb, Option, None, Some}
 use Rattle.std.proofs.Math.Path.{refl, ap}
 use Rattle.std.proofs.Common.{◌∙◌}
 use Rattle.std.proofs.Math.Bool.{true, false}
 use mathlib.Core.List.{List, [], ◌∷◌}
-use Rattle.std.proofs.Math.Option.{Option, none, some}
 use Rattle.def_kinds.specs.declared.AbstractValue.{AbstractValue}
 use Rattle.def_effects.specs.declared.Span.{Span}
 use Rattle.def_effects.specs.declared.Place.{Place}
@@ -35,11 +34,11 @@ module _ {T : Tables} (𝓟 : Padded T) where
   linked v r d p = ap (places_of d) (𝓟.link_of p v) ∙ go (T.link_of r.context v)
     where
       places_of : T.Context → Option ℕ → List Place
-      places_of c o = elim o as (λ x. List Place) [ none ↦ [] | some f ↦ T.context_of c f ]
+      places_of c o = elim o as (λ x. List Place) [ None ↦ [] | Some f ↦ T.context_of c f ]
 
       go : (o : Option ℕ) → places_of d o ≡ places_of r.context o
-      go none = refl
-      go (some f) = 𝓟.context_of p f
+      go None = refl
+      go (Some f) = 𝓟.context_of p f
 
   -- whether a place of some is a ref
   any_ref_is : (l : List Place) (r : Rest T) (d : T.Context) → 𝓟.Pad r.context d → any_ref l (across d r) ≡ any_ref l r
@@ -105,15 +104,15 @@ module _ {T : Tables} {𝓟 : Padded T} where
   -- a value where none stands yet
   pub or_insert_near : {b : ℕ} (v : ℕ) (o : Option AbstractValue) → Near 𝓟 b (or_insert v o)
   unfolding or_insert
-  or_insert_near v none = search base
-  or_insert_near v (some a) = search base
+  or_insert_near v None = search base
+  or_insert_near v (Some a) = search base
 
   -- a place gets the values of another, by the other's set
   -- with none, the other's own value
   pub assign_set_near : {b : ℕ} (into from : ℕ) (o : Option ℕ) → Near 𝓟 b (assign_set into from o)
   unfolding assign_set
-  assign_set_near into from (some s) = search base
-  assign_set_near into from none = search (base, or_insert_near, define_near)
+  assign_set_near into from (Some s) = search base
+  assign_set_near into from None = search (base, or_insert_near, define_near)
 
   -- a place gets the values of another
   -- the other's set is read first
@@ -148,8 +147,8 @@ module _ {T : Tables} {𝓟 : Padded T} where
   -- refused 8 where there is no room in any table
   pub intern_new_near : (e : AliasingEffect) (o : Option AliasingEffect) → Near 𝓟 (size (effect_key e)) (intern_new e o)
   unfolding intern_new
-  intern_new_near e (some x) = return_near _
-  intern_new_near e none = bind_keeps (ask_near _ (λ r d p. 𝓟.interned_count p)) (λ n. if_near _ (refuse_near 8) (then_rest (put_effect_near e) (return_near e)))
+  intern_new_near e (Some x) = return_near _
+  intern_new_near e None = bind_keeps (ask_near _ (λ r d p. 𝓟.interned_count p)) (λ n. if_near _ (refuse_near 8) (then_rest (put_effect_near e) (return_near e)))
 
   -- `intern_effect`
   pub intern_near : (e : AliasingEffect) → Near 𝓟 (size (effect_key e)) (intern_effect e)
@@ -160,10 +159,10 @@ module _ {T : Tables} {𝓟 : Padded T} where
 
 module _ {T : Tables} (𝓜 : Measured T) (e : AliasingEffect) where
   -- one found has it by the laws of the tables, a new one is the one given
-  known : (o : Option AliasingEffect) → ((x : AliasingEffect) → o ≡ some x → effect_key e ≡ effect_key x) → (w : World T) → Holds (λ x. effect_key e ≡ effect_key x) (intern_new e o w)
+  known : (o : Option AliasingEffect) → ((x : AliasingEffect) → o ≡ Some x → effect_key e ≡ effect_key x) → (w : World T) → Holds (λ x. effect_key e ≡ effect_key x) (intern_new e o w)
   unfolding intern_new ask ◌>>=◌ ◌>>◌ and_then when◌then◌else◌ return refuse put_effect change
-  known (some x) h w = refreshed_key e x (h x refl)
-  known none h w = go (leb 2048 (T.interned_count w.rest.context))
+  known (Some x) h w = refreshed_key e x (h x refl)
+  known None h w = go (leb 2048 (T.interned_count w.rest.context))
     where
       go : (b : Bool) → Holds (λ x. effect_key e ≡ effect_key x) ((when b then refuse 8 else (put_effect {T = T} e >> return e)) w)
       go true = tt
@@ -196,8 +195,8 @@ module _ {T : Tables} {𝓟 : Padded T} where
   -- the number found, or a fresh one
   pub or_fresh_near : {b : ℕ} (k : EffectKey) (o : Option ℕ) → Near 𝓟 b (or_fresh k o)
   unfolding or_fresh
-  or_fresh_near k (some n) = search base
-  or_fresh_near k none = search (base, fresh_number_near, cache_near)
+  or_fresh_near k (Some n) = search base
+  or_fresh_near k None = search (base, fresh_number_near, cache_near)
 
   -- `get_or_create_value_id`
   pub number_for_near : {b : ℕ} (k : EffectKey) → Near 𝓟 b (get_or_create_value_id k)
@@ -224,14 +223,14 @@ module _ {T : Tables} {𝓟 : Padded T} where
   -- the identity found, or the next
   pub new_identity_near : {b : ℕ} (o : Option ℕ) → Near 𝓟 b (new_identity o)
   unfolding new_identity
-  new_identity_near (some n) = search base
-  new_identity_near none = search (base, 𝓟.identity_count)
+  new_identity_near (Some n) = search base
+  new_identity_near None = search (base, 𝓟.identity_count)
 
   -- the instance found, or a new one
   pub new_instance_near : {b : ℕ} (n : ℕ) (x : Diagnostic) (o : Option ℕ) → Near 𝓟 b (new_instance n x o)
   unfolding new_instance
-  new_instance_near n x (some m) = search base
-  new_instance_near n x none = search (base, put_diagnostic_near, 𝓟.instance_count)
+  new_instance_near n x (Some m) = search base
+  new_instance_near n x None = search (base, put_diagnostic_near, 𝓟.instance_count)
 
   -- `intern_aliasing_diagnostic`
   pub intern_diagnostic_near : {b : ℕ} (x : Diagnostic) → Near 𝓟 b (intern_diagnostic x)

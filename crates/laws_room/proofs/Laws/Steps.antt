@@ -1,10 +1,9 @@
 -- Each effect, and an instruction, does the same where there is room for what its key needs. Assumes nothing.
 use Prim.Native.Nat.{ℕ, zero, suc, ◌*◌}
 use Rattle.std.proofs.Common.{arith, sym}
-use Rattle.std.specs.Prelude.{◌≡◌, refl, true, false, length}
+use Rattle.std.specs.Prelude.{◌≡◌, refl, true, false, length, Option, None, Some}
 use Rattle.std.proofs.Math.Path.{ap, subst}
 use mathlib.Core.List.{List, [], ◌∷◌}
-use Rattle.std.proofs.Math.Option.{Option, none, some}
 use Rattle.def_kinds.specs.declared.ValueKind.{ValueKind}
 use Rattle.def_kinds.specs.declared.AbstractValue.{AbstractValue}
 use Rattle.def_effects.specs.declared.Place.{Place}
@@ -193,8 +192,8 @@ module _ {T : Tables} {𝓟 : Padded T} where
   -- the early errors of an instruction
   early_errors_near : {b : ℕ} (o : Option ℕ) → Near 𝓟 b (early_errors o)
   unfolding early_errors
-  early_errors_near none = done_near
-  early_errors_near (some f) = search (parts, early_error_near, 𝓟.mutated_inside) depth 12
+  early_errors_near None = done_near
+  early_errors_near (Some f) = search (parts, early_error_near, 𝓟.mutated_inside) depth 12
 
   -- the run of an instruction: what its candidates need
   pub run_near : (ins : Instruction) → Near 𝓟 (needs ins.candidates) (run ins)

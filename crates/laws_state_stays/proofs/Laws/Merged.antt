@@ -1,9 +1,8 @@
 -- Accepted states stay accepted under merges: of two accepted states of one list and one session, merged in place or into a third. Assumes nothing.
-use Rattle.std.specs.Prelude.{◌≡◌, refl, Bool, not, ◌||◌, List, eqb, length, get_or, replicate}
+use Rattle.std.specs.Prelude.{◌≡◌, refl, Bool, not, ◌||◌, List, eqb, length, get_or, replicate, Option, None, Some}
 use Rattle.std.proofs.Common.{sym, ◌∙◌, subst, ⊎_elim, mod-eq_of_lt, arith, ltb-true, lt-ltb}
 use Rattle.std.proofs.Math.Path.{ap}
 use Rattle.std.proofs.Math.Bool.{true, false}
-use Rattle.std.proofs.Math.Option.{Option, none, some}
 use Prim.Native.Nat.{ℕ, zero, suc, ◌+◌, ◌*◌, ◌/◌, ◌%◌, ◌^◌, ◌≤◌, ◌<◌}
 use Rattle.std.proofs.lemmas.List.{length-replicate, get_or-replicate}
 use Rattle.std.proofs.Math.ListN.{get_or-eq_default}
@@ -32,8 +31,8 @@ use Rattle.laws_state_stays.proofs.Laws.Fits.{Good, WordFit, ValuesFit, SetsFit,
 
 -- an entry that may be written at v: its number is good and its reasons there are; none may always be
 abbrev EntryFit : ℕ → ℕ → ℕ → Option AbstractValue → Type 0
-EntryFit n next v none = Unit {0}
-EntryFit n next v (some a) = Good n next v × (are_reasons a.reason ≡ true)
+EntryFit n next v None = Unit {0}
+EntryFit n next v (Some a) = Good n next v × (are_reasons a.reason ≡ true)
 
 -- the entry of a fit word
 entry_fit : (n next v x : ℕ) → WordFit n next v x → EntryFit n next v (cell_of x)
@@ -55,13 +54,13 @@ join_reasons_is a b p q = lt-ltb _ (2 ^ 12) (or_lt 12 a.reason b.reason (ltb-tru
 
 join_fit : (n next v : ℕ) (x y : Option AbstractValue) → EntryFit n next v x → EntryFit n next v y → EntryFit n next v (join_option Values.join x y)
 unfolding join_option
-join_fit n next v none y p q = q
-join_fit n next v (some a) none p q = p
-join_fit n next v (some a) (some b) p q = (p.0, join_reasons_is a b p.1 q.1)
+join_fit n next v None y p q = q
+join_fit n next v (Some a) None p q = p
+join_fit n next v (Some a) (Some b) p q = (p.0, join_reasons_is a b p.1 q.1)
 
 put_fit : (n next v : ℕ) (vs : List ℕ) (o : Option AbstractValue) → EntryFit n next v o → ValuesFit n next vs → ValuesFit n next (put_entry vs v o)
-put_fit n next v vs none p x = x
-put_fit n next v vs (some a) p x = value_stays n next v a p.0 p.1 vs x
+put_fit n next v vs None p x = x
+put_fit n next v vs (Some a) p x = value_stays n next v a p.0 p.1 vs x
 
 module _ (n next : ℕ) (ws : List ℕ) (y : ValuesFit n next ws) where
   value_turn : (v : ℕ) (vs : List ℕ) → v < 1024 → ValuesFit n next vs → ValuesFit n next (merge_value ws v vs)
@@ -88,13 +87,13 @@ module _ (n next : ℕ) (ws : List ℕ) (y : ValuesFit n next ws) where
 
 union_fit : (P : ℕ → Type 0) (x y : Option ℕ) → All P (values_of x) → All P (values_of y) → All P (values_of (join_option union x y))
 unfolding join_option
-union_fit P none y a b = b
-union_fit P (some s) none a b = a
-union_fit P (some s) (some t) a b = all_union P s t a b
+union_fit P None y a b = b
+union_fit P (Some s) None a b = a
+union_fit P (Some s) (Some t) a b = all_union P s t a b
 
 some_fit : (n next : ℕ) (ss : List ℕ) (i : ℕ) (o : Option ℕ) → All (Good n next) (values_of o) → SetsFit n next ss → SetsFit n next (put_some ss i o)
-some_fit n next ss i none a x = x
-some_fit n next ss i (some s) a x = set_stays n next ss i s a x
+some_fit n next ss i None a x = x
+some_fit n next ss i (Some s) a x = set_stays n next ss i s a x
 
 module _ (n next : ℕ) (ts : List ℕ) (y : SetsFit n next ts) where
   set_turn : (i : ℕ) (ss : List ℕ) → i < n → SetsFit n next ss → SetsFit n next (merge_set ts i ss)

@@ -1,10 +1,9 @@
 -- Accepted states stay accepted: a public call on an accepted state leaves one, whether it is refused or not. Assumes nothing.
-use Rattle.std.specs.Prelude.{◌≡◌, Bool, ◌||◌, eqb}
+use Rattle.std.specs.Prelude.{◌≡◌, Bool, ◌||◌, eqb, Option, None, Some}
 use Rattle.std.proofs.Math.Path.{refl}
 use Rattle.std.proofs.Common.{sym, ap, subst, mod-eq_of_lt, arith}
 use Rattle.std.proofs.Math.Bool.{true, false, not}
 use mathlib.Core.List.{List, [], ◌∷◌}
-use Rattle.std.proofs.Math.Option.{Option, none, some}
 use Prim.Native.Nat.{ℕ, zero, suc, ◌^◌, ◌≤◌, ◌<◌}
 use Rattle.std.proofs.Math.Pow.{pow-lt}
 use borrow.Author.Tests.{ltb-true, lt-ltb, not-false}
@@ -122,25 +121,25 @@ module _ (n next : ℕ) (ss : List ℕ) (y : SetsFit n next ss) where
   bits_good i l = go (set_at ss i) (y.row i l).good
     where
       go : (o : Option ℕ) → All (Good n next) (values_of o) → All (Good n next) (members (bits_of o))
-      go none a = no_members (Good n next)
-      go (some s) a = a
+      go None a = no_members (Good n next)
+      go (Some s) a = a
 
   append_stays : (place value : ℕ) → place < n → value < n → SetsFit n next (append_set ss place value)
   unfolding append_set
   append_stays place value l k = go (set_at ss place) (set_at ss value) (y.row place l).good (y.row value k).good
     where
       go : (o p : Option ℕ) → All (Good n next) (values_of o) → All (Good n next) (values_of p) → SetsFit n next (appended ss place o p)
-      go none p a b = y
-      go (some s) none a b = y
-      go (some s) (some t) a b = set_stays n next ss place (union s t) (all_union (Good n next) s t a b) y
+      go None p a b = y
+      go (Some s) None a b = y
+      go (Some s) (Some t) a b = set_stays n next ss place (union s t) (all_union (Good n next) s t a b) y
 
   assign_sets : (into from : ℕ) → from < n → SetsFit n next (assigned_sets ss into from)
   unfolding assigned_sets own_sets
   assign_sets into from l = go (set_at ss from) (y.row from l).good
     where
       go : (o : Option ℕ) → All (Good n next) (values_of o) → SetsFit n next (set_or_own ss into from o)
-      go none a = set_stays n next ss into (singleton (from_identifier from)) (all_singleton (Good n next) (from_identifier from) (own_good n next from l)) y
-      go (some s) a = set_stays n next ss into s a y
+      go None a = set_stays n next ss into (singleton (from_identifier from)) (all_singleton (Good n next) (from_identifier from) (own_good n next from l)) y
+      go (Some s) a = set_stays n next ss into s a y
 
   unions_good : (is : List ℕ) (s : ℕ) → All (λ (i : ℕ). i < n) is → All (Good n next) (members s) → All (Good n next) (members (unions ss is s))
   unfolding unions
@@ -161,12 +160,12 @@ module _ (n next : ℕ) (vs ss : List ℕ) (x : ValuesFit n next vs) where
   assign_values from l = go (set_at ss from)
     where
       own : (o : Option AbstractValue) → ValuesFit n next (inserted vs (from_identifier from) o)
-      own none = value_stays n next (from_identifier from) default (own_good n next from l) (single_reasons 11 (omega arith)) vs x
-      own (some a) = x
+      own None = value_stays n next (from_identifier from) default (own_good n next from l) (single_reasons 11 (omega arith)) vs x
+      own (Some a) = x
 
       go : (o : Option ℕ) → ValuesFit n next (own_value vs from o)
-      go none = own (value_at vs (from_identifier from))
-      go (some s) = x
+      go None = own (value_at vs (from_identifier from))
+      go (Some s) = x
 
   freeze_values : (i reason : ℕ) → i < n → SetsFit n next ss → are_reasons (single reason) ≡ true → ValuesFit n next (frozen_values vs ss i reason)
   unfolding frozen_values

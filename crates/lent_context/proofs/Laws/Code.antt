@@ -1,8 +1,7 @@
 -- Laws by which the code of a context's tables meets the definitions. Assumes nothing.
-use Rattle.std.specs.Prelude.{ℕ, suc, ◌+◌, ◌-◌, ◌*◌, ◌/◌, ◌%◌, ◌≤◌, ◌<◌, ◌≡◌, Bool, not, ◌&&◌, List, get_or}
+use Rattle.std.specs.Prelude.{ℕ, suc, ◌+◌, ◌-◌, ◌*◌, ◌/◌, ◌%◌, ◌≤◌, ◌<◌, ◌≡◌, Bool, not, ◌&&◌, List, get_or, Option, Some}
 use Rattle.std.proofs.Common.{arith, add-one, ap, ◌∙◌}
 use Rattle.std.proofs.Math.Path.{sym, ap₂}
-use Rattle.std.proofs.Math.Option.{Option, some}
 use Rattle.std.proofs.Math.Dec.{eqb}
 use borrow.Author.Tests.{eq-eqb, ne_eqb}
 use Rattle.base_tests.proofs.Laws.Bool.{and_true, and_false}
@@ -61,9 +60,9 @@ link_is c v i o e g = g ∙ ap (λ (j : ℕ). option_in Layout.links c j 0) e
 
 -- a value gets a function
 -- the value's number is widened
-pub link_put : (c d : List ℕ) (v f i : ℕ) → i ≡ v → d ≡ put_option Layout.links c i 0 (some f) → d ≡ put_link c v f
+pub link_put : (c d : List ℕ) (v f i : ℕ) → i ≡ v → d ≡ put_option Layout.links c i 0 (Some f) → d ≡ put_link c v f
 unfolding put_link
-link_put c d v f i e g = g ∙ ap (λ (j : ℕ). put_option Layout.links c j 0 (some f)) e
+link_put c d v f i e g = g ∙ ap (λ (j : ℕ). put_option Layout.links c j 0 (Some f)) e
 
 -- a word of a record of any table, and a place
 -- the record's number is widened

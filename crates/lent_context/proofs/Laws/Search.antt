@@ -1,7 +1,6 @@
 -- Laws by which the searches of a context's tables meet the definitions. Assumes nothing.
-use Rattle.std.specs.Prelude.{ℕ, suc, ◌+◌, ◌-◌, ◌≤◌, ◌<◌, ◌≡◌, refl, Bool, true, false, not, List, [], ◌∷◌, eqb, get_or, set}
+use Rattle.std.specs.Prelude.{ℕ, suc, ◌+◌, ◌-◌, ◌≤◌, ◌<◌, ◌≡◌, refl, Bool, true, false, not, List, [], ◌∷◌, eqb, get_or, set, Option, None, Some, Ok}
 use Rattle.std.proofs.Common.{arith, add-one, sym, ap, ap₂, ◌∙◌, eq-eqb, ne_eqb}
-use Rattle.std.proofs.Math.Option.{Option, none, some}
 use Rattle.def_effects.specs.Effects.{AliasingEffect}
 use Rattle.def_effects.specs.Keys.{EffectKey, effect_key, eq_key}
 use Rattle.def_transfer.specs.Pure.{find_effect as first_under}
@@ -14,7 +13,6 @@ use Rattle.lent_order.specs.Order.{order_at, inserted}
 use Rattle.base_tests.proofs.Laws.Choice.{ite_lt, ite_ge}
 use Rattle.lent_tables.specs.Words.{field}
 use Rattle.base_tests.specs.Tests.{ite}
-use Rattle.base_search.specs.declared.Spot.TheVariants.{At}
 
 -- ---- interned effects
 
@@ -41,17 +39,17 @@ effects_none t c k n h =
     ap (effects_in t c k) m
 
 -- a search ends at an effect under the key
-pub search_ends : (e : AliasingEffect) (es : List AliasingEffect) (k : EffectKey) → eq_key k (effect_key e) ≡ true → first_under (e ∷ es) k ≡ some e
+pub search_ends : (e : AliasingEffect) (es : List AliasingEffect) (k : EffectKey) → eq_key k (effect_key e) ≡ true → first_under (e ∷ es) k ≡ Some e
 unfolding first_under
-search_ends e es k h = ap (λ (b : Bool). elim b as (λ x. Option AliasingEffect) [ true ↦ some e | false ↦ first_under es k ]) h
+search_ends e es k h = ap (λ (b : Bool). elim b as (λ x. Option AliasingEffect) [ true ↦ Some e | false ↦ first_under es k ]) h
 
 -- a search passes over an effect under another key
 pub search_goes : (e : AliasingEffect) (es : List AliasingEffect) (k : EffectKey) → eq_key k (effect_key e) ≡ false → first_under (e ∷ es) k ≡ first_under es k
 unfolding first_under
-search_goes e es k h = ap (λ (b : Bool). elim b as (λ x. Option AliasingEffect) [ true ↦ some e | false ↦ first_under es k ]) h
+search_goes e es k h = ap (λ (b : Bool). elim b as (λ x. Option AliasingEffect) [ true ↦ Some e | false ↦ first_under es k ]) h
 
 -- a search of nothing finds nothing
-pub search_none : (k : EffectKey) → first_under [] k ≡ none
+pub search_none : (k : EffectKey) → first_under [] k ≡ None
 unfolding first_under
 search_none k = refl
 
@@ -63,15 +61,15 @@ unfolding key_count
 keys_counted c x e = e
 
 -- the number at a place of the order: one with a key, or none
-pub number_there : (c : List ℕ) (j r w : ℕ) → r ≡ order_at Layout.key_order c j → w ≡ field Layout.cached c r 0 → (w ≡ 0 → ⊥) → some r ≡ number_at c (At j)
+pub number_there : (c : List ℕ) (j r w : ℕ) → r ≡ order_at Layout.key_order c j → w ≡ field Layout.cached c r 0 → (w ≡ 0 → ⊥) → Some r ≡ number_at c (Ok j)
 unfolding is_keyed
 number_there c j r w e h n =
-    sym (ap (λ (x : ℕ). ite (not (eqb (field Layout.cached c x 0) 0)) (some x) none) (sym e) ∙ ap (λ (b : Bool). ite (not b) (some r) none) (ne_eqb (field Layout.cached c r 0) 0 (λ z. n (h ∙ z))))
+    sym (ap (λ (x : ℕ). ite (not (eqb (field Layout.cached c x 0) 0)) (Some x) None) (sym e) ∙ ap (λ (b : Bool). ite (not b) (Some r) None) (ne_eqb (field Layout.cached c r 0) 0 (λ z. n (h ∙ z))))
 
-pub number_nowhere : (c : List ℕ) (j r w : ℕ) → r ≡ order_at Layout.key_order c j → w ≡ field Layout.cached c r 0 → w ≡ 0 → none ≡ number_at c (At j)
+pub number_nowhere : (c : List ℕ) (j r w : ℕ) → r ≡ order_at Layout.key_order c j → w ≡ field Layout.cached c r 0 → w ≡ 0 → None ≡ number_at c (Ok j)
 unfolding is_keyed
 number_nowhere c j r w e h z =
-    sym (ap (λ (x : ℕ). ite (not (eqb (field Layout.cached c x 0) 0)) (some x) none) (sym e) ∙ ap (λ (b : Bool). ite (not b) (some r) none) (eq-eqb (field Layout.cached c r 0) 0 (sym h ∙ z)))
+    sym (ap (λ (x : ℕ). ite (not (eqb (field Layout.cached c x 0) 0)) (Some x) None) (sym e) ∙ ap (λ (b : Bool). ite (not b) (Some r) None) (eq-eqb (field Layout.cached c r 0) 0 (sym h ∙ z)))
 
 -- one more, as far as a word can count
 pub more_one : (n : ℕ) → n < 4294967295 → n + 1 ≡ one_more n

@@ -8,6 +8,3 @@ abbrev pub invariant-loop-k : goal.invariant-loop-k
 invariant-loop-k l =
     (length l.context ≡ length l.initial.context)
     × (read_places l.f l.i l.initial.k (l.n - l.initial.k) l.initial.context ≡ read_places l.f l.i l.k (l.n - l.k) l.context)
-
-abbrev pub decreases-loop-k : goal.decreases-loop-k
-decreases-loop-k l = l.n - l.k

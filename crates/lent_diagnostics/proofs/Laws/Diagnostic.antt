@@ -1,11 +1,10 @@
 -- Laws by which the code of diagnostics meets the definitions. Assumes nothing.
-use Rattle.std.specs.Prelude.{ℕ, suc, max, ◌+◌, ◌-◌, ◌≤◌, ◌<◌, ◌≡◌, Bool, not, ◌&&◌, ◌||◌, eqb, get_or}
+use Rattle.std.specs.Prelude.{ℕ, suc, max, ◌+◌, ◌-◌, ◌≤◌, ◌<◌, ◌≡◌, Bool, not, ◌&&◌, ◌||◌, eqb, get_or, Option, None, Some}
 use native.Mathlib.Omega.{arith}
 use Rattle.std.proofs.Common.{add-one, ap₂, ◌∙◌, eq-eqb, ne_eqb}
 use Rattle.std.proofs.Math.Path.{refl, sym, ap}
 use Rattle.std.proofs.Math.Bool.{true, false}
 use mathlib.Core.List.{List, [], ◌∷◌}
-use Rattle.std.proofs.Math.Option.{Option, none, some}
 use Rattle.base_tests.proofs.Laws.Bool.{not_true, not-false}
 use Rattle.def_effects.specs.declared.Span.{Span}
 use Rattle.def_effects.specs.declared.Diagnostic.{Diagnostic}
@@ -217,7 +216,7 @@ identities_end c k n most hn l inv =
 module _ (c : List ℕ) (d : Diagnostic) (k n : ℕ) where
   -- the search of an identity, with one record to look at
   identity_next : k < n → first_identity (diagnostics_in c k (n - k)) d
-      ≡ elim (same_identity d (diagnostic_in c k).diagnostic) as (λ x. Option ℕ) [ true ↦ some (diagnostic_in c k).identity | false ↦ first_identity (diagnostics_in c (k + 1) (n - (k + 1))) d ]
+      ≡ elim (same_identity d (diagnostic_in c k).diagnostic) as (λ x. Option ℕ) [ true ↦ Some (diagnostic_in c k).identity | false ↦ first_identity (diagnostics_in c (k + 1) (n - (k + 1))) d ]
   unfolding first_identity
   identity_next l = ap (λ (ds : List Interned). first_identity ds d) (diagnostics_more c k n l)
 
@@ -226,7 +225,7 @@ module _ (c : List ℕ) (d : Diagnostic) (k n : ℕ) where
       → first_identity (diagnostics_in c k (n - k)) d ≡ first_identity (diagnostics_in c (k + 1) (n - (k + 1))) d
   identity_passed x b l g h z =
       identity_next l
-      ∙ ap (λ (t : Bool). elim t as (λ x. Option ℕ) [ true ↦ some (diagnostic_in c k).identity | false ↦ first_identity (diagnostics_in c (k + 1) (n - (k + 1))) d ])
+      ∙ ap (λ (t : Bool). elim t as (λ x. Option ℕ) [ true ↦ Some (diagnostic_in c k).identity | false ↦ first_identity (diagnostics_in c (k + 1) (n - (k + 1))) d ])
       (ap (λ (y : Interned). same_identity d y.diagnostic) (sym g) ∙ sym h ∙ z)
 
   module _ (hn : n ≡ instance_count c) (inv : first_identity (diagnostics_in c 0 (n - 0)) d ≡ first_identity (diagnostics_in c k (n - k)) d) where
@@ -239,15 +238,15 @@ module _ (c : List ℕ) (d : Diagnostic) (k n : ℕ) where
         ap (λ (m : ℕ). first_identity (diagnostics_in c 0 m) d) (sym (a ∙ hn)) ∙ inv
 
     -- the search ends at record k
-    pub identity_found : (x : Numbered) (b : Bool) → k < n → interned_of x ≡ diagnostic_in c k → b ≡ same_identity d x.diagnostic → b ≡ true → some x.identity ≡ find_identity c d
+    pub identity_found : (x : Numbered) (b : Bool) → k < n → interned_of x ≡ diagnostic_in c k → b ≡ same_identity d x.diagnostic → b ≡ true → Some x.identity ≡ find_identity c d
     identity_found x b l g h z =
-        ap (λ (y : Interned). some y.identity) g
+        ap (λ (y : Interned). Some y.identity) g
         ∙ sym (identity_left ∙ identity_next l
-        ∙ ap (λ (t : Bool). elim t as (λ x. Option ℕ) [ true ↦ some (diagnostic_in c k).identity | false ↦ first_identity (diagnostics_in c (k + 1) (n - (k + 1))) d ])
+        ∙ ap (λ (t : Bool). elim t as (λ x. Option ℕ) [ true ↦ Some (diagnostic_in c k).identity | false ↦ first_identity (diagnostics_in c (k + 1) (n - (k + 1))) d ])
         (ap (λ (y : Interned). same_identity d y.diagnostic) (sym g) ∙ sym h ∙ z))
 
     -- the search ends without a record
-    pub identity_nowhere : n ≤ k → none ≡ find_identity c d
+    pub identity_nowhere : n ≤ k → None ≡ find_identity c d
     unfolding first_identity
     identity_nowhere l = sym (identity_left ∙ ap (λ (ds : List Interned). first_identity ds d) (diagnostics_none c k n l))
 
@@ -259,18 +258,18 @@ module _ (c : List ℕ) (m : ℕ) (d : Diagnostic) (k n : ℕ) where
 
   -- the search of an instance, with one record to look at
   instance_next : k < n → first_instance k (diagnostics_in c k (n - k)) m d
-      ≡ elim (is_instance (diagnostic_in c k)) as (λ x. Option ℕ) [ true ↦ some k | false ↦ first_instance (k + 1) (diagnostics_in c (k + 1) (n - (k + 1))) m d ]
+      ≡ elim (is_instance (diagnostic_in c k)) as (λ x. Option ℕ) [ true ↦ Some k | false ↦ first_instance (k + 1) (diagnostics_in c (k + 1) (n - (k + 1))) m d ]
   unfolding first_instance
   instance_next l =
       ap (λ (ds : List Interned). first_instance k ds m d) (diagnostics_more c k n l)
-      ∙ ap (λ (z : ℕ). elim (is_instance (diagnostic_in c k)) as (λ x. Option ℕ) [ true ↦ some k | false ↦ first_instance z (diagnostics_in c (k + 1) (n - (k + 1))) m d ]) (sym (add-one k))
+      ∙ ap (λ (z : ℕ). elim (is_instance (diagnostic_in c k)) as (λ x. Option ℕ) [ true ↦ Some k | false ↦ first_instance z (diagnostics_in c (k + 1) (n - (k + 1))) m d ]) (sym (add-one k))
 
   -- a turn passes over record k
   pub instance_passed : (x : Numbered) (b : Bool) → k < n → interned_of x ≡ diagnostic_in c k → b ≡ (eqb m x.identity && same_labels d x.diagnostic) → b ≡ false
       → first_instance k (diagnostics_in c k (n - k)) m d ≡ first_instance (k + 1) (diagnostics_in c (k + 1) (n - (k + 1))) m d
   instance_passed x b l g h z =
       instance_next l
-      ∙ ap (λ (t : Bool). elim t as (λ x. Option ℕ) [ true ↦ some k | false ↦ first_instance (k + 1) (diagnostics_in c (k + 1) (n - (k + 1))) m d ]) (ap is_instance (sym g) ∙ sym h ∙ z)
+      ∙ ap (λ (t : Bool). elim t as (λ x. Option ℕ) [ true ↦ Some k | false ↦ first_instance (k + 1) (diagnostics_in c (k + 1) (n - (k + 1))) m d ]) (ap is_instance (sym g) ∙ sym h ∙ z)
 
   module _ (hn : n ≡ instance_count c) (inv : first_instance 0 (diagnostics_in c 0 (n - 0)) m d ≡ first_instance k (diagnostics_in c k (n - k)) m d) where
     -- the definition's search is what the loop has left to do
@@ -282,12 +281,12 @@ module _ (c : List ℕ) (m : ℕ) (d : Diagnostic) (k n : ℕ) where
         ap (λ (u : ℕ). first_instance 0 (diagnostics_in c 0 u) m d) (sym (a ∙ hn)) ∙ inv
 
     -- the search ends at record k
-    pub instance_found : (x : Numbered) (b : Bool) → k < n → interned_of x ≡ diagnostic_in c k → b ≡ (eqb m x.identity && same_labels d x.diagnostic) → b ≡ true → some k ≡ find_instance c m d
+    pub instance_found : (x : Numbered) (b : Bool) → k < n → interned_of x ≡ diagnostic_in c k → b ≡ (eqb m x.identity && same_labels d x.diagnostic) → b ≡ true → Some k ≡ find_instance c m d
     instance_found x b l g h z =
         sym (instance_left ∙ instance_next l
-        ∙ ap (λ (t : Bool). elim t as (λ x. Option ℕ) [ true ↦ some k | false ↦ first_instance (k + 1) (diagnostics_in c (k + 1) (n - (k + 1))) m d ]) (ap is_instance (sym g) ∙ sym h ∙ z))
+        ∙ ap (λ (t : Bool). elim t as (λ x. Option ℕ) [ true ↦ Some k | false ↦ first_instance (k + 1) (diagnostics_in c (k + 1) (n - (k + 1))) m d ]) (ap is_instance (sym g) ∙ sym h ∙ z))
 
     -- the search ends without a record
-    pub instance_nowhere : n ≤ k → none ≡ find_instance c m d
+    pub instance_nowhere : n ≤ k → None ≡ find_instance c m d
     unfolding first_instance
     instance_nowhere l = sym (instance_left ∙ ap (λ (ds : List Interned). first_instance k ds m d) (diagnostics_none c k n l))

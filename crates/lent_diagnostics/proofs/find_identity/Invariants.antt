@@ -6,6 +6,3 @@ use Rattle.lent_diagnostics.proofs.find_identity.Given as goal
 
 abbrev pub invariant-loop-k : goal.invariant-loop-k
 invariant-loop-k l = first_identity (diagnostics_in l.context l.initial.k (l.n - l.initial.k)) l.d ≡ first_identity (diagnostics_in l.context l.k (l.n - l.k)) l.d
-
-abbrev pub decreases-loop-k : goal.decreases-loop-k
-decreases-loop-k l = l.n - l.k

@@ -7,18 +7,9 @@ use Rattle.lent_effects.proofs.copy_captures.Goals as goal
 pub loop-k-init : goal.loop-k-init
 loop-k-init c = (omega arith, refl, refl)
 
-pub overflow_add-k : goal.overflow_add-k
-overflow_add-k c = omega arith
-
-pub overflow_add-k-in-loop-k : goal.overflow_add-k-in-loop-k
-overflow_add-k-in-loop-k c = omega arith
-
-pub loop-k-smaller : goal.loop-k-smaller
-loop-k-smaller c = omega arith
-
 pub loop-k-preserved : goal.loop-k-preserved
 loop-k-preserved c =
-    (omega arith, copied_more _ _ _ _ _ _ _ c.loop-k-test.true c.field.ensures c.set32.ensures ∙ c.loop-k.invariant.1, copied_kept c.loop-k.out _ c.loop-k.k c.field.result c.set32.ensures ∙ c.loop-k.invariant.2)
+    (omega arith, copied_more _ _ _ _ _ _ _ c.loop-k-test.true c.field.ensures c.set.ensures ∙ c.loop-k.invariant.1, copied_kept c.loop-k.out _ c.loop-k.k c.field.result c.set.ensures ∙ c.loop-k.invariant.2)
 
 pub returns : goal.returns
 returns c = copied_none _ _ _ _ _ (omega arith) ∙ c.loop-k.invariant.1

@@ -6,6 +6,3 @@ use Rattle.lent_effects.proofs.copy_captures.Given as goal
 
 abbrev pub invariant-loop-k : goal.invariant-loop-k
 invariant-loop-k l = (l.k ≤ 81) × (copied_from l.t l.xs l.i l.k (81 - l.k) l.out ≡ copied_captures l.t l.xs l.i l.initial.out) × (length l.out ≡ length l.initial.out)
-
-abbrev pub decreases-loop-k : goal.decreases-loop-k
-decreases-loop-k l = 81 - l.k

@@ -9,12 +9,6 @@ use Rattle.lent_effects.proofs.put_captures.Goals as goal
 pub loop-k-init : goal.loop-k-init
 loop-k-init c = (omega arith, put_start _ _ _ _ _ c.field-n.ensures, refl)
 
-pub overflow_add-k : goal.overflow_add-k
-overflow_add-k c = omega arith
-
-pub loop-k-smaller : goal.loop-k-smaller
-loop-k-smaller c = omega arith
-
 pub loop-k-preserved : goal.loop-k-preserved
 loop-k-preserved c =
     (omega arith, put_more _ _ _ _ _ _ _ _ c.loop-k-test.true c.place_in.ensures c.put_place.ensures ∙ c.loop-k.invariant.1, ap length c.put_place.ensures ∙ place_length _ _ _ _ _ ∙ c.loop-k.invariant.2)

@@ -8,6 +8,3 @@ use Rattle.lent_effects.proofs.put_captures.Given as goal
 
 abbrev pub invariant-loop-k : goal.invariant-loop-k
 invariant-loop-k l = (l.k ≤ l.n) × (put_places l.t l.xs l.i 18 l.k (places_in one_run l.captures 0 1 l.k (l.n - l.k)) ≡ put_places l.t l.initial.xs l.i 18 0 (captures_of l.captures)) × (length l.xs ≡ length l.initial.xs)
-
-abbrev pub decreases-loop-k : goal.decreases-loop-k
-decreases-loop-k l = l.n - l.k

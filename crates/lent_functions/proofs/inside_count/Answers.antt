@@ -1,5 +1,6 @@
+use Rattle.std.proofs.Common.{refl}
 use Rattle.lent_context.proofs.Laws.Code.{count_is}
 use Rattle.lent_functions.proofs.inside_count.Goals as goal
 
 pub returns : goal.returns
-returns c = count_is _ _ _ _ _ _ c.wide32.ensures c.field.ensures
+returns c = count_is _ _ _ _ _ _ refl c.field.ensures

@@ -1,12 +1,12 @@
 -- Laws by which a loop over two runs of numbers meets their comparison. Assumes nothing.
 use Prim.Native.Nat.{ℕ, zero, suc, ◌+◌, ◌*◌, ◌-◌, ◌≤◌, ◌<◌}
-use Rattle.std.proofs.Common.{arith, ◌∙◌, subst, mul-le-mul_left, ⊎_elim}
+use Rattle.std.proofs.Common.{arith, ◌∙◌, mul-le-mul_left, ⊎_elim}
 use Rattle.std.specs.Prelude.{◌≡◌, refl, true, false, List}
 use Rattle.std.proofs.Math.Path.{sym, ap, ap₂}
 use Rattle.std.proofs.lemmas.Bool.{false≢true}
-use lib.Dec.{leb, leb→le}
-use Rattle.base_search.specs.declared.Order.{Order}
-use Rattle.base_search.specs.declared.Order.TheVariants.{Less, Same, More}
+use Rattle.std.specs.Ordering.{is_ne}
+use Rattle.std.specs.declared.cmp.Ordering.{Ordering}
+use Rattle.std.specs.declared.cmp.Ordering.TheVariants.{Less, Equal, Greater}
 use Rattle.base_search.specs.Comparings.{compare_numbers, first, compare_lists}
 use Rattle.lent_tables.specs.declared.Table.{Table}
 use Rattle.lent_tables.specs.Words.{field}
@@ -34,23 +34,11 @@ shifted n m k a b = ⊎_elim
     (lt_or_ge m n))
     (lt_or_ge n m)
 
--- ---- whether both runs have left their records
-
-pub not_past : {A : Type 0} → false ≡ true → A
-not_past e = absurd (false≢true e)
-
-pub are_past : (t : Table) (s : ℕ) (u : Table) (r k : ℕ) → (s ≡ 0 → ⊥) → (r ≡ 0 → ⊥) → t.width ≤ k → leb u.width k ≡ true → Past t s k × Past u r k
-are_past t s u r k a b l e = ((above s a, l), (above r b, leb→le u.width k (subst lib.Dec.T (sym e) tt)))
-  where
-    above : (x : ℕ) → (x ≡ 0 → ⊥) → 1 ≤ x
-    above zero n = absurd (n refl)
-    above (suc x) n = omega arith
-
 -- ---- two runs
 
 module _ (t : Table) (xs : List ℕ) (i w s : ℕ) (u : Table) (ys : List ℕ) (j v r : ℕ) where
   -- what is left to compare, from number k on
-  abbrev pub left : ℕ → ℕ → ℕ → Order
+  abbrev pub left : ℕ → ℕ → ℕ → Ordering
   left k n m = compare_lists (numbers_in t xs i w s k (n - k)) (numbers_in u ys j v r k (m - k))
 
   pub left_all : (n m : ℕ) → compare_lists (numbers_in t xs i w s 0 n) (numbers_in u ys j v r 0 m) ≡ left 0 n m
@@ -58,25 +46,32 @@ module _ (t : Table) (xs : List ℕ) (i w s : ℕ) (u : Table) (ys : List ℕ) (
 
   module _ (k n m : ℕ) (l : k < n) where
     -- the second run is done
-    pub second_done : m ≤ k → More ≡ left k n m
+    pub second_done : m ≤ k → Greater ≡ left k n m
     unfolding compare_lists
     second_done h = sym (ap₂ compare_lists (numbers_more t xs i w s k n l) (numbers_none u ys j v r k m h))
 
-    module _ (h : k < m) (x y : ℕ) (ex : x ≡ field t xs i (w + k * s)) (ey : y ≡ field u ys j (v + k * r)) (o : Order) (eo : o ≡ compare_numbers x y) where
+    module _ (h : k < m) (x y : ℕ) (ex : x ≡ field t xs i (w + k * s)) (ey : y ≡ field u ys j (v + k * r)) (o : Ordering) (eo : o ≡ compare_numbers x y) where
       one : left k n m ≡ first o (left (k + 1) n m)
       unfolding compare_lists
       one =
           ap₂ compare_lists (numbers_more t xs i w s k n l) (numbers_more u ys j v r k m h)
-          ∙ ap (λ (z : Order). first z (left (k + 1) n m)) (ap₂ compare_numbers (sym ex) (sym ey) ∙ sym eo)
+          ∙ ap (λ (z : Ordering). first z (left (k + 1) n m)) (ap₂ compare_numbers (sym ex) (sym ey) ∙ sym eo)
 
-      pub one_less : o ≡ Less → Less ≡ left k n m
-      one_less p = sym (one ∙ ap (λ (z : Order). first z (left (k + 1) n m)) p)
+      pub one_differs : is_ne o ≡ true → o ≡ left k n m
+      one_differs p = sym (one ∙ decides o p)
+        where
+          decides : (q : Ordering) → is_ne q ≡ true → first q (left (k + 1) n m) ≡ q
+          decides Less e = refl
+          decides Equal e = absurd (false≢true e)
+          decides Greater e = refl
 
-      pub one_more_is : o ≡ More → More ≡ left k n m
-      one_more_is p = sym (one ∙ ap (λ (z : Order). first z (left (k + 1) n m)) p)
-
-      pub one_same : o ≡ Same → left k n m ≡ left (k + 1) n m
-      one_same p = one ∙ ap (λ (z : Order). first z (left (k + 1) n m)) p
+      pub one_same : is_ne o ≡ false → left k n m ≡ left (k + 1) n m
+      one_same p = one ∙ goes_on o p
+        where
+          goes_on : (q : Ordering) → is_ne q ≡ false → first q (left (k + 1) n m) ≡ left (k + 1) n m
+          goes_on Less e = absurd (false≢true (sym e))
+          goes_on Equal e = refl
+          goes_on Greater e = absurd (false≢true (sym e))
 
   -- past both records every number is 0
   zero_number : (t : Table) (xs : List ℕ) (i w s k : ℕ) → Past t s k → field t xs i (w + k * s) ≡ 0
@@ -89,12 +84,12 @@ module _ (t : Table) (xs : List ℕ) (i w s : ℕ) (u : Table) (ys : List ℕ) (
   zeros_left zero (suc b) k p q = sym (less_is 0 (suc b) (omega arith))
   zeros_left (suc a) zero k p q = sym (more_is (suc a) 0 (omega arith))
   zeros_left (suc a) (suc b) k p q =
-      ap (λ (o : Order). first o (compare_lists (numbers_in t xs i w s (suc k) a) (numbers_in u ys j v r (suc k) b)))
+      ap (λ (o : Ordering). first o (compare_lists (numbers_in t xs i w s (suc k) a) (numbers_in u ys j v r (suc k) b)))
       (ap₂ compare_numbers (zero_number t xs i w s k p) (zero_number u ys j v r k q) ∙ same_is 0)
       ∙ zeros_left a b (suc k) (p.0, (let x = p.1 in omega arith)) (q.0, (let x = q.1 in omega arith)) ∙ sym (both_suc a b)
 
   -- the counts themselves, where both have come as far
-  pub past_both : (k n m : ℕ) (o : Order) → k < n → k < m → Past t s k × Past u r k → o ≡ compare_numbers n m → o ≡ left k n m
+  pub past_both : (k n m : ℕ) (o : Ordering) → k < n → k < m → Past t s k × Past u r k → o ≡ compare_numbers n m → o ≡ left k n m
   past_both k n m o l h p e = e ∙ shifted n m k (omega arith) (omega arith) ∙ sym (zeros_left (n - k) (m - k) k p.0 p.1)
 
   -- the first run is done
@@ -102,6 +97,6 @@ module _ (t : Table) (xs : List ℕ) (i w s : ℕ) (u : Table) (ys : List ℕ) (
   unfolding compare_lists
   first_done k n m h l = sym (ap₂ compare_lists (numbers_none t xs i w s k n h) (numbers_more u ys j v r k m l))
 
-  pub both_done : (k n m : ℕ) → n ≤ k → m ≤ k → Same ≡ left k n m
+  pub both_done : (k n m : ℕ) → n ≤ k → m ≤ k → Equal ≡ left k n m
   unfolding compare_lists
   both_done k n m h l = sym (ap₂ compare_lists (numbers_none t xs i w s k n h) (numbers_none u ys j v r k m l))

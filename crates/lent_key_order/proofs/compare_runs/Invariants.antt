@@ -1,4 +1,4 @@
-use Prim.Native.Nat.{◌-◌, ◌≤◌}
+use Prim.Native.Nat.{◌≤◌}
 use mathlib.Core.Path.{◌≡◌}
 use Rattle.base_search.specs.Comparings.{compare_lists}
 use Rattle.lent_keys.specs.KeyRecords.{numbers_in}
@@ -7,6 +7,3 @@ use Rattle.lent_key_order.proofs.compare_runs.Given as goal
 
 abbrev pub invariant-loop-k : goal.invariant-loop-k
 invariant-loop-k l = (l.k ≤ l.n) × (compare_lists (numbers_in l.t l.xs l.i l.w l.s 0 l.n) (numbers_in l.u l.ys l.j l.v l.r 0 l.m) ≡ left l.t l.xs l.i l.w l.s l.u l.ys l.j l.v l.r l.k l.n l.m)
-
-abbrev pub decreases-loop-k : goal.decreases-loop-k
-decreases-loop-k l = l.n - l.k

@@ -1,5 +1,5 @@
 -- The key of an effect, one law for each effect. Assumes nothing.
-use Rattle.std.specs.Prelude.{ℕ, ◌≡◌, refl, true, List}
+use Rattle.std.specs.Prelude.{ℕ, ◌≡◌, refl, true, List, None, Some}
 use Rattle.std.proofs.Math.Path.{sym, ap}
 use Rattle.std.proofs.Common.{◌∙◌}
 use Rattle.std.proofs.Math.Bool.{false}
@@ -12,7 +12,6 @@ use Rattle.def_effects.specs.Keys.{one, two, effect_key}
 use Rattle.lent_effects.specs.declared.AliasingEffect.{AliasingEffect as Head}
 use Rattle.lent_effects.specs.declared.AliasingEffect.TheVariants as Head
 use Rattle.lent_effects.specs.Records.{effect_with}
-use Rattle.lent_keys.specs.declared.Found.TheVariants.{Nowhere, At}
 use Rattle.lent_keys.specs.declared.Key.{Key}
 use Rattle.lent_keys.specs.KeyRecords.{key_with}
 
@@ -20,13 +19,13 @@ use Rattle.lent_keys.specs.KeyRecords.{key_with}
 
 -- the key of one place
 pub one_is : (n : ℕ) (p : Place) (r d : ℕ) (is : List ℕ)
-    → key_with (record { code = n; from = At p.identifier; into = Nowhere; kind = 0; reason = r; function = Nowhere; identity = d; captured = false }) is ≡ one n p r d
+    → key_with (record { code = n; from = Some p.identifier; into = None; kind = 0; reason = r; function = None; identity = d; captured = false }) is ≡ one n p r d
 unfolding key_with
 one_is n p r d is = refl
 
 -- the key of two places
 pub two_is : (n : ℕ) (p q : Place) (is : List ℕ)
-    → key_with (record { code = n; from = At p.identifier; into = At q.identifier; kind = 0; reason = 0; function = Nowhere; identity = 0; captured = false }) is ≡ two n p q
+    → key_with (record { code = n; from = Some p.identifier; into = Some q.identifier; kind = 0; reason = 0; function = None; identity = 0; captured = false }) is ≡ two n p q
 unfolding key_with
 two_is n p q is = refl
 
@@ -78,10 +77,10 @@ module _ (e : Head) where
 
   -- Create: its key
   pub key_create : (q : Place) (k : ValueKind) (r m : ℕ) → e ≡ Head.Create q k r → m ≡ kind_code k → (cs : List Place)
-      → key_with (record { code = 9; from = Nowhere; into = At q.identifier; kind = m; reason = r; function = Nowhere; identity = 0; captured = false }) (identifiers cs) ≡ effect_key (effect_with e cs)
+      → key_with (record { code = 9; from = None; into = Some q.identifier; kind = m; reason = r; function = None; identity = 0; captured = false }) (identifiers cs) ≡ effect_key (effect_with e cs)
   unfolding effect_with key_with
   key_create q k r m g h cs =
-      ap (λ (x : ℕ). key_with (record { code = 9; from = Nowhere; into = At q.identifier; kind = x; reason = r; function = Nowhere; identity = 0; captured = false }) (identifiers cs)) h
+      ap (λ (x : ℕ). key_with (record { code = 9; from = None; into = Some q.identifier; kind = x; reason = r; function = None; identity = 0; captured = false }) (identifiers cs)) h
       ∙ sym (ap (λ (x : Head). effect_key (effect_with x cs)) g)
 
   -- CreateFrom: its key
@@ -96,7 +95,7 @@ module _ (e : Head) where
 
   -- CreateFunction: its key
   pub key_create_function : (f : ℕ) (q : Place) → e ≡ Head.CreateFunction f q → (cs : List Place)
-      → key_with (record { code = 13; from = Nowhere; into = At q.identifier; kind = 0; reason = 0; function = At f; identity = 0; captured = true }) (identifiers cs) ≡ effect_key (effect_with e cs)
+      → key_with (record { code = 13; from = None; into = Some q.identifier; kind = 0; reason = 0; function = Some f; identity = 0; captured = true }) (identifiers cs) ≡ effect_key (effect_with e cs)
   unfolding effect_with key_with
   key_create_function f q g cs = sym (ap (λ (x : Head). effect_key (effect_with x cs)) g)
 

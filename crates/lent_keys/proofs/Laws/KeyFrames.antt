@@ -1,8 +1,7 @@
 -- What a write of an option or of a key leaves, and that lists with the same words hold the same. Assumes nothing.
-use Rattle.std.specs.Prelude.{ℕ, suc, ◌+◌, ◌*◌, ◌≤◌, ◌<◌, ◌≡◌, refl, true, ◌⊎◌, eqb, length, get_or}
+use Rattle.std.specs.Prelude.{ℕ, suc, ◌+◌, ◌*◌, ◌≤◌, ◌<◌, ◌≡◌, refl, true, ◌⊎◌, eqb, length, get_or, Option, None, Some}
 use Rattle.std.proofs.Common.{ap, ◌∙◌}
 use mathlib.Core.List.{List, [], ◌∷◌}
-use Rattle.std.proofs.Math.Option.{Option, none, some}
 use Rattle.base_tests.specs.Tests.{ite}
 use Rattle.def_effects.specs.Keys.{EffectKey}
 use Rattle.lent_tables.specs.declared.Table.{Table}
@@ -16,7 +15,7 @@ use Rattle.lent_keys.proofs.Laws.Number.{numbers_cong}
 -- the same words hold the same number that may be absent
 pub option_cong : (t : Table) (c d : List ℕ) (i w : ℕ) → ((v : ℕ) → field t d i v ≡ field t c i v) → option_in t d i w ≡ option_in t c i w
 unfolding option_in
-option_cong t c d i w h = λ j. ite (eqb (h w j) 0) none (some (h (w + 1) j))
+option_cong t c d i w h = λ j. ite (eqb (h w j) 0) None (Some (h (w + 1) j))
 
 -- and the same words of a key
 pub head_cong : (t : Table) (c d : List ℕ) (i : ℕ) → ((v : ℕ) → field t d i v ≡ field t c i v) → key_head_in t d i (numbers_in t d i 12 1 0 (field t d i 11)) ≡ key_head_in t c i (numbers_in t c i 12 1 0 (field t c i 11))
@@ -35,7 +34,7 @@ head_cong t c d i h = λ j. record {
 -- and the same key
 pub key_cong : (t : Table) (c d : List ℕ) (i : ℕ) → ((v : ℕ) → field t d i v ≡ field t c i v) → key_in t d i ≡ key_in t c i
 unfolding key_in
-key_cong t c d i h = λ j. ite (eqb (h 0 j) 0) none (some (head_cong t c d i h j))
+key_cong t c d i h = λ j. ite (eqb (h 0 j) 0) None (Some (head_cong t c d i h j))
 
 -- ---- what a write of a key leaves
 

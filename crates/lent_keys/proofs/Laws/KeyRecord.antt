@@ -1,6 +1,6 @@
 -- A key as a record of words: its captures, read, written. Assumes nothing.
 use Prim.Native.Nat.{ℕ, suc, ◌+◌, ◌-◌, ◌*◌, ◌≤◌, ◌<◌}
-use Rattle.std.specs.Prelude.{◌≡◌, Bool, true, length}
+use Rattle.std.specs.Prelude.{◌≡◌, Bool, true, length, Option}
 use Rattle.std.proofs.Common.{sym, ◌∙◌}
 use Rattle.std.proofs.Math.Path.{ap, ap₂}
 use mathlib.Core.List.{List, []}
@@ -13,9 +13,8 @@ use Rattle.lent_tables.specs.declared.Table.{Table}
 use Rattle.lent_tables.specs.Words.{field, put_field}
 use Rattle.lent_effects.specs.declared.AliasingEffect.{AliasingEffect as Head}
 use Rattle.lent_effects.specs.Records.{counted_places, captures_of, effect_with, head_in, effect_in}
-use Rattle.lent_keys.specs.declared.Found.{Found}
 use Rattle.lent_keys.specs.declared.Key.{Key}
-use Rattle.lent_keys.specs.KeyRecords.{option_of, key_with, numbers_in, put_numbers, option_in, put_option, key_head_in, put_head, put_key}
+use Rattle.lent_keys.specs.KeyRecords.{key_with, numbers_in, put_numbers, option_in, put_option, key_head_in, put_head, put_key}
 use Rattle.lent_keys.proofs.Laws.Number.{numbers_more, numbers_none, numbers_all, numbers_count, numbers_taken, places_numbers}
 use Rattle.lent_layout.specs.Layout.{one_run}
 
@@ -47,8 +46,8 @@ module _ (t : Table) (c : List ℕ) (i : ℕ) (other : Key) (e : Head)
 -- ---- a key as a record
 
 -- the key of a record, of the words that were read
-pub reads_head : (t : Table) (c : List ℕ) (i n k r d : ℕ) (f o g : Found)
-    → n ≡ field t c i 1 → option_of f ≡ option_in t c i 2 → option_of o ≡ option_in t c i 4 → k ≡ field t c i 6 → r ≡ field t c i 7 → option_of g ≡ option_in t c i 8 → d ≡ field t c i 10
+pub reads_head : (t : Table) (c : List ℕ) (i n k r d : ℕ) (f o g : Option ℕ)
+    → n ≡ field t c i 1 → f ≡ option_in t c i 2 → o ≡ option_in t c i 4 → k ≡ field t c i 6 → r ≡ field t c i 7 → g ≡ option_in t c i 8 → d ≡ field t c i 10
     → (is : List ℕ) → key_with (record { code = n; from = f; into = o; kind = k; reason = r; function = g; identity = d; captured = true }) is ≡ key_head_in t c i is
 unfolding key_with key_head_in
 reads_head t c i n k r d f o g h1 h2 h3 h4 h5 h6 h7 is = λ j. record {
@@ -86,8 +85,8 @@ module _ (t : Table) (c : List ℕ) (i : ℕ) (ws : List ℕ) where
 
 -- the writes of a key before its captures
 pub writes_head : (t : Table) (c c1 c2 c3 c4 c5 c6 c7 c8 : List ℕ) (i : ℕ) (key : Key)
-    → c1 ≡ put_field t c i 0 1 → c2 ≡ put_field t c1 i 1 key.code → c3 ≡ put_option t c2 i 2 (option_of key.from) → c4 ≡ put_option t c3 i 4 (option_of key.into)
-    → c5 ≡ put_field t c4 i 6 key.kind → c6 ≡ put_field t c5 i 7 key.reason → c7 ≡ put_option t c6 i 8 (option_of key.function) → c8 ≡ put_field t c7 i 10 key.identity
+    → c1 ≡ put_field t c i 0 1 → c2 ≡ put_field t c1 i 1 key.code → c3 ≡ put_option t c2 i 2 key.from → c4 ≡ put_option t c3 i 4 key.into
+    → c5 ≡ put_field t c4 i 6 key.kind → c6 ≡ put_field t c5 i 7 key.reason → c7 ≡ put_option t c6 i 8 key.function → c8 ≡ put_field t c7 i 10 key.identity
     → c8 ≡ put_head t c i (key_with key [])
 unfolding put_head key_with
 writes_head t c c1 c2 c3 c4 c5 c6 c7 c8 i key h1 h2 h3 h4 h5 h6 h7 h8 = cc

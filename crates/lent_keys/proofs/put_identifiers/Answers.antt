@@ -9,18 +9,12 @@ use Rattle.lent_keys.proofs.put_identifiers.Goals as goal
 pub loop-k-init : goal.loop-k-init
 loop-k-init c = (omega arith, write_start _ _ _ _ _, refl)
 
-pub overflow_add-wide32 : goal.overflow_add-wide32
-overflow_add-wide32 c = omega arith
-
 pub overflow_add-k : goal.overflow_add-k
 overflow_add-k c = omega arith
 
-pub loop-k-smaller : goal.loop-k-smaller
-loop-k-smaller c = omega arith
-
 pub loop-k-preserved : goal.loop-k-preserved
 loop-k-preserved c =
-    (omega arith, write_more _ _ _ _ _ _ _ _ _ c.loop-k-test.true c.number_in-x.ensures c.wide32.ensures c.put_field.ensures ∙ c.loop-k.invariant.1, ap length c.put_field.ensures ∙ put_length _ _ _ _ _ ∙ c.loop-k.invariant.2)
+    (omega arith, write_more _ _ _ _ _ _ _ _ _ c.loop-k-test.true c.number_in-x.ensures refl c.put_field.ensures ∙ c.loop-k.invariant.1, ap length c.put_field.ensures ∙ put_length _ _ _ _ _ ∙ c.loop-k.invariant.2)
 
 pub returns : goal.returns
 returns c = write_none _ _ _ _ _ _ (omega arith) ∙ c.loop-k.invariant.1

@@ -7,6 +7,3 @@ use Rattle.lent_keys.proofs.put_identifiers.Given as goal
 
 abbrev pub invariant-loop-k : goal.invariant-loop-k
 invariant-loop-k l = (l.k ≤ l.n) × (put_numbers l.t l.xs l.i 12 1 l.k (numbers_in one_run l.captures 0 1 5 l.k (l.n - l.k)) ≡ put_numbers l.t l.initial.xs l.i 12 1 0 (numbers_in one_run l.captures 0 1 5 0 l.n)) × (length l.xs ≡ length l.initial.xs)
-
-abbrev pub decreases-loop-k : goal.decreases-loop-k
-decreases-loop-k l = l.n - l.k

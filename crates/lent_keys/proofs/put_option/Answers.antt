@@ -1,11 +1,12 @@
 -- `lent_keys::put_option` meets its contract: two writes. Assumes nothing.
+use Rattle.std.proofs.Common.{refl}
 use Rattle.lent_keys.proofs.Laws.Option.{writes_absent, writes_present}
 use Rattle.lent_keys.proofs.put_option.Goals as goal
 
-pub returns-in-Nowhere : goal.returns-in-Nowhere
-returns-in-Nowhere c =
-    writes_absent _ _ _ _ _ _ _ _ _ c.in-Nowhere.is c.wide32.ensures c.wide32-in-Nowhere.ensures c.put_field.ensures c.put_field-in-Nowhere.ensures
+pub returns-in-None : goal.returns-in-None
+returns-in-None c =
+    writes_absent _ _ _ _ _ _ _ _ _ c.in-None.is refl refl c.put_field.ensures c.put_field-in-None.ensures
 
-pub returns-in-At : goal.returns-in-At
-returns-in-At c =
-    writes_present _ _ _ _ _ _ _ _ _ _ c.in-At.is c.wide32-in-At.ensures c.wide32-in-At-2.ensures c.put_field-in-At.ensures c.put_field-in-At-2.ensures
+pub returns-in-Some : goal.returns-in-Some
+returns-in-Some c =
+    writes_present _ _ _ _ _ _ _ _ _ _ c.in-Some.is refl refl c.put_field-in-Some.ensures c.put_field-in-Some-2.ensures

@@ -6,6 +6,3 @@ use Rattle.lent_members.proofs.count_bits.Given as goal
 
 abbrev pub invariant-loop-w : goal.invariant-loop-w
 invariant-loop-w l = l.n + ones (number (16 - l.w) l.rows (l.i * 16 + l.w)) ≡ ones (row_number l.rows l.i)
-
-abbrev pub decreases-loop-w : goal.decreases-loop-w
-decreases-loop-w l = 16 - l.w

@@ -11,11 +11,11 @@ loop-w-init c = below_none _
 
 pub returns-then-x-ne0 : goal.returns-then-x-ne0
 returns-then-x-ne0 c =
-    let g = c.get64-x in
+    let g = c.get_or-x in
     empty_no c.args.acc.now c.loop-w.w g.result c.loop-w-test.true g.ensures g.type_inv c.if-x-ne0.true
 
 pub loop-w-preserved : goal.loop-w-preserved
-loop-w-preserved c = below_more _ _ c.loop-w.invariant (sym c.get64-x.ensures ∙ c.if-x-ne0.false)
+loop-w-preserved c = below_more _ _ c.loop-w.invariant (sym c.get_or-x.ensures ∙ c.if-x-ne0.false)
 
 pub returns : goal.returns
 returns c = empty_yes c.args.acc.now (λ k h. c.loop-w.invariant k (omega arith))

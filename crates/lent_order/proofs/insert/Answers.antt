@@ -17,8 +17,8 @@ loop-k-smaller c = omega arith
 
 pub loop-k-preserved : goal.loop-k-preserved
 loop-k-preserved c =
-    (put_long _ _ _ _ _ _ c.put_field.ensures c.loop-k.invariant.0, c.loop-k.invariant.1 ∙ moves _ _ _ _ _ _ _ _ c.loop-k-test.true c.wide32.ensures c.field-x.ensures c.wide32-in-loop-k.ensures c.put_field.ensures)
+    (put_long _ _ _ _ _ _ c.put_field.ensures c.loop-k.invariant.0, c.loop-k.invariant.1 ∙ moves _ _ _ _ _ _ _ _ c.loop-k-test.true refl c.field-x.ensures refl c.put_field.ensures)
 
 pub returns : goal.returns
 returns c =
-    moved_all _ _ _ _ _ _ _ _ _ c.loop-k-test.false c.loop-k.invariant.1 c.wide32-2.ensures c.put_field-2.ensures
+    moved_all _ _ _ _ _ _ _ _ _ c.loop-k-test.false c.loop-k.invariant.1 refl c.put_field-2.ensures

@@ -1,5 +1,6 @@
+use Rattle.std.proofs.Common.{refl}
 use Rattle.lent_order.proofs.Laws.Insert.{order_read}
 use Rattle.lent_order.proofs.order_at.Goals as goal
 
 pub returns : goal.returns
-returns c = order_read _ _ _ _ _ c.wide32.ensures c.field.ensures
+returns c = order_read _ _ _ _ _ refl c.field.ensures

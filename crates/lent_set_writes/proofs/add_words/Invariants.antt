@@ -6,6 +6,3 @@ use Rattle.lent_set_writes.proofs.add_words.Given as goal
 
 abbrev pub invariant-loop-w : goal.invariant-loop-w
 invariant-loop-w l = (length l.acc ≡ length l.initial.acc) × (add_set l.initial.acc (even_row l.rows l.i) ≡ upto (or_word (even_row l.rows l.i)) (16 - l.w) l.w l.acc)
-
-abbrev pub decreases-loop-w : goal.decreases-loop-w
-decreases-loop-w l = 16 - l.w

@@ -1,6 +1,5 @@
 -- The definitions computed on two rows: what is stored, read, copied, joined and walked. Assumes nothing.
-use Rattle.std.specs.Prelude.{ℕ, ◌+◌, ◌^◌, Bool, true, false, ◌&&◌, List, [], ◌∷◌, T, eqb, replicate}
-use Rattle.std.proofs.Math.Option.{Option, none, some}
+use Rattle.std.specs.Prelude.{ℕ, ◌+◌, ◌^◌, Bool, true, false, ◌&&◌, List, [], ◌∷◌, T, eqb, replicate, Option, None, Some}
 use Rattle.std.specs.Int.Bits.{bit_or}
 use Rattle.base_sets.specs.Members.{members, digits_from}
 use Rattle.lent_sets.specs.Rows.{bit, seek, upto, row_word, set_word, number, row_number, word_of, set_at, put_word, put_row, put_set, copy_set, append_set, member, next_member, left, or_word, add_set}
@@ -15,13 +14,13 @@ one = put_set two 1 (bit_or (2 ^ 5) (2 ^ 700))
 
 -- whether a set is there and is s
 abbrev is : Option ℕ → ℕ → Bool
-is none s = false
-is (some t) s = eqb t s
+is None s = false
+is (Some t) s = eqb t s
 
 -- whether no set is there
 abbrev not_there : Option ℕ → Bool
-not_there none = true
-not_there (some t) = false
+not_there None = true
+not_there (Some t) = false
 
 -- whether two lists of numbers are the same
 abbrev same : List ℕ → List ℕ → Bool

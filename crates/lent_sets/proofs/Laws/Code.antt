@@ -1,8 +1,7 @@
 -- A law for each way through a function of the crate, over plain variables: the proof files cite them. Assumes nothing.
-use Rattle.std.specs.Prelude.{◌≡◌, refl, Bool, true, false, List, eqb, length, get_or, set}
+use Rattle.std.specs.Prelude.{◌≡◌, refl, Bool, true, false, List, eqb, length, get_or, set, Option}
 use Rattle.std.proofs.Math.Path.{sym, ap, ap₂}
 use Rattle.std.proofs.Common.{◌∙◌, subst, ⊎_elim, lt_of_not-le, lt_of_le_of_lt, pos_of_ne-zero, mod-lt, zero-lt-suc, eq-eqb, ne_eqb, lit<, length-set, get_or-set_same, get_or-set_other, ext_get_or}
-use Rattle.std.proofs.Math.Option.{Option}
 use Prim.Native.Nat.{ℕ, zero, suc, ◌+◌, ◌-◌, ◌*◌, ◌/◌, ◌%◌, ◌^◌, ◌≤◌, ◌<◌}
 use native.Mathlib.Omega.{arith}
 use Rattle.std.proofs.lemmas.List.{set-get_or}

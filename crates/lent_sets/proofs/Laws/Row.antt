@@ -1,9 +1,8 @@
 -- Laws of rows: loops over the members of a row, and the rows as a table of sets that is read and written. Assumes nothing.
-use Rattle.std.specs.Prelude.{◌≡◌, true, false, List, [], ◌∷◌, length, get_or, set}
+use Rattle.std.specs.Prelude.{◌≡◌, true, false, List, [], ◌∷◌, length, get_or, set, Option, None, Some}
 use Rattle.std.proofs.Math.Path.{refl, ap}
 use Rattle.std.proofs.Common.{sym, ap₂, ◌∙◌, subst, not-suc-le-zero, mod-eq_of_lt, lt_of_le_of_lt, sub-le, zero-lt-suc, lt_irrefl, lt_of_not-le, add-one, lit<}
 use Rattle.std.proofs.Math.Logic.{⊎_elim}
-use Rattle.std.proofs.Math.Option.{Option, none, some}
 use Prim.Native.Nat.{ℕ, zero, suc, ◌+◌, ◌-◌, ◌*◌, ◌/◌, ◌%◌, ◌^◌, ◌≤◌, ◌<◌, max}
 use Rattle.std.proofs.Math.Nat.{mod-lt}
 use native.Mathlib.Omega.{arith}
@@ -38,21 +37,21 @@ row_odd rs i = sym (bit_low (row_number rs i)) ∙ bit_row rs i 0 (zero-lt-suc 1
 
 -- ---- the set of a row
 
-marked_some : (d n s : ℕ) → marked d n ≡ some s → (0 < d) × (s ≡ n - 1)
+marked_some : (d n s : ℕ) → marked d n ≡ Some s → (0 < d) × (s ≡ n - 1)
 marked_some zero n s e = let z : ◌≡◌ {A = ℕ} 0 1 = cc in absurd (omega arith)
 marked_some (suc d) n s e = (zero-lt-suc d, cc)
 
 -- what `is_defined` answers, as a set
-pub none_of : (o : Option ℕ) → is_some o ≡ false → o ≡ none
-none_of none h = refl
-none_of (some s) h = absurd (let z : ◌≡◌ {A = ℕ} 0 1 = cc in omega arith)
+pub none_of : (o : Option ℕ) → is_some o ≡ false → o ≡ None
+none_of None h = refl
+none_of (Some s) h = absurd (let z : ◌≡◌ {A = ℕ} 0 1 = cc in omega arith)
 
-pub some_of : (o : Option ℕ) → is_some o ≡ true → o ≡ some (bits_of o)
-some_of none h = absurd (let z : ◌≡◌ {A = ℕ} 0 1 = cc in omega arith)
-some_of (some s) h = refl
+pub some_of : (o : Option ℕ) → is_some o ≡ true → o ≡ Some (bits_of o)
+some_of None h = absurd (let z : ◌≡◌ {A = ℕ} 0 1 = cc in omega arith)
+some_of (Some s) h = refl
 
-module _ (rs : List ℕ) (i s : ℕ) (h : set_at rs i ≡ some s) where
-  row_is : (row_number rs i % 2 ≡ 1) × (s ≡ row_number rs i - row_number rs i % 2)
+module _ (rs : List ℕ) (i s : ℕ) (h : set_at rs i ≡ Some s) where
+  pub row_is : (row_number rs i % 2 ≡ 1) × (s ≡ row_number rs i - row_number rs i % 2)
   unfolding set_at
   row_is =
       let r = marked_some (row_number rs i % 2) (row_number rs i) s h in
@@ -105,29 +104,29 @@ next_is rs i v u e h l =
     let k : seek (member rs i) (1024 - v) v < v + (1024 - v) = rw (← e) (omega arith) in
     rw e (seek_at (member rs i) (1024 - v) v k)
 
-left_next : (rs : List ℕ) (i s v u : ℕ) → set_at rs i ≡ some s → 0 < v → v ≤ 1024 → u ≡ next_member rs i v → left s v ≡ left s u
+left_next : (rs : List ℕ) (i s v u : ℕ) → set_at rs i ≡ Some s → 0 < v → v ≤ 1024 → u ≡ next_member rs i v → left s v ≡ left s u
 unfolding next_member
 left_next rs i s v u h p l e = left_seek (member rs i) s (1024 - v) v u (λ k a b. sym (set_bit rs i s h k (omega arith) (omega arith))) e
 
 -- the loop begins with all members
-pub start_members : (rs : List ℕ) (i s u : ℕ) → set_at rs i ≡ some s → u ≡ next_member rs i 1 → members s ≡ left s u
+pub start_members : (rs : List ℕ) (i s u : ℕ) → set_at rs i ≡ Some s → u ≡ next_member rs i 1 → members s ≡ left s u
 start_members rs i s u h e = members_left s ∙ left_skip s 0 (set_zero rs i s h) ∙ left_next rs i s 1 u h (zero-lt-suc 0) (omega arith) e
 
 -- a turn takes the first of those that are left
-pub step_members : (rs : List ℕ) (i s v u : ℕ) → set_at rs i ≡ some s → 0 < v → v < 1024 → 0 < member rs i v → u ≡ next_member rs i (v + 1) → left s v ≡ v ∷ left s u
+pub step_members : (rs : List ℕ) (i s v u : ℕ) → set_at rs i ≡ Some s → 0 < v → v < 1024 → 0 < member rs i v → u ≡ next_member rs i (v + 1) → left s v ≡ v ∷ left s u
 step_members rs i s v u h p l m e =
     left_here s v (subst (λ (x : ℕ). 0 < x) (sym (set_bit rs i s h v p l)) m)
     ∙ ap (λ (k : ℕ). v ∷ left s k) (sym (add-one v))
     ∙ ap (λ (t : List ℕ). v ∷ t) (left_next rs i s (v + 1) u h (omega arith) (omega arith) e)
 
 -- at 1,024 none is left
-pub end_members : (rs : List ℕ) (i s v : ℕ) → set_at rs i ≡ some s → 1024 ≤ v → left s v ≡ []
+pub end_members : (rs : List ℕ) (i s v : ℕ) → set_at rs i ≡ Some s → 1024 ≤ v → left s v ≡ []
 end_members rs i s v h l = left_none 1024 s v (set_fits rs i s h) l
 
 -- where such a loop stands: at a member v of the set s of row i, or at 1,024, its end
 -- a loop's invariant holds this and what is left to do, `left s v`; the laws below take it from turn to turn
 pub record Walk (rs : List ℕ) (i s v : ℕ) : Type 0 where
-  pub row : set_at rs i ≡ some s
+  pub row : set_at rs i ≡ Some s
   pub above : 0 < v
   pub most : v ≤ 1024
   pub found : v < 1024 → 0 < member rs i v
@@ -209,29 +208,29 @@ pub fit_set : (n : ℕ) (rs : List ℕ) (i s : ℕ) → Fit n rs → Fit n (put_
 unfolding put_set
 fit_set n rs i s f = put_length rs i (bit_or s 1) ∙ f
 
-marked_odd : (d n : ℕ) → d ≡ 1 → marked d n ≡ some (n - 1)
+marked_odd : (d n : ℕ) → d ≡ 1 → marked d n ≡ Some (n - 1)
 marked_odd d n e = ap (λ (d : ℕ). marked d n) e
 
 -- 1 joined to t sets its lowest bit, and 1 less is t without that bit
 with_one : (t : ℕ) → bit_or t 1 ≡ t / 2 * 2 + 1
 with_one t = or_step t 1 ∙ ap₂ (λ (x y : ℕ). x * 2 + y) (or_zero_r (t / 2)) (let z : max (t % 2) 1 ≡ 1 = omega arith in z)
 
-marked_one : (t : ℕ) → marked ((t / 2 * 2 + 1) % 2) (t / 2 * 2 + 1) ≡ some (t - t % 2)
-marked_one t = marked_odd ((t / 2 * 2 + 1) % 2) (t / 2 * 2 + 1) (omega arith) ∙ ap some (let z : t / 2 * 2 + 1 - 1 ≡ t - t % 2 = omega arith in z)
+marked_one : (t : ℕ) → marked ((t / 2 * 2 + 1) % 2) (t / 2 * 2 + 1) ≡ Some (t - t % 2)
+marked_one t = marked_odd ((t / 2 * 2 + 1) % 2) (t / 2 * 2 + 1) (omega arith) ∙ ap Some (let z : t / 2 * 2 + 1 - 1 ≡ t - t % 2 = omega arith in z)
 
 inside : (n i k : ℕ) → k ≡ 16 * n → i < n → i * 16 + 16 ≤ k
 inside n i k e h = omega arith
 
 -- the set that stands in a row after a write: the values 1 .. 1,023 of s
-pub set_cut : (n : ℕ) (rs : List ℕ) (i s : ℕ) → Fit n rs → i < n → set_at (put_set rs i s) i ≡ some (s % 2 ^ 1024 - s % 2 ^ 1024 % 2)
+pub set_cut : (n : ℕ) (rs : List ℕ) (i s : ℕ) → Fit n rs → i < n → set_at (put_set rs i s) i ≡ Some (s % 2 ^ 1024 - s % 2 ^ 1024 % 2)
 unfolding set_at put_set
 set_cut n rs i s f h =
     ap (λ (x : ℕ). marked (x % 2) x) (put_same rs i (bit_or s 1) (inside n i (length rs) f h) ∙ or_mod s 1 1024 ∙ with_one (s % 2 ^ 1024))
     ∙ marked_one (s % 2 ^ 1024)
 
 -- for a set that fits, s without bit 0
-pub set_same : (n : ℕ) (rs : List ℕ) (i s : ℕ) → Fit n rs → i < n → s < 2 ^ 1024 → set_at (put_set rs i s) i ≡ some (s - s % 2)
-set_same n rs i s f h l = set_cut n rs i s f h ∙ ap (λ (x : ℕ). some (x - x % 2)) (mod-eq_of_lt l)
+pub set_same : (n : ℕ) (rs : List ℕ) (i s : ℕ) → Fit n rs → i < n → s < 2 ^ 1024 → set_at (put_set rs i s) i ≡ Some (s - s % 2)
+set_same n rs i s f h l = set_cut n rs i s f h ∙ ap (λ (x : ℕ). Some (x - x % 2)) (mod-eq_of_lt l)
 
 -- a write leaves the other rows
 pub set_other : (rs : List ℕ) (i s j : ℕ) → (i ≡ j → ⊥) → set_at (put_set rs i s) j ≡ set_at rs j
@@ -310,23 +309,23 @@ set_has P rs i s j a b = ⊎_elim
 
 -- ---- copies and unions, as writes of a set
 
-pub copy_is : (rs : List ℕ) (into from s : ℕ) → set_at rs from ≡ some s → copy_set rs into from ≡ put_set rs into s
+pub copy_is : (rs : List ℕ) (into from s : ℕ) → set_at rs from ≡ Some s → copy_set rs into from ≡ put_set rs into s
 unfolding copy_set
 copy_is rs into from s h = ap (copied rs into) h
 
-pub copy_not : (rs : List ℕ) (into from : ℕ) → set_at rs from ≡ none → copy_set rs into from ≡ rs
+pub copy_not : (rs : List ℕ) (into from : ℕ) → set_at rs from ≡ None → copy_set rs into from ≡ rs
 unfolding copy_set
 copy_not rs into from h = ap (copied rs into) h
 
-pub append_is : (rs : List ℕ) (place value s t : ℕ) → set_at rs place ≡ some s → set_at rs value ≡ some t → append_set rs place value ≡ put_set rs place (bit_or s t)
+pub append_is : (rs : List ℕ) (place value s t : ℕ) → set_at rs place ≡ Some s → set_at rs value ≡ Some t → append_set rs place value ≡ put_set rs place (bit_or s t)
 unfolding append_set
 append_is rs place value s t h k = ap₂ (appended rs place) h k
 
-pub append_not_place : (rs : List ℕ) (place value : ℕ) → set_at rs place ≡ none → append_set rs place value ≡ rs
+pub append_not_place : (rs : List ℕ) (place value : ℕ) → set_at rs place ≡ None → append_set rs place value ≡ rs
 unfolding append_set
 append_not_place rs place value h = ap (λ (o : Option ℕ). appended rs place o (set_at rs value)) h
 
-pub append_not_value : (rs : List ℕ) (place value s : ℕ) → set_at rs place ≡ some s → set_at rs value ≡ none → append_set rs place value ≡ rs
+pub append_not_value : (rs : List ℕ) (place value s : ℕ) → set_at rs place ≡ Some s → set_at rs value ≡ None → append_set rs place value ≡ rs
 unfolding append_set
 append_not_value rs place value s h k = ap₂ (appended rs place) h k
 

@@ -34,14 +34,14 @@ module _ (P : ℕ → Type 0) where
       go s ih b a (suc v) h =
           subst P (suc-add b v ∙ sym (add-suc b v)) (ih (suc b) (rest (s % 2) b _ a) v (subst (λ (x : ℕ). 0 < x) (bit_suc s v) h))
 
-  none : (b : ℕ) → All P (digits_from 0 (suc b) 0)
+  no_digits : (b : ℕ) → All P (digits_from 0 (suc b) 0)
   unfolding digits_from
-  none b = tt
+  no_digits b = tt
 
   from_bits : (s b : ℕ) → ((v : ℕ) → 0 < bit s v → P (b + v)) → All P (digits_from s b s)
   from_bits =
       bin_ind (λ (s : ℕ). (b : ℕ) → ((v : ℕ) → 0 < bit s v → P (b + v)) → All P (digits_from s b s))
-      (λ b h. subst (All P) (sym (all_step b 0)) (none b))
+      (λ b h. subst (All P) (sym (all_step b 0)) (no_digits b))
       (λ s ih b h. subst (All P) (sym (all_step b s)) (go s b h (ih (suc b) (λ v p. subst P (sym (suc-add b v ∙ sym (add-suc b v))) (h (suc v) (subst (λ (x : ℕ). 0 < x) (sym (bit_suc s v)) p))))))
     where
       go : (s b : ℕ) → ((v : ℕ) → 0 < bit s v → P (b + v)) → All P (digits_from (s / 2) (suc b) (s / 2)) → All P (under (s % 2) b (digits_from (s / 2) (suc b) (s / 2)))

@@ -1,8 +1,10 @@
+use Rattle.std.proofs.Common.{refl, ◌∙◌}
+use Rattle.std.proofs.lemmas.Bool.{le-ltb}
 use Rattle.lent_work.proofs.Laws.Mark.{unmarked_past, marked_in}
 use Rattle.lent_work.proofs.is_marked.Goals as goal
 
-pub returns-then-i-ge512 : goal.returns-then-i-ge512
-returns-then-i-ge512 c = unmarked_past _ _ c.if-i-ge512.true
+pub returns-else-i-lt512 : goal.returns-else-i-lt512
+returns-else-i-lt512 c = le-ltb _ _ c.if-i-lt512.false ∙ unmarked_past _ _ c.if-i-lt512.false
 
-pub returns : goal.returns
-returns c = marked_in _ _ _ c.if-i-ge512.false c.wide32.ensures
+pub returns-then-i-lt512 : goal.returns-then-i-lt512
+returns-then-i-lt512 c = marked_in _ _ _ c.if-i-lt512.true refl

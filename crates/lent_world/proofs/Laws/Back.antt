@@ -1,10 +1,9 @@
 -- Numbers, keys, links, effects and diagnostics that were written are read back. Assumes nothing.
 use Prim.Native.Nat.{ℕ, zero, suc, ◌+◌, ◌*◌, ◌≤◌, ◌<◌}
-use Rattle.std.specs.Prelude.{◌≡◌, eqb, leb, get_or}
+use Rattle.std.specs.Prelude.{◌≡◌, eqb, leb, get_or, Option, None, Some}
 use Rattle.std.proofs.Math.Path.{refl, ap, ap₂}
 use Rattle.std.proofs.Common.{◌∙◌, leb→le}
 use mathlib.Core.List.{List, [], ◌∷◌, ◌++◌}
-use Rattle.std.proofs.Math.Option.{Option, none, some}
 use native.Mathlib.Omega.{arith}
 use Rattle.std.proofs.Math.ListN.{length}
 use Rattle.base_tests.specs.Tests.{ite}
@@ -65,17 +64,17 @@ module _ (t : Table) (i : ℕ) where
 -- ---- options and keys
 
 abbrev flag : Option ℕ → ℕ
-flag none = 0
-flag (some x) = 1
+flag None = 0
+flag (Some x) = 1
 
 abbrev amount : Option ℕ → ℕ
-amount none = 0
-amount (some x) = x
+amount None = 0
+amount (Some x) = x
 
 option_is : (t : Table) (d : List ℕ) (i w : ℕ) (o : Option ℕ) → field t d i w ≡ flag o → field t d i (w + 1) ≡ amount o → option_in t d i w ≡ o
 unfolding option_in
-option_is t d i w none p q = ap₂ (λ (x y : ℕ). ite (eqb x 0) none (some y)) p q
-option_is t d i w (some x) p q = ap₂ (λ (x y : ℕ). ite (eqb x 0) none (some y)) p q
+option_is t d i w None p q = ap₂ (λ (x y : ℕ). ite (eqb x 0) None (Some y)) p q
+option_is t d i w (Some x) p q = ap₂ (λ (x y : ℕ). ite (eqb x 0) None (Some y)) p q
 
 -- a key but for its captures, as words
 abbrev head_words : EffectKey → ℕ → List ℕ
@@ -86,9 +85,9 @@ head_words_is : (t : Table) (c : List ℕ) (i : ℕ) (k : EffectKey) → put_fie
 unfolding put_head put_option put_numbers
 head_words_is t c i k = refl
 
-pub key_back : (t : Table) (c : List ℕ) (i : ℕ) (k : EffectKey) → t.width ≡ 28 → i < t.count → Held t i c → length k.captures ≤ 16 → key_in t (Keys.put_key t c i k) i ≡ some k
+pub key_back : (t : Table) (c : List ℕ) (i : ℕ) (k : EffectKey) → t.width ≡ 28 → i < t.count → Held t i c → length k.captures ≤ 16 → key_in t (Keys.put_key t c i k) i ≡ Some k
 unfolding key_in key_head_in Keys.put_key
-key_back t c i k wide row held few = λ j. ite (eqb (head 0 0 refl (omega arith) j) 0) none (some (record {
+key_back t c i k wide row held few = λ j. ite (eqb (head 0 0 refl (omega arith) j) 0) None (Some (record {
   code = head 1 1 refl (omega arith) j;
   from = option_is t d i 2 k.from (head 2 2 refl (omega arith)) (head 3 3 refl (omega arith)) j;
   into = option_is t d i 4 k.into (head 4 4 refl (omega arith)) (head 5 5 refl (omega arith)) j;
@@ -113,10 +112,10 @@ key_back t c i k wide row held few = λ j. ite (eqb (head 0 0 refl (omega arith)
         numbers_beside t i b 12 0 k.captures v (omega arith) ∙ ap (λ (x : List ℕ). field t x i v) (head_words_is t c i k)
         ∙ numbers_at t i c 0 0 (head_words k (length k.captures)) m v (omega arith) l row (omega arith) held
 
-pub link_back : (t : Table) (c : List ℕ) (i x : ℕ) → t.width ≡ 2 → i < t.count → Held t i c → option_in t (put_option t c i 0 (some x)) i 0 ≡ some x
+pub link_back : (t : Table) (c : List ℕ) (i x : ℕ) → t.width ≡ 2 → i < t.count → Held t i c → option_in t (put_option t c i 0 (Some x)) i 0 ≡ Some x
 unfolding put_option
 link_back t c i x wide row held =
-    option_is t _ i 0 (some x) (word_beside t i (put_field t c i 0 1) 1 x 0 (λ e. omega arith) ∙ word_back t i c 0 1 row (let z : 0 < t.width = omega arith in z) held)
+    option_is t _ i 0 (Some x) (word_beside t i (put_field t c i 0 1) 1 x 0 (λ e. omega arith) ∙ word_back t i c 0 1 row (let z : 0 < t.width = omega arith in z) held)
     (word_back t i (put_field t c i 0 1) 1 x row (let z : 1 < t.width = omega arith in z) (held_as t i c (put_field t c i 0 1) (put_length t c i 0 1) held))
 
 -- ---- effects

@@ -1,8 +1,7 @@
 -- What each of the five changes of a context leaves of cached keys, links and context places.
 -- Each change writes into one table, and the tables stand apart. Assumes nothing.
-use Rattle.std.specs.Prelude.{ℕ, zero, suc, ◌+◌, ◌*◌, ◌≤◌, ◌<◌, ◌≡◌, refl, true, ◌⊎◌, List, ◌∷◌, eqb, length}
+use Rattle.std.specs.Prelude.{ℕ, zero, suc, ◌+◌, ◌*◌, ◌≤◌, ◌<◌, ◌≡◌, refl, true, ◌⊎◌, List, ◌∷◌, eqb, length, None, Some}
 use Rattle.std.proofs.Common.{sym, ap, ap₂, ◌∙◌, inl, inr, ⊎_elim, arith}
-use Rattle.std.proofs.Math.Option.{none, some}
 use Rattle.base_tests.specs.Tests.{ite}
 use Rattle.base_tests.proofs.Laws.Order.{lt_or_ge, same_or_not}
 use Rattle.def_effects.specs.Places.{identifiers}
@@ -151,13 +150,13 @@ unfolding put_key cached_at apart end
 key_fields c n k j v = set_outside Layout.cached _ Layout.key_count (one_more (key_count c)) j v (inr (omega arith)) ∙ insert_apart Layout.key_order Layout.cached _ _ _ _ j v refl
 
 -- a key written leaves the other keys
-pub key_put : (c : List ℕ) (n m : ℕ) (k j : EffectKey) → key_at (put_key c n k) m ≡ some j → (n ≡ m) ⊎ (key_at c m ≡ some j)
+pub key_put : (c : List ℕ) (n m : ℕ) (k j : EffectKey) → key_at (put_key c n k) m ≡ Some j → (n ≡ m) ⊎ (key_at c m ≡ Some j)
 unfolding key_at
 key_put c n m k j e =
     ⊎_elim inl (λ d. inr (sym (key_cong Layout.cached c (put_key c n k) m (λ v. key_fields c n k m v ∙ key_record Layout.cached c n k m v d)) ∙ e)) (same_or_not n m)
 
 -- and it leaves the links
-pub key_links : (c : List ℕ) (n : ℕ) (k : EffectKey) (v f : ℕ) → link_of (put_key c n k) v ≡ some f → link_of c v ≡ some f
+pub key_links : (c : List ℕ) (n : ℕ) (k : EffectKey) (v f : ℕ) → link_of (put_key c n k) v ≡ Some f → link_of c v ≡ Some f
 unfolding apart end
 key_links c n k v f e = sym (links_same c (put_key c n k) (key_leaves Layout.links c n k refl refl (inr (omega arith))) v) ∙ e
 
@@ -171,10 +170,10 @@ key_contexts c n k g = ap identifiers (contexts_same c (put_key c n k) (key_leav
 -- a link written leaves every table that stands apart
 pub link_leaves : (u : Table) (c : List ℕ) (v f : ℕ) → apart Layout.links u ≡ true → Same u c (put_link c v f)
 unfolding put_link
-link_leaves u c v f a j w = option_apart Layout.links u c v 0 (some f) j w a
+link_leaves u c v f a j w = option_apart Layout.links u c v 0 (Some f) j w a
 
 -- and it leaves the keys
-pub link_keys : (c : List ℕ) (v f n : ℕ) (k : EffectKey) → key_at (put_link c v f) n ≡ some k → key_at c n ≡ some k
+pub link_keys : (c : List ℕ) (v f n : ℕ) (k : EffectKey) → key_at (put_link c v f) n ≡ Some k → key_at c n ≡ Some k
 unfolding apart end
 link_keys c v f n k e = sym (keys_same c (put_link c v f) (link_leaves Layout.cached c v f refl) n) ∙ e
 
@@ -186,7 +185,7 @@ link_contexts c v f g = ap identifiers (contexts_same c (put_link c v f) (link_l
 -- a link written leaves the other links
 link_other : (c : List ℕ) (v f x : ℕ) → (v ≡ x → ⊥) → link_of (put_link c v f) x ≡ link_of c x
 unfolding link_of put_link
-link_other c v f x d = option_cong Layout.links c (put_option Layout.links c v 0 (some f)) x 0 (λ w. option_record Layout.links c v 0 (some f) x w d)
+link_other c v f x d = option_cong Layout.links c (put_option Layout.links c v 0 (Some f)) x 0 (λ w. option_record Layout.links c v 0 (Some f) x w d)
 
 -- past the table nothing is written
 -- there are 512 fresh numbers
@@ -198,7 +197,7 @@ link_past c v f h =
 
 -- what was written is read, where the list holds the whole table
 -- a list that ends between the two words of a link would take the first and not the second
-link_same : (c : List ℕ) (v f : ℕ) → v < 512 → end Layout.links ≤ length c → link_of (put_link c v f) v ≡ some f
+link_same : (c : List ℕ) (v f : ℕ) → v < 512 → end Layout.links ≤ length c → link_of (put_link c v f) v ≡ Some f
 unfolding link_of put_link put_option option_in end index
 link_same c v f h l =
     let c1 : List ℕ = put_field Layout.links c v 0 1 in
@@ -208,16 +207,16 @@ link_same c v f h l =
     ∙ put_same Layout.links c v 0 1 (within_yes Layout.links v 0 h (omega arith)) (omega arith) in
     let q : field Layout.links (put_field Layout.links c1 v 1 f) v 1 ≡ f =
     put_same Layout.links c1 v 1 f (within_yes Layout.links v 1 h (omega arith)) (omega arith) in
-    ap₂ (λ (x y : ℕ). ite (eqb x 0) none (some y)) p q
+    ap₂ (λ (x y : ℕ). ite (eqb x 0) None (Some y)) p q
 
 -- what a link leads to after one is written: the function of that, or what it led to before
-pub link_put : (c : List ℕ) (v f x g : ℕ) → end Layout.links ≤ length c → link_of (put_link c v f) x ≡ some g → (f ≡ g) ⊎ (link_of c x ≡ some g)
+pub link_put : (c : List ℕ) (v f x g : ℕ) → end Layout.links ≤ length c → link_of (put_link c v f) x ≡ Some g → (f ≡ g) ⊎ (link_of c x ≡ Some g)
 link_put c v f x g l e = ⊎_elim same (λ d. inr (sym (link_other c v f x d) ∙ e)) (same_or_not v x)
   where
-    some_eq : (a b : ℕ) → some a ≡ some b → a ≡ b
+    some_eq : (a b : ℕ) → Some a ≡ Some b → a ≡ b
     some_eq a b e = cc
 
-    same : v ≡ x → (f ≡ g) ⊎ (link_of c x ≡ some g)
+    same : v ≡ x → (f ≡ g) ⊎ (link_of c x ≡ Some g)
     same p = ⊎_elim
         (λ h. inl (some_eq f g (sym (link_same c v f h l) ∙ ap (link_of (put_link c v f)) p ∙ e)))
         (λ h. inr (ap (λ (d : List ℕ). link_of d x) (sym (link_past c v f h)) ∙ e))

@@ -1,9 +1,8 @@
 -- Each write of a lent context means the plain one. Assumes nothing.
 use Prim.Native.Nat.{ℕ, suc, ◌+◌, ◌*◌, ◌≤◌, ◌<◌}
-use Rattle.std.specs.Prelude.{◌≡◌, Bool, true, false, List, [], ◌∷◌, ◌++◌, set}
+use Rattle.std.specs.Prelude.{◌≡◌, Bool, true, false, List, [], ◌∷◌, ◌++◌, set, Option, None, Some, Result, Ok, Err}
 use Rattle.std.proofs.Math.Path.{refl, ap, ap₂, subst, fun_ext}
 use Rattle.std.proofs.Common.{sym, ◌∙◌, inl, inr, length-set, get_or-set_other}
-use Rattle.std.proofs.Math.Option.{Option, none, some}
 use native.Mathlib.Omega.{arith}
 use lib.Dec.{leb→le}
 use Rattle.std.proofs.Math.ListN.{length, get_or}
@@ -17,8 +16,6 @@ use Rattle.lent_tables.proofs.Laws.Word.{put_length, put_outside, set_outside, p
 use Rattle.lent_effects.specs.Records.{put_effect}
 use Rattle.lent_effects.proofs.Laws.EffectFrames.{effect_length, effect_cong, effect_record, effect_apart}
 use Rattle.lent_effects.proofs.Laws.Back.{effect_back}
-use Rattle.base_search.specs.declared.Spot.{Spot}
-use Rattle.base_search.specs.declared.Spot.TheVariants.{At, Before}
 use Rattle.base_search.proofs.Laws.Search.{Between}
 use Rattle.base_search.proofs.Laws.Ascending.{Ascends}
 use Rattle.def_key_order.specs.KeyOrder.{compare_keys}
@@ -82,7 +79,7 @@ effects_added c e h l s =
 
 -- the order, with one more: where the search for its key ended
 module _ (c : List ℕ) (e : AliasingEffect) (h : FitContext c) (l : interned_count c < 2048) (s : Short (effect_key e)) (p : ℕ) (low : p ≤ interned_count c)
-    (apart_at : Between (λ j. compare_keys (effect_key e) (interned_key c (order_at Layout.effect_order c j))) (interned_count c) p) (spot : effect_spot c (effect_key e) ≡ Before p) where
+    (apart_at : Between (λ j. compare_keys (effect_key e) (interned_key c (order_at Layout.effect_order c j))) (interned_count c) p) (spot : effect_spot c (effect_key e) ≡ Err p) where
   abbrev n : ℕ
   n = interned_count c
 
@@ -116,7 +113,7 @@ module _ (c : List ℕ) (e : AliasingEffect) (h : FitContext c) (l : interned_co
   unfolding order_at add_effect end
   d_order j =
       set_outside Layout.effect_order _ 12483 (interned_count c + 1) j 0 (inl (omega arith))
-      ∙ ap (λ (x : Spot). field Layout.effect_order (inserted Layout.effect_order (place_of x) n n b) j 0) spot
+      ∙ ap (λ (x : Result ℕ ℕ). field Layout.effect_order (inserted Layout.effect_order (place_of x) n n b) j 0) spot
 
   above : Ascends keys (interned_key d) (order_at Layout.effect_order b) n
   above j q =
@@ -151,13 +148,13 @@ keys_stay : (c : List ℕ) (e : AliasingEffect) → FitContext c → Numbered (a
 unfolding apart end
 keys_stay c e h = numbered_same c (add_effect c e) (effect_leaves Layout.cached c e refl refl (inl (omega arith))) (effect_leaves Layout.key_order c e refl refl (inl (omega arith))) (effect_keys c e) h.numbered
 
-pub effect_fit : (c : List ℕ) (e : AliasingEffect) → FitContext c → interned_count c < 2048 → Short (effect_key e) → find_effect c (effect_key e) ≡ none → FitContext (add_effect c e)
+pub effect_fit : (c : List ℕ) (e : AliasingEffect) → FitContext c → interned_count c < 2048 → Short (effect_key e) → find_effect c (effect_key e) ≡ None → FitContext (add_effect c e)
 unfolding find_effect
 effect_fit c e h l s z = record { long = effect_long c e ∙ h.long; ordered = go (effect_spot c (effect_key e)) refl (parts c h.ordered (effect_key e)) z; numbered = keys_stay c e h }
   where
-    go : (x : Spot) → effect_spot c (effect_key e) ≡ x → Parts c h.ordered (effect_key e) x → effect_at c x ≡ none → Ordered (add_effect c e)
-    go (At j) q b r = let x : ◌≡◌ {A = ℕ} 0 1 = cc in absurd (let y : ⊥ = omega arith in y)
-    go (Before p) q b r = ordered_added c e h l s p b.0 b.1 q
+    go : (x : Result ℕ ℕ) → effect_spot c (effect_key e) ≡ x → Parts c h.ordered (effect_key e) x → effect_at c x ≡ None → Ordered (add_effect c e)
+    go (Ok j) q b r = let x : ◌≡◌ {A = ℕ} 0 1 = cc in absurd (let y : ⊥ = omega arith in y)
+    go (Err p) q b r = ordered_added c e h l s p b.0 b.1 q
 
 pub effect_add : (c : List ℕ) (e : AliasingEffect) → FitContext c → interned_count c < 2048 → Short (effect_key e) → abstract (add_effect c e) ≡ pure.add_effect (abstract c) e
 unfolding apart end
@@ -188,7 +185,7 @@ key_word c v k m l =
 
 -- the order, with one more: where the search for its key ended
 module _ (c : List ℕ) (v : ℕ) (k : EffectKey) (h : FitContext c) (f : Fresh v) (s : Short k) (free : is_keyed c v ≡ false) (p : ℕ) (low : p ≤ key_count c)
-    (apart_at : Between (λ j. compare_keys k (key_here c (order_at Layout.key_order c j))) (key_count c) p) (spot : key_spot c k ≡ Before p) where
+    (apart_at : Between (λ j. compare_keys k (key_here c (order_at Layout.key_order c j))) (key_count c) p) (spot : key_spot c k ≡ Err p) where
   abbrev keyed : ℕ
   keyed = key_count c
 
@@ -207,7 +204,7 @@ module _ (c : List ℕ) (v : ℕ) (k : EffectKey) (h : FitContext c) (f : Fresh 
   other_words : (r : ℕ) → (v ≡ r → ⊥) → (w : ℕ) → field Layout.cached kd r w ≡ field Layout.cached c r w
   other_words r n w = key_fields c v k r w ∙ key_record Layout.cached c v k r w n
 
-  new_there : key_at kd v ≡ some k
+  new_there : key_at kd v ≡ Some k
   unfolding key_at
   new_there =
       let x = f.high in
@@ -220,7 +217,7 @@ module _ (c : List ℕ) (v : ℕ) (k : EffectKey) (h : FitContext c) (f : Fresh 
   new_here : key_here kd v ≡ k
   new_here = some_eq (key_here kd v) k (sym (keyed_at kd v new_keyed) ∙ new_there)
     where
-      some_eq : (a b : EffectKey) → some a ≡ some b → a ≡ b
+      some_eq : (a b : EffectKey) → Some a ≡ Some b → a ≡ b
       some_eq a b e = cc
 
   -- a number that has a key is another one
@@ -247,7 +244,7 @@ module _ (c : List ℕ) (v : ℕ) (k : EffectKey) (h : FitContext c) (f : Fresh 
   unfolding order_at put_key cached_at end
   kd_order j =
       set_outside Layout.key_order _ 37317 (one_more (key_count c)) j 0 (inl (omega arith))
-      ∙ ap (λ (x : Spot). field Layout.key_order (inserted Layout.key_order (place_of x) v keyed kb) j 0) spot
+      ∙ ap (λ (x : Result ℕ ℕ). field Layout.key_order (inserted Layout.key_order (place_of x) v keyed kb) j 0) spot
 
   kept_at : (j : ℕ) → j < keyed → is_keyed c (order_at Layout.key_order kb j) ≡ true
   kept_at j q = ap (is_keyed c) (kb_order j) ∙ h.numbered.there j q
@@ -294,7 +291,7 @@ module _ (c : List ℕ) (v : ℕ) (k : EffectKey) (h : FitContext c) (f : Fresh 
           get_or-set_same (inserted Layout.key_order (place_of (key_spot c k)) v (key_count c) kb) 37317 (one_more (key_count c)) 0 (omega arith)
           ∙ ite_lt (key_count c) 4294967295 (suc (key_count c)) (key_count c) (let w = key_room in omega arith)
 
-pub key_fit : (c : List ℕ) (v : ℕ) (k : EffectKey) → FitContext c → Fresh v → Short k → key_at c v ≡ none → find_number c k ≡ none → FitContext (put_key c v k)
+pub key_fit : (c : List ℕ) (v : ℕ) (k : EffectKey) → FitContext c → Fresh v → Short k → key_at c v ≡ None → find_number c k ≡ None → FitContext (put_key c v k)
 unfolding apart end
 key_fit c v k h f s n z = record {
   long = key_long c v k ∙ h.long;
@@ -302,15 +299,15 @@ key_fit c v k h f s n z = record {
   numbered = go (key_spot c k) refl (stands_apart c h.numbered k z);
 }
   where
-    go : (x : Spot) → key_spot c k ≡ x → Apart c h.numbered k x → Numbered (put_key c v k)
-    go (At j) q b = absurd b
-    go (Before p) q b = numbered_added c v k h f s (keyless_if c v n) p b.0 b.1 q
+    go : (x : Result ℕ ℕ) → key_spot c k ≡ x → Apart c h.numbered k x → Numbered (put_key c v k)
+    go (Ok j) q b = absurd b
+    go (Err p) q b = numbered_added c v k h f s (keyless_if c v n) p b.0 b.1 q
 
-keys_put : (c : List ℕ) (v : ℕ) (k : EffectKey) → FitContext c → Fresh v → Short k → key_in Layout.cached (put_key c v k) ≡ at (key_in Layout.cached c) v (some k)
+keys_put : (c : List ℕ) (v : ℕ) (k : EffectKey) → FitContext c → Fresh v → Short k → key_in Layout.cached (put_key c v k) ≡ at (key_in Layout.cached c) v (Some k)
 keys_put c v k h p s =
     let x = p.high in
     let long = h.long in
-    fun_ext (at_is (key_in Layout.cached c) (key_in Layout.cached (put_key c v k)) v (some k)
+    fun_ext (at_is (key_in Layout.cached c) (key_in Layout.cached (put_key c v k)) v (Some k)
     (key_cong Layout.cached (Keys.put_key Layout.cached c v k) (put_key c v k) v (key_fields c v k v) ∙ key_back Layout.cached c v k refl p.high (let z : 18629 + v * 28 + 28 ≤ length c = omega arith in z) (leb→le (length k.captures) 16 s))
     (λ m n. key_cong Layout.cached c (put_key c v k) m (λ w. key_fields c v k m w ∙ key_record Layout.cached c v k m w n)))
 
@@ -330,24 +327,24 @@ key_put c v k h p s = λ j. record {
 
 link_word : (c : List ℕ) (v f m : ℕ) → m < 17605 → get_or (put_link c v f) m 0 ≡ get_or c m 0
 unfolding put_link end
-link_word c v f m l = option_outside Layout.links c v 0 (some f) m (inl l)
+link_word c v f m l = option_outside Layout.links c v 0 (Some f) m (inl l)
 
 pub link_fit : (c : List ℕ) (v f : ℕ) → FitContext c → FitContext (put_link c v f)
 unfolding put_link apart end
 link_fit c v f h = record {
-  long = option_length Layout.links c v 0 (some f) ∙ h.long;
+  long = option_length Layout.links c v 0 (Some f) ∙ h.long;
   ordered = ordered_same c (put_link c v f) (link_leaves Layout.interned c v f refl) (link_leaves Layout.effect_order c v f refl) (link_word c v f 12483 (omega arith)) h.ordered;
-  numbered = numbered_same c (put_link c v f) (link_leaves Layout.cached c v f refl) (link_leaves Layout.key_order c v f refl) (option_outside Layout.links c v 0 (some f) 37317 (inr (omega arith))) h.numbered;
+  numbered = numbered_same c (put_link c v f) (link_leaves Layout.cached c v f refl) (link_leaves Layout.key_order c v f refl) (option_outside Layout.links c v 0 (Some f) 37317 (inr (omega arith))) h.numbered;
 }
 
-links_put : (c : List ℕ) (v f : ℕ) → FitContext c → Fresh v → ◌≡◌ {A = ℕ → Option ℕ} (λ x. option_in Layout.links (put_link c v f) x 0) (at (λ x. option_in Layout.links c x 0) v (some f))
+links_put : (c : List ℕ) (v f : ℕ) → FitContext c → Fresh v → ◌≡◌ {A = ℕ → Option ℕ} (λ x. option_in Layout.links (put_link c v f) x 0) (at (λ x. option_in Layout.links c x 0) v (Some f))
 unfolding put_link
 links_put c v f h p =
     let x = p.high in
     let long = h.long in
-    fun_ext (at_is (λ x. option_in Layout.links c x 0) (λ x. option_in Layout.links (put_option Layout.links c v 0 (some f)) x 0) v (some f)
+    fun_ext (at_is (λ x. option_in Layout.links c x 0) (λ x. option_in Layout.links (put_option Layout.links c v 0 (Some f)) x 0) v (Some f)
     (link_back Layout.links c v f refl p.high (let z : 17605 + v * 2 + 2 ≤ length c = omega arith in z))
-    (λ m n. option_cong Layout.links c (put_option Layout.links c v 0 (some f)) m 0 (λ w. option_record Layout.links c v 0 (some f) m w n)))
+    (λ m n. option_cong Layout.links c (put_option Layout.links c v 0 (Some f)) m 0 (λ w. option_record Layout.links c v 0 (Some f) m w n)))
 
 pub link_put : (c : List ℕ) (v f : ℕ) → FitContext c → Fresh v → abstract (put_link c v f) ≡ pure.put_link (abstract c) v f
 unfolding apart end

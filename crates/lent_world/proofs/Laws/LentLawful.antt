@@ -1,7 +1,6 @@
 -- What no instruction writes of the lent tables stays. Assumes nothing.
-use Rattle.std.specs.Prelude.{ℕ, ◌+◌, ◌*◌, ◌≤◌, ◌<◌, ◌≡◌, refl, ◌⊎◌, List, length, get_or, set}
+use Rattle.std.specs.Prelude.{ℕ, ◌+◌, ◌*◌, ◌≤◌, ◌<◌, ◌≡◌, refl, ◌⊎◌, List, length, get_or, set, Some}
 use Rattle.std.proofs.Common.{sym, ap, ◌∙◌, inl, inr, ⊎_elim, arith, length-set, get_or-set_same, get_or-set_other}
-use Rattle.std.proofs.Math.Option.{some}
 use Rattle.std.proofs.Math.ListN.{get_or-eq_default}
 use Rattle.std.proofs.Math.Seq.{set_out}
 use Rattle.def_effects.specs.Effects.{AliasingEffect}
@@ -166,5 +165,5 @@ key_kept c₀ c n k p =
 pub link_kept : (c₀ c : List ℕ) (v f : ℕ) → KeptFrom c₀ c → KeptFrom c₀ (put_link c v f)
 unfolding put_link end
 link_kept c₀ c v f p =
-    kept_apart c₀ c (put_link c v f) (option_length Layout.links c v 0 (some f))
-    (λ m o. option_outside Layout.links c v 0 (some f) m (outside 17605 18629 m (omega arith) (omega arith) o)) p
+    kept_apart c₀ c (put_link c v f) (option_length Layout.links c v 0 (Some f))
+    (λ m o. option_outside Layout.links c v 0 (Some f) m (outside 17605 18629 m (omega arith) (omega arith) o)) p

@@ -1,8 +1,7 @@
 -- Lent values, sets and marks read back what is written. Assumes nothing.
-use Rattle.std.specs.Prelude.{ℕ, ◌-◌, ◌*◌, ◌/◌, ◌%◌, ◌<◌, ◌≡◌, refl, ◌⊎◌, List}
+use Rattle.std.specs.Prelude.{ℕ, ◌-◌, ◌*◌, ◌/◌, ◌%◌, ◌<◌, ◌≡◌, refl, ◌⊎◌, List, Option, None, Some}
 use Rattle.std.proofs.Common.{mod-lt, arith, sym, ap, ◌∙◌, subst, ⊎_elim, eq-eqb}
 use mathlib.Core.Bool.{Bool, true, false}
-use Rattle.std.proofs.Math.Option.{Option, none, some}
 use lib.Dec.{eqb, eqb→eq, lit<}
 use lib.ListN.{length}
 use Rattle.def_kinds.specs.declared.AbstractValue.{AbstractValue}
@@ -33,8 +32,8 @@ value_word t v = ⊎_elim
     (λ e. subst Entered (sym (CellLaws.cell_present (lib.ListN.get_or t v 0) e)) (record { word = mod-lt (lib.ListN.get_or t v 0 / 8) (lit< tt) }))
     (same_or_not (lib.ListN.get_or t v 0 % 8) 0)
 
-pub value_put : (t : List ℕ) (v : ℕ) (a : AbstractValue) → length t ≡ 1024 → Number v → Reasoned a → (x : ℕ) → value_at (put_value t v a) x ≡ at (value_at t) v (some a) x
-value_put t v a l p q = at_is (value_at t) (value_at (put_value t v a)) v (some a) (CellLaws.value_same t v a (let h = p.high in let z : v < length t = omega arith in z) q.word) (λ x n. CellLaws.value_other t v a x n)
+pub value_put : (t : List ℕ) (v : ℕ) (a : AbstractValue) → length t ≡ 1024 → Number v → Reasoned a → (x : ℕ) → value_at (put_value t v a) x ≡ at (value_at t) v (Some a) x
+value_put t v a l p q = at_is (value_at t) (value_at (put_value t v a)) v (Some a) (CellLaws.value_same t v a (let h = p.high in let z : v < length t = omega arith in z) q.word) (λ x n. CellLaws.value_other t v a x n)
 
 -- ---- sets
 
@@ -42,10 +41,10 @@ pub set_is : (t : List ℕ) (i : ℕ) → Pointing (set_at t i)
 set_is t i = go (set_at t i) refl
   where
     go : (o : Option ℕ) → set_at t i ≡ o → Pointing o
-    go none e = tt
-    go (some s) e = record { small = RowLaws.set_fits t i s e; even = sym (bit_low s) ∙ RowLaws.set_zero t i s e }
+    go None e = tt
+    go (Some s) e = record { small = RowLaws.set_fits t i s e; even = sym (bit_low s) ∙ RowLaws.set_zero t i s e }
 
-pub set_put : (n : ℕ) (t : List ℕ) (i s : ℕ) → length t ≡ 16 * n → i < n → IsSet s → (j : ℕ) → set_at (put_set t i s) j ≡ at (set_at t) i (some s) j
+pub set_put : (n : ℕ) (t : List ℕ) (i s : ℕ) → length t ≡ 16 * n → i < n → IsSet s → (j : ℕ) → set_at (put_set t i s) j ≡ at (set_at t) i (Some s) j
 set_put n t i s l p q =
-    at_is (set_at t) (set_at (put_set t i s)) i (some s)
-    (RowLaws.set_same n t i s l p q.small ∙ ap some (let d = q.even in let z : s - s % 2 ≡ s = omega arith in z)) (λ j d. RowLaws.set_other t i s j d)
+    at_is (set_at t) (set_at (put_set t i s)) i (Some s)
+    (RowLaws.set_same n t i s l p q.small ∙ ap Some (let d = q.even in let z : s - s % 2 ≡ s = omega arith in z)) (λ j d. RowLaws.set_other t i s j d)

@@ -30,10 +30,10 @@ module _ (a b : ℕ) where
 
   -- none where neither is
   pub lower_0 : lower a b ≡ 0 → (a ≡ 0) × (b ≡ 0)
-  lower_0 z = ⊎_elim (λ e. (e, lower_none e ∙ z)) (λ h. absurd (some h)) (same_or_not a 0)
+  lower_0 z = ⊎_elim (λ e. (e, lower_none e ∙ z)) (λ h. absurd (neither h)) (same_or_not a 0)
     where
-      some : (a ≡ 0 → ⊥) → ⊥
-      some h = ⊎_elim
+      neither : (a ≡ 0 → ⊥) → ⊥
+      neither h = ⊎_elim
           (λ e. h (lower_alone h e ∙ z))
           (λ k. ⊎_elim (λ l. k (lower_second h k l ∙ z)) (λ l. h (lower_first h k l ∙ z)) (lt_or_ge b a))
           (same_or_not b 0)

@@ -1,9 +1,8 @@
 -- A state that the test of words does not refuse is one that the definition accepts, and each refusal has its cause. Assumes nothing.
-use Rattle.std.specs.Prelude.{◌≡◌, refl, Bool, true, false, not, ◌||◌, ◌⊎◌, List, ℕ, ◌+◌, ◌*◌, ◌/◌, ◌%◌, ◌≤◌, ◌<◌, T, eqb, leb, ltb, length, get_or}
+use Rattle.std.specs.Prelude.{◌≡◌, refl, Bool, true, false, not, ◌||◌, ◌⊎◌, List, ℕ, ◌+◌, ◌*◌, ◌/◌, ◌%◌, ◌≤◌, ◌<◌, T, eqb, leb, ltb, length, get_or, Option, None, Some}
 use Rattle.std.proofs.Common.{sym, ◌∙◌, inl, inr, mod-eq_of_lt, arith}
 use Rattle.std.proofs.Math.Path.{ap}
 use Rattle.std.proofs.Math.Logic.{⊎_elim}
-use Rattle.std.proofs.Math.Option.{Option, none, some}
 use Rattle.std.proofs.Math.ListN.{get_or-eq_default}
 use borrow.Author.Tests.{leb-true, lt-ltb, not-false}
 use Rattle.base_tests.proofs.Laws.Bool.{both, or_no_first, or_no_second, or_neither, and_first, passes}
@@ -51,19 +50,19 @@ unfolding row_out_of_range set_out_of_range
 set_in_range n ss i l h = go (set_at ss i) h
   where
     go : (o : Option ℕ) → any_of (not_anumber n) (values_of o) ≡ false → set_out_of_range n i o ≡ false
-    go none e = refl
-    go (some s) e = or_neither (not (ltb i n)) _ (ap not (lt-ltb i n l)) e
+    go None e = refl
+    go (Some s) e = or_neither (not (ltb i n)) _ (ap not (lt-ltb i n l)) e
 
 set_handed_out : (next : ℕ) (ss : List ℕ) (i : ℕ) → row_unfit next ss i ≡ false → set_too_new next (set_at ss i) ≡ false
 unfolding row_unfit row_too_new set_too_new
 set_handed_out next ss i h = go (set_at ss i) _ h
   where
     go : (o : Option ℕ) (b : Bool) → ite (is_some o) (any_of (not_yet_handed_out next) (values_of o)) b ≡ false → set_too_new next o ≡ false
-    go none b e = refl
-    go (some s) b e = e
+    go None b e = refl
+    go (Some s) b e = e
 
 -- past the end no identifier is defined
-set_past_end : (n : ℕ) (ss : List ℕ) (i : ℕ) → length ss ≡ 16 * n → n ≤ i → set_at ss i ≡ none
+set_past_end : (n : ℕ) (ss : List ℕ) (i : ℕ) → length ss ≡ 16 * n → n ≤ i → set_at ss i ≡ None
 unfolding set_at row_number
 set_past_end n ss i e l =
     ap (λ (x : ℕ). marked (x % 2) x) (number_none 16 ss (i * 16) (λ j p. get_or-eq_default ss 0 {n = i * 16 + j} (omega arith)))

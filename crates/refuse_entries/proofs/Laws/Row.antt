@@ -1,11 +1,10 @@
 -- The ways through the tests of a row: what `next_member` finds, and what it passes. Assumes nothing.
-use Rattle.std.specs.Prelude.{◌≡◌, refl, Bool, true, false, not, List, ℕ, zero, suc, ◌+◌, ◌-◌, ◌≤◌, ◌<◌, ltb}
+use Rattle.std.specs.Prelude.{◌≡◌, refl, Bool, true, false, not, List, ℕ, zero, suc, ◌+◌, ◌-◌, ◌≤◌, ◌<◌, ltb, max, Option, None, Some}
 use Rattle.std.proofs.Common.{sym, ap, ◌∙◌, subst, ⊎_elim, lt_irrefl, arith, lt-ltb, le-ltb}
-use Rattle.std.proofs.Math.Option.{Option, none, some}
 use Rattle.base_sets.specs.Members.{members, bits_of, values_of}
 use Rattle.lent_sets.specs.Rows.{bit, pick, seek, set_at, member, next_member}
 use Rattle.base_tests.specs.Tests.{is_some, any_of}
-use Rattle.base_tests.proofs.Laws.Order.{lt_or_ge}
+use Rattle.base_tests.proofs.Laws.Order.{lt_or_ge, same_or_not}
 use Rattle.lent_sets.proofs.Laws.Set.{bits_of_is, all_bits}
 use Rattle.lent_sets.proofs.Laws.Row.{some_of, set_bit, set_values, next_ge, next_is}
 use Rattle.def_transfer.specs.Accepted.{not_anumber, not_yet_handed_out}
@@ -32,7 +31,7 @@ next_passed ss i v u k e l h = seek_passed (member ss i) (1024 - v) v k l (subst
 
 -- ---- any member of a row that is defined
 
-module _ (f : ℕ → Bool) (ss : List ℕ) (i s : ℕ) (h : set_at ss i ≡ some s) where
+module _ (f : ℕ → Bool) (ss : List ℕ) (i s : ℕ) (h : set_at ss i ≡ Some s) where
   -- one that passes the test
   any_member : (u : ℕ) → 0 < u → u < 1024 → 0 < member ss i u → f u ≡ true → any_of f (members s) ≡ true
   any_member u p l m t = go (any_of f (members s)) refl
@@ -55,7 +54,7 @@ module _ (f : ℕ → Bool) (ss : List ℕ) (i s : ℕ) (h : set_at ss i ≡ som
 -- a search from `from` on, up to `end`: it finds a member below `end` just where a member passes the test
 -- the test holds of the numbers from `from` on and below `end`, and of no others
 module _ (f : ℕ → Bool) (ss : List ℕ) (i from end : ℕ) where
-  search_is : (s u : ℕ) → set_at ss i ≡ some s → u ≡ next_member ss i from → 0 < from → from ≤ 1024 → end ≤ 1024
+  search_is : (s u : ℕ) → set_at ss i ≡ Some s → u ≡ next_member ss i from → 0 < from → from ≤ 1024 → end ≤ 1024
       → ((v : ℕ) → from ≤ v → v < end → f v ≡ true) → ((v : ℕ) → 0 < v → v < from → f v ≡ false) → ((v : ℕ) → v < 1024 → end ≤ v → f v ≡ false)
       → ltb u end ≡ any_of f (members s)
   search_is s u h e p q r yes' low high = ⊎_elim found passed (lt_or_ge u end)
@@ -81,12 +80,12 @@ module _ (f : ℕ → Bool) (ss : List ℕ) (i from end : ℕ) where
 -- a row that is not defined has no members
 none_has : (f : ℕ → Bool) (o : Option ℕ) → is_some o ≡ false → any_of f (values_of o) ≡ false
 unfolding any_of
-none_has f none e = refl
-none_has f (some s) e = never true refl e
+none_has f None e = refl
+none_has f (Some s) e = never true refl e
 
 values_some : (f : ℕ → Bool) (o : Option ℕ) → is_some o ≡ true → any_of f (members (bits_of o)) ≡ any_of f (values_of o)
-values_some f none e = never false e refl
-values_some f (some s) e = refl
+values_some f None e = never false e refl
+values_some f (Some s) e = refl
 
 -- ---- row_out_of_range
 
@@ -144,6 +143,13 @@ new_search next ss i u e z q = ⊎_elim
     (λ l. new_past_all next ss i u e l (next_ge ss i next u q))
     (λ l. new_from next next ss i u e q (omega arith) l (omega arith) (λ v a b. b))
     (lt_or_ge 1024 next)
+
+-- the same, where the search starts at the larger of next and 1
+pub new_max : (next m : ℕ) (ss : List ℕ) (i u : ℕ) → is_some (set_at ss i) ≡ true → m ≡ max next 1 → u ≡ next_member ss i m → ltb u 512 ≡ row_too_new next ss i
+new_max next m ss i u e h q = ⊎_elim
+    (λ z. new_zero next ss i u e z (q ∙ ap (next_member ss i) (let k : m ≡ 1 = omega arith in k)))
+    (λ z. new_search next ss i u e z (q ∙ ap (next_member ss i) (let k : m ≡ next = omega arith in k)))
+    (same_or_not next 0)
 
 -- ---- row_unfit
 

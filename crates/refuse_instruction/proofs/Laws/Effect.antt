@@ -1,9 +1,8 @@
 -- Laws by which the code of effects and instructions meets the definitions: a law for each way through a function. Assumes nothing.
-use Rattle.std.specs.Prelude.{ℕ, ◌+◌, ◌-◌, ◌≤◌, ◌<◌, ◌≡◌, Bool, ◌&&◌, ◌⊎◌, List, [], ◌∷◌, eqb}
+use Rattle.std.specs.Prelude.{ℕ, ◌-◌, ◌≤◌, ◌<◌, ◌≡◌, Bool, ◌&&◌, List, [], ◌∷◌, eqb, Option, None, Some}
 use Rattle.std.proofs.Math.Path.{sym, ap, ap₂}
-use Rattle.std.proofs.Common.{◌∙◌, ⊎_elim, arith, add-one, lt-ltb, le-ltb, eq-eqb, ne_eqb}
+use Rattle.std.proofs.Common.{◌∙◌, ⊎_elim, arith, lt-ltb, le-ltb, eq-eqb, ne_eqb}
 use Rattle.std.proofs.Math.Bool.{not}
-use Rattle.std.proofs.Math.Option.{Option, none, some}
 use Rattle.std.proofs.Math.Dec.{ltb}
 use Rattle.std.proofs.Math.ListN.{get_or-eq_default}
 use Rattle.base_tests.proofs.Laws.Bool.{and_true, and_false}
@@ -13,7 +12,7 @@ use Rattle.base_tests.proofs.Laws.Choice.{ite_lt, ite_ge, ite_eq, ite_ne}
 use Rattle.def_kinds.specs.Reasons.{reason_count}
 use Rattle.lent_tables.specs.Words.{field}
 use Rattle.lent_layout.specs.Layout as Layout
-use Rattle.refuse_words.specs.Classes.{earns, limit_of, used_if, any, place_limit, run_limit}
+use Rattle.refuse_words.specs.Classes.{earns, used_if, any, place_limit, run_limit}
 use Rattle.refuse_instruction.specs.EffectClasses.{uses, middle_limit, effect_limit, count_class, numbers_class}
 use Rattle.refuse_instruction.proofs.Laws.Use.{only, only_kind, only_mutation, only_function, only_captures}
 
@@ -21,35 +20,35 @@ use Rattle.refuse_instruction.proofs.Laws.Use.{only, only_kind, only_mutation, o
 
 module _ (functions diagnostics code w u : ℕ) (o : Option ℕ) where
   -- the kind
-  pub middle_kind : w ≡ 0 → u ≡ only 9 code → o ≡ used_if u (some 6) → o ≡ middle_limit functions diagnostics code w
+  pub middle_kind : w ≡ 0 → u ≡ only 9 code → o ≡ used_if u (Some 6) → o ≡ middle_limit functions diagnostics code w
   unfolding middle_limit
-  middle_kind e h q = q ∙ ap (λ (a : ℕ). used_if a (some 6)) (h ∙ only_kind code) ∙ sym (ap (middle_limit functions diagnostics code) e)
+  middle_kind e h q = q ∙ ap (λ (a : ℕ). used_if a (Some 6)) (h ∙ only_kind code) ∙ sym (ap (middle_limit functions diagnostics code) e)
 
   -- the reason
-  pub middle_reason : w ≡ 1 → u ≡ uses code 3 → o ≡ used_if u (some 12) → o ≡ middle_limit functions diagnostics code w
+  pub middle_reason : w ≡ 1 → u ≡ uses code 3 → o ≡ used_if u (Some 12) → o ≡ middle_limit functions diagnostics code w
   unfolding middle_limit
-  middle_reason e h q = q ∙ ap (λ (a : ℕ). used_if a (some 12)) h ∙ sym (ap (middle_limit functions diagnostics code) e)
+  middle_reason e h q = q ∙ ap (λ (a : ℕ). used_if a (Some 12)) h ∙ sym (ap (middle_limit functions diagnostics code) e)
 
   -- the mutation reason
-  pub middle_mutation : w ≡ 2 → u ≡ only 1 code → o ≡ used_if u (some 2) → o ≡ middle_limit functions diagnostics code w
+  pub middle_mutation : w ≡ 2 → u ≡ only 1 code → o ≡ used_if u (Some 2) → o ≡ middle_limit functions diagnostics code w
   unfolding middle_limit
-  middle_mutation e h q = q ∙ ap (λ (a : ℕ). used_if a (some 2)) (h ∙ only_mutation code) ∙ sym (ap (middle_limit functions diagnostics code) e)
+  middle_mutation e h q = q ∙ ap (λ (a : ℕ). used_if a (Some 2)) (h ∙ only_mutation code) ∙ sym (ap (middle_limit functions diagnostics code) e)
 
   -- the function
-  pub middle_function : w ≡ 3 → u ≡ only 13 code → o ≡ used_if u (limit_of (functions + 1)) → o ≡ middle_limit functions diagnostics code w
+  pub middle_function : w ≡ 3 → u ≡ only 13 code → o ≡ used_if u (Some functions) → o ≡ middle_limit functions diagnostics code w
   unfolding middle_limit
   middle_function e h q =
-      q ∙ ap₂ (λ (a b : ℕ). used_if a (limit_of b)) (h ∙ only_function code) (add-one functions) ∙ sym (ap (middle_limit functions diagnostics code) e)
+      q ∙ ap (λ (a : ℕ). used_if a (Some functions)) (h ∙ only_function code) ∙ sym (ap (middle_limit functions diagnostics code) e)
 
   -- the identity of a diagnostic
-  pub middle_identity : w ≡ 4 → u ≡ uses code 6 → o ≡ used_if u (some 256) → o ≡ middle_limit functions diagnostics code w
+  pub middle_identity : w ≡ 4 → u ≡ uses code 6 → o ≡ used_if u (Some 256) → o ≡ middle_limit functions diagnostics code w
   unfolding middle_limit
-  middle_identity e h q = q ∙ ap (λ (a : ℕ). used_if a (some 256)) h ∙ sym (ap (middle_limit functions diagnostics code) e)
+  middle_identity e h q = q ∙ ap (λ (a : ℕ). used_if a (Some 256)) h ∙ sym (ap (middle_limit functions diagnostics code) e)
 
   -- the instance of a diagnostic
-  pub middle_instance : w ≡ 5 → u ≡ uses code 6 → o ≡ used_if u (limit_of (diagnostics + 1)) → o ≡ middle_limit functions diagnostics code w
+  pub middle_instance : w ≡ 5 → u ≡ uses code 6 → o ≡ used_if u (Some diagnostics) → o ≡ middle_limit functions diagnostics code w
   unfolding middle_limit
-  middle_instance e h q = q ∙ ap₂ (λ (a b : ℕ). used_if a (limit_of b)) h (add-one diagnostics) ∙ sym (ap (middle_limit functions diagnostics code) e)
+  middle_instance e h q = q ∙ ap (λ (a : ℕ). used_if a (Some diagnostics)) h ∙ sym (ap (middle_limit functions diagnostics code) e)
 
   -- the count of captures
   pub middle_count : w ≡ 6 → u ≡ only 13 code → o ≡ used_if u any → o ≡ middle_limit functions diagnostics code w
@@ -67,13 +66,13 @@ from_seven : (w : ℕ) → 4 ≤ w → (w ≡ 4 → ⊥) → (w ≡ 5 → ⊥) �
 from_seven w l a b c = omega arith
 
 -- there are seven such words
-pub middle_past : (functions diagnostics code w : ℕ) → (w ≡ 0 → ⊥) → (w ≡ 1 → ⊥) → (w ≡ 2 → ⊥) → (w ≡ 3 → ⊥) → (w ≡ 4 → ⊥) → (w ≡ 5 → ⊥) → (w ≡ 6 → ⊥) → none ≡ middle_limit functions diagnostics code w
+pub middle_past : (functions diagnostics code w : ℕ) → (w ≡ 0 → ⊥) → (w ≡ 1 → ⊥) → (w ≡ 2 → ⊥) → (w ≡ 3 → ⊥) → (w ≡ 4 → ⊥) → (w ≡ 5 → ⊥) → (w ≡ 6 → ⊥) → None ≡ middle_limit functions diagnostics code w
 unfolding middle_limit
 middle_past functions diagnostics code w a0 a1 a2 a3 a4 a5 a6 =
     sym (get_or-eq_default
-    (used_if (uses code 2) (some 6) ∷ used_if (uses code 3) (some reason_count) ∷ used_if (uses code 4) (some 2) ∷ used_if (uses code 5) (some functions)
-    ∷ used_if (uses code 6) (some 256) ∷ used_if (uses code 6) (some diagnostics) ∷ used_if (uses code 7) any ∷ [])
-    none (from_seven w (from_four w a0 a1 a2 a3) a4 a5 a6))
+    (used_if (uses code 2) (Some 6) ∷ used_if (uses code 3) (Some reason_count) ∷ used_if (uses code 4) (Some 2) ∷ used_if (uses code 5) (Some functions)
+    ∷ used_if (uses code 6) (Some 256) ∷ used_if (uses code 6) (Some diagnostics) ∷ used_if (uses code 7) any ∷ [])
+    None (from_seven w (from_four w a0 a1 a2 a3) a4 a5 a6))
 
 module _ (identifiers functions diagnostics code n w : ℕ) where
   -- what is left of the tests after the first place
@@ -89,17 +88,17 @@ module _ (identifiers functions diagnostics code n w : ℕ) where
   unfolding effect_limit
   limit_captures u p o l h g q =
       q ∙ ap₂ used_if (h ∙ only_captures code) g
-      ∙ sym (ite_ge w 18 (ite (eqb w 0) (some 18) after_code) (used_if (uses code 7) (run_limit identifiers n (w - 18))) l)
+      ∙ sym (ite_ge w 18 (ite (eqb w 0) (Some 18) after_code) (used_if (uses code 7) (run_limit identifiers n (w - 18))) l)
 
   -- the code
-  pub limit_code : w ≡ 0 → some 18 ≡ effect_limit identifiers functions diagnostics code n w
+  pub limit_code : w ≡ 0 → Some 18 ≡ effect_limit identifiers functions diagnostics code n w
   unfolding effect_limit
   limit_code e = sym (ap (effect_limit identifiers functions diagnostics code n) e)
 
   -- a word after the code and before the captures
   behind : w < 18 → (w ≡ 0 → ⊥) → after_code ≡ effect_limit identifiers functions diagnostics code n w
   unfolding effect_limit
-  behind l z = sym (ite_lt w 18 (ite (eqb w 0) (some 18) after_code) (used_if (uses code 7) (run_limit identifiers n (w - 18))) l ∙ ite_ne w 0 (some 18) after_code z)
+  behind l z = sym (ite_lt w 18 (ite (eqb w 0) (Some 18) after_code) (used_if (uses code 7) (run_limit identifiers n (w - 18))) l ∙ ite_ne w 0 (Some 18) after_code z)
 
   -- the place, or the source
   pub limit_place : (u : ℕ) (p o : Option ℕ) → w < 18 → (w ≡ 0 → ⊥) → w < 6 → u ≡ uses code 0 → p ≡ place_limit identifiers (w - 1) → o ≡ used_if u p → o ≡ effect_limit identifiers functions diagnostics code n w

@@ -1,12 +1,12 @@
 -- The first 18 words of an effect's record, part by part, are all of them. Assumes nothing.
-use Rattle.std.specs.Prelude.{ℕ, ◌+◌, ◌≡◌, List}
+use Rattle.std.specs.Prelude.{ℕ, ◌+◌, ◌≡◌, List, Option, Some}
 use Rattle.std.proofs.Math.Path.{refl, sym, ap, ap₂}
 use Rattle.std.proofs.Common.{◌∙◌}
 use Rattle.lent_tables.specs.declared.Table.{Table}
 use Rattle.lent_tables.specs.Words.{field}
 use Rattle.refuse_class.specs.Class.{lower}
 use Rattle.refuse_class.proofs.Laws.Class.{lower_none}
-use Rattle.refuse_words.specs.Classes.{lowest_below, word_class, limit_of, used_if, place_limit, words_below}
+use Rattle.refuse_words.specs.Classes.{lowest_below, word_class, used_if, place_limit, words_below}
 use Rattle.refuse_instruction.specs.EffectClasses.{uses, middle_limit, effect_limit}
 use Rattle.refuse_instruction.specs.Parts.{place_word, middle_word}
 use Rattle.refuse_instruction.proofs.Laws.Split.{lower_assoc, lowest_split}
@@ -34,12 +34,12 @@ lowest_seven f a b c d e g h v w x y z r ha hb hc hd he hg hh hv hw hx hy hz hr 
 -- ---- a word
 
 -- of a place
-pub word_of_place : (t : Table) (xs : List ℕ) (i first u identifiers k x y v p l : ℕ) → limit_of p ≡ place_limit identifiers k → limit_of l ≡ used_if u (limit_of p) → v ≡ first + k → y ≡ field t xs i v → x ≡ word_class (limit_of l) y → x ≡ place_word t xs i first u identifiers k
+pub word_of_place : (t : Table) (xs : List ℕ) (i first u identifiers k x y v : ℕ) (p l : Option ℕ) → p ≡ place_limit identifiers k → l ≡ used_if u p → v ≡ first + k → y ≡ field t xs i v → x ≡ word_class l y → x ≡ place_word t xs i first u identifiers k
 unfolding place_word
 word_of_place t xs i first u identifiers k x y v p l hp hl hv hy hx = hx ∙ ap₂ word_class (hl ∙ ap (used_if u) hp) (hy ∙ ap (field t xs i) hv)
 
 -- of those after the places
-pub word_of_middle : (t : Table) (xs : List ℕ) (i functions diagnostics code k x y l : ℕ) → limit_of l ≡ middle_limit functions diagnostics code k → y ≡ field t xs i (11 + k) → x ≡ word_class (limit_of l) y → x ≡ middle_word t xs i functions diagnostics code k
+pub word_of_middle : (t : Table) (xs : List ℕ) (i functions diagnostics code k x y : ℕ) (l : Option ℕ) → l ≡ middle_limit functions diagnostics code k → y ≡ field t xs i (11 + k) → x ≡ word_class l y → x ≡ middle_word t xs i functions diagnostics code k
 unfolding middle_word
 word_of_middle t xs i functions diagnostics code k x y l hl hy hx = hx ∙ ap₂ word_class hl hy
 
@@ -63,7 +63,7 @@ module _ (t : Table) (xs : List ℕ) (i identifiers functions diagnostics code n
   abbrev each : ℕ → ℕ
   each w = word_class (effect_limit identifiers functions diagnostics code n w) (field t xs i w)
 
-  tag_part : word_class (limit_of 19) (field t xs i 0) ≡ lowest_below 1 each
+  tag_part : word_class (Some 18) (field t xs i 0) ≡ lowest_below 1 each
   unfolding effect_limit
   tag_part = one_word each
 
@@ -79,13 +79,13 @@ module _ (t : Table) (xs : List ℕ) (i identifiers functions diagnostics code n
   unfolding effect_limit middle_word
   middle_part = seven_same _ _ refl refl refl refl refl refl refl
 
-  pub head_is : (a tag u first v second rest x y r : ℕ) → a ≡ field t xs i 0 → tag ≡ word_class (limit_of 19) a → u ≡ uses code 0 → first ≡ lowest_below 5 (place_word t xs i 1 u identifiers)
+  pub head_is : (a tag u first v second rest x y r : ℕ) → a ≡ field t xs i 0 → tag ≡ word_class (Some 18) a → u ≡ uses code 0 → first ≡ lowest_below 5 (place_word t xs i 1 u identifiers)
       → v ≡ uses code 1 → second ≡ lowest_below 5 (place_word t xs i 6 v identifiers) → rest ≡ lowest_below 7 (middle_word t xs i functions diagnostics code) → x ≡ lower second rest → y ≡ lower first x → r ≡ lower tag y
       → r ≡ words_below t xs (effect_limit identifiers functions diagnostics code n) i 18
   unfolding words_below
   head_is a tag u first v second rest x y r ha ht hu hf hv hs hm hx hy hr =
       hr
-      ∙ ap₂ lower (ht ∙ ap (word_class (limit_of 19)) ha ∙ tag_part)
+      ∙ ap₂ lower (ht ∙ ap (word_class (Some 18)) ha ∙ tag_part)
       (hy
       ∙ ap₂ lower (hf ∙ ap (λ (z : ℕ). lowest_below 5 (place_word t xs i 1 z identifiers)) hu ∙ first_part)
       (hx ∙ ap₂ lower (hs ∙ ap (λ (z : ℕ). lowest_below 5 (place_word t xs i 6 z identifiers)) hv ∙ second_part) (hm ∙ middle_part)

@@ -1,12 +1,10 @@
 -- The words of a record in two parts: those before the captures one by one, and the rest at once where the effect has none. Assumes nothing.
 use Prim.Native.Nat.{ℕ, zero, suc, ◌+◌, ◌*◌, ◌-◌, ◌≤◌, ◌<◌}
 use native.Mathlib.Omega.{arith}
-use Rattle.std.specs.Prelude.{◌≡◌, List, eqb}
+use Rattle.std.specs.Prelude.{◌≡◌, List, None}
 use Rattle.std.proofs.Math.Path.{refl, sym, ap, ap₂}
 use Rattle.std.proofs.Common.{◌∙◌, ⊎_elim}
-use Rattle.std.proofs.Math.Option.{none}
 use Rattle.std.proofs.Math.ListN.{get_or}
-use Rattle.base_tests.specs.Tests.{ite}
 use Rattle.base_tests.proofs.Laws.Choice.{ite_ge}
 use Rattle.base_tests.proofs.Laws.Order.{lt_or_ge, same_or_not}
 use Rattle.lent_tables.specs.declared.Table.{Table}
@@ -16,7 +14,6 @@ use Rattle.refuse_class.specs.Class.{lower}
 use Rattle.refuse_class.proofs.Laws.Class.{lower_none, lower_alone, lower_second, lower_first, lower_0}
 use Rattle.refuse_words.specs.Classes.{lowest_below, word_class, used_if, run_limit, stray_from, words_below, record_class}
 use Rattle.refuse_instruction.specs.EffectClasses.{uses, effect_limit}
-use Rattle.refuse_instruction.proofs.Laws.Use.{only_captures}
 
 -- ---- in which order classes are taken together does not matter
 
@@ -73,7 +70,7 @@ lowest_split f m (suc n) =
 
 module _ (t : Table) (xs : List ℕ) (i identifiers functions diagnostics code n : ℕ) (wide : t.width ≡ 98) (row : i < t.count) (plain : uses code 7 ≡ 0) where
   -- a word after the count of captures has no use
-  unused : (k : ℕ) → k < 80 → word_class (effect_limit identifiers functions diagnostics code n (18 + k)) (field t xs i (18 + k)) ≡ word_class none (get_or xs (index t i 18 + k) 0)
+  unused : (k : ℕ) → k < 80 → word_class (effect_limit identifiers functions diagnostics code n (18 + k)) (field t xs i (18 + k)) ≡ word_class None (get_or xs (index t i 18 + k) 0)
   unfolding effect_limit index
   unused k l =
       ap₂ word_class (ite_ge (18 + k) 18 _ _ (omega arith) ∙ ap (λ (u : ℕ). used_if u (run_limit identifiers n (18 + k - 18))) plain)
@@ -90,13 +87,9 @@ module _ (t : Table) (xs : List ℕ) (i identifiers functions diagnostics code n
   unfolding words_below record_class stray_from
   words_split head tail r from hh hf ht hr =
       hr
-      ∙ ap₂ lower hh (ht ∙ ap (λ (x : ℕ). lowest_below 80 (λ k. word_class none (get_or xs (x + k) 0))) hf ∙ sym (below _ _ 80 unused))
+      ∙ ap₂ lower hh (ht ∙ ap (λ (x : ℕ). lowest_below 80 (λ k. word_class None (get_or xs (x + k) 0))) hf ∙ sym (below _ _ 80 unused))
       ∙ sym (lowest_split (λ w. word_class (effect_limit identifiers functions diagnostics code n w) (field t xs i w)) 18 80)
       ∙ ap (λ (x : ℕ). lowest_below x (λ w. word_class (effect_limit identifiers functions diagnostics code n w) (field t xs i w))) (sym wide)
-
--- the code of an effect without captures
-pub no_captures : (code u : ℕ) → u ≡ ite (eqb code 13) 1 0 → u ≡ 0 → uses code 7 ≡ 0
-no_captures code u h z = sym (only_captures code) ∙ sym h ∙ z
 
 -- where the rest begins
 pub split_from : (t : Table) (i a : ℕ) → a ≡ t.base → t.width ≡ 98 → a + i * 98 + 18 ≡ index t i 18

@@ -1,11 +1,11 @@
 -- What an effect of each code uses: the ways through the code's tests, by one computed test of the table each. Assumes nothing.
-use Rattle.std.specs.Prelude.{ℕ, ◌≤◌, ◌<◌, ◌≡◌, refl, false, not, ◌⊎◌, List, [], eqb, ltb, get_or}
+use Rattle.std.specs.Prelude.{ℕ, ◌≤◌, ◌<◌, ◌≡◌, refl, false, not, List, [], eqb, ltb, get_or}
 use Rattle.std.proofs.Common.{sym, ap, ◌∙◌, ⊎_elim, arith, eqb-true}
 use Rattle.std.proofs.Math.ListN.{get_or-eq_default}
 use Rattle.base_tests.proofs.Laws.Bool.{not-false}
 use Rattle.base_tests.proofs.Laws.Order.{lt_or_ge}
 use Rattle.base_tests.specs.Tests.{ite, any_below}
-use Rattle.base_tests.proofs.Laws.Choice.{ite_lt, ite_ge, ite_ne}
+use Rattle.base_tests.proofs.Laws.Choice.{ite_lt, ite_ge, ite_eq, ite_ne}
 use Rattle.base_tests.proofs.Laws.Below.{any_at}
 use Rattle.refuse_instruction.specs.EffectClasses.{used_parts, uses}
 
@@ -192,3 +192,11 @@ table_captures = refl
 -- captures: CreateFunction
 pub only_captures : (code : ℕ) → only 13 code ≡ uses code 7
 only_captures code = only_rule 7 13 (omega arith) table_captures code
+
+-- a CreateFunction has captures
+pub captures_function : (code : ℕ) → code ≡ 13 → uses code 7 ≡ 1
+captures_function code e = sym (only_captures code) ∙ ite_eq code 13 1 0 e
+
+-- no other effect has any
+pub no_captures : (code : ℕ) → (code ≡ 13 → ⊥) → uses code 7 ≡ 0
+no_captures code n = sym (only_captures code) ∙ ite_ne code 13 1 0 n

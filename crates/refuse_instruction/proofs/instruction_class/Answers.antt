@@ -1,3 +1,4 @@
+use Rattle.std.proofs.Common.{refl}
 use Rattle.refuse_instruction.proofs.Laws.Instruction.{instruction_many, instruction_rest}
 use Rattle.refuse_instruction.proofs.instruction_class.Goals as goal
 
@@ -6,4 +7,4 @@ returns-then-count-gt64 c = instruction_many _ _ _ _ _ _ _ c.if-count-gt64.true
 
 pub returns : goal.returns
 returns c =
-    instruction_rest _ _ _ _ _ _ _ _ _ _ _ _ _ c.if-count-gt64.false c.wide32.ensures c.candidates_class-class.ensures c.place_class.ensures c.own_class.ensures c.lower.ensures c.lower-2.ensures
+    instruction_rest _ _ _ _ _ _ _ _ _ _ _ _ _ c.if-count-gt64.false refl c.candidates_class-tested.ensures c.place_class.ensures c.own_class.ensures c.lower.ensures c.lower-2.ensures

@@ -3,7 +3,7 @@ use Rattle.std.specs.Prelude.{ℕ, suc, ◌≤◌, ◌<◌, ◌≡◌, true, fal
 use Rattle.std.proofs.Common.{arith, ◌∙◌}
 use borrow.Author.Tests.{ltb-true, eqb-true}
 use Rattle.base_tests.proofs.Laws.Bool.{not-false, or_no_first, or_no_second}
-use Rattle.base_search.specs.declared.Order.TheVariants.{Less}
+use Rattle.std.specs.declared.cmp.Ordering.TheVariants.{Less}
 use Rattle.base_search.specs.Counting.{how_many}
 use Rattle.base_search.proofs.Laws.Counting.{count_all_is}
 use Rattle.def_key_order.specs.KeyOrder.{compare_keys}

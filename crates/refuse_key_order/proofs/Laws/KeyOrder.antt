@@ -1,13 +1,12 @@
 -- Laws by which the code of the class of the cached keys' order meets the definition: a law for each way through a function. Assumes nothing.
-use Rattle.std.specs.Prelude.{ℕ, suc, ◌+◌, ◌≤◌, ◌≡◌, refl, Bool, true, false, List, [], eqb}
+use Rattle.std.specs.Prelude.{ℕ, suc, ◌+◌, ◌≤◌, ◌≡◌, refl, Bool, true, false, List, [], eqb, Some}
 use Rattle.std.proofs.Common.{arith, ap₂, ◌∙◌, eq-eqb, ne_eqb}
 use Rattle.std.proofs.Math.Path.{sym, ap}
 use Rattle.std.proofs.Math.Bool.{not}
-use Rattle.std.proofs.Math.Option.{some}
 use Rattle.base_tests.specs.Tests.{ite}
 use Rattle.base_tests.proofs.Laws.Bool.{or_first, or_second}
-use Rattle.base_search.specs.declared.Order.{Order}
-use Rattle.base_search.specs.declared.Order.TheVariants.{Less, Same, More}
+use Rattle.std.specs.declared.cmp.Ordering.{Ordering}
+use Rattle.std.specs.declared.cmp.Ordering.TheVariants.{Less, Equal, Greater}
 use Rattle.base_search.specs.Comparings.{compare_lists}
 use Rattle.base_search.specs.Counting.{how_many}
 use Rattle.def_effects.specs.Keys.{EffectKey}
@@ -21,13 +20,13 @@ use Rattle.lent_layout.specs.Layout as Layout
 use Rattle.lent_order.specs.Order.{order_at}
 use Rattle.lent_context.specs.Lent.{is_keyed, key_here, key_count}
 use Rattle.refuse_class.specs.Class.{lower}
-use Rattle.refuse_words.specs.Classes.{lowest_below, earns, word_class, stray_after, limit_of}
+use Rattle.refuse_words.specs.Classes.{lowest_below, earns, word_class, stray_after}
 use Rattle.refuse_order.specs.Order.{descends}
 use Rattle.refuse_key_order.specs.KeyOrder.{misplaced, key_place_class, miscounted, key_order_class}
 
 -- ---- the keys of two numbers
 
-module _ (c : List ℕ) (a i b j : ℕ) (hi : i ≡ a) (hj : j ≡ b) (key other : Key) (kd : (is : List ℕ) → key_with key is ≡ key_head_in Layout.cached c i is) (ke : (is : List ℕ) → key_with other is ≡ key_head_in Layout.cached c j is) (o : Order) (heads : o ≡ compare_heads key other) where
+module _ (c : List ℕ) (a i b j : ℕ) (hi : i ≡ a) (hj : j ≡ b) (key other : Key) (kd : (is : List ℕ) → key_with key is ≡ key_head_in Layout.cached c i is) (ke : (is : List ℕ) → key_with other is ≡ key_head_in Layout.cached c j is) (o : Ordering) (heads : o ≡ compare_heads key other) where
   abbrev captured : ℕ → List ℕ
   captured r = numbers_in Layout.cached c r 12 1 0 (field Layout.cached c r 11)
 
@@ -42,7 +41,7 @@ module _ (c : List ℕ) (a i b j : ℕ) (hi : i ≡ a) (hj : j ≡ b) (key other
   pub two_less : o ≡ Less → Less ≡ compare_keys (key_here c a) (key_here c b)
   two_less p = head_less key other (captured i) (captured j) (key_here c b) second_key o heads p ∙ ap (λ k. compare_keys k (key_here c b)) first_key
 
-  pub two_more : o ≡ More → More ≡ compare_keys (key_here c a) (key_here c b)
+  pub two_more : o ≡ Greater → Greater ≡ compare_keys (key_here c a) (key_here c b)
   two_more p = head_more key other (captured i) (captured j) (key_here c b) second_key o heads p ∙ ap (λ k. compare_keys k (key_here c b)) first_key
 
   -- a cached key takes all its captures
@@ -54,7 +53,7 @@ module _ (c : List ℕ) (a i b j : ℕ) (hi : i ≡ a) (hj : j ≡ b) (key other
   unfolding key_with key_head_in
   second_taken = sym (ap (λ (k : EffectKey). k.captures) (ke (captured j)))
 
-  pub two_same : (r : Order) (n m : ℕ) → o ≡ Same → n ≡ field Layout.cached c i 11 → m ≡ field Layout.cached c j 11
+  pub two_same : (r : Ordering) (n m : ℕ) → o ≡ Equal → n ≡ field Layout.cached c i 11 → m ≡ field Layout.cached c j 11
       → r ≡ compare_lists (numbers_in Layout.cached c i 12 1 0 n) (numbers_in Layout.cached c j 12 1 0 m) → r ≡ compare_keys (key_here c a) (key_here c b)
   two_same r n m p hn hm q =
       head_same key other (captured i) (captured j) (key_here c b) second_key o heads r p
@@ -100,9 +99,9 @@ module _ (c : List ℕ) (n j v : ℕ) (b : Bool) (hv : v ≡ order_at Layout.key
   unfolding misplaced
   place_keyed x t h = h ∙ sym (or_second (not (is_keyed c (order_at Layout.key_order c j))) _ (ap not (ap (is_keyed c) (sym hv) ∙ sym hb ∙ t)))
 
-pub place_is : (c : List ℕ) (m n j w x y r l : ℕ) (t : Bool) → limit_of l ≡ some m → w ≡ order_at Layout.key_order c j → x ≡ word_class (limit_of l) w → t ≡ misplaced c n j → y ≡ earns 4 t → r ≡ lower x y → r ≡ key_place_class c m n j
+pub place_is : (c : List ℕ) (m n j w x y r : ℕ) (t : Bool) → w ≡ order_at Layout.key_order c j → x ≡ word_class (Some m) w → t ≡ misplaced c n j → y ≡ earns 4 t → r ≡ lower x y → r ≡ key_place_class c m n j
 unfolding key_place_class
-place_is c m n j w x y r l t hm hw hx ht hy h = h ∙ ap₂ lower (hx ∙ ap₂ word_class hm hw) (hy ∙ ap (earns 4) ht)
+place_is c m n j w x y r t hw hx ht hy h = h ∙ ap₂ lower (hx ∙ ap (word_class (Some m)) hw) (hy ∙ ap (earns 4) ht)
 
 -- ---- the whole order
 

@@ -5,11 +5,8 @@ use Rattle.lent_order.specs.Order.{order_at}
 use Rattle.refuse_order.proofs.Laws.Order.{last_place, next_place}
 use Rattle.refuse_key_order.proofs.key_descends.Goals as goal
 
-pub returns-then-n-eq0 : goal.returns-then-n-eq0
-returns-then-n-eq0 c = last_place (key_here c.args.context.now) (order_at Layout.key_order c.args.context.now) c.args.n c.args.j (omega arith)
-
-pub returns-then-j-n : goal.returns-then-j-n
-returns-then-j-n c = last_place (key_here c.args.context.now) (order_at Layout.key_order c.args.context.now) c.args.n c.args.j (omega arith)
+pub returns-then-j-saturating_sub : goal.returns-then-j-saturating_sub
+returns-then-j-saturating_sub c = last_place (key_here c.args.context.now) (order_at Layout.key_order c.args.context.now) c.args.n c.args.j (omega arith)
 
 pub returns : goal.returns
 returns c =

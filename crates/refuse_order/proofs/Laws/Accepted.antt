@@ -3,8 +3,8 @@ use Rattle.std.specs.Prelude.{ℕ, suc, ◌<◌, ◌≡◌, refl, true, false, L
 use Rattle.std.proofs.Common.{arith, sym, ◌∙◌}
 use borrow.Author.Tests.{ltb-true, lt-ltb}
 use Rattle.base_tests.proofs.Laws.Bool.{not-false, and_first}
-use Rattle.base_search.specs.declared.Order.{Order}
-use Rattle.base_search.specs.declared.Order.TheVariants.{Less, Same, More}
+use Rattle.std.specs.declared.cmp.Ordering.{Ordering}
+use Rattle.std.specs.declared.cmp.Ordering.TheVariants.{Less, Equal, Greater}
 use Rattle.def_effects.specs.Keys.{EffectKey}
 use Rattle.def_key_order.specs.KeyOrder.{compare_keys}
 use Rattle.def_key_order.proofs.Laws.KeyOrder.{keys}
@@ -18,10 +18,10 @@ use Rattle.refuse_words.proofs.Laws.Class.{earns_none, lowest_0}
 use Rattle.refuse_order.specs.Order.{is_less, descends, place_class, order_class}
 
 -- what comes before
-pub less_is : (o : Order) → is_less o ≡ true → o ≡ Less
+pub less_is : (o : Ordering) → is_less o ≡ true → o ≡ Less
 less_is Less e = refl
-less_is Same e = cc
-less_is More e = cc
+less_is Equal e = cc
+less_is Greater e = cc
 
 -- neighbours that do not descend ascend
 pub ascends_if : (key : ℕ → EffectKey) (ord : ℕ → ℕ) (n j : ℕ) → suc j < n → descends key ord n j ≡ false → compare_keys (key (ord j)) (key (ord (suc j))) ≡ Less

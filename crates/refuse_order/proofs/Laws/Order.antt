@@ -1,12 +1,11 @@
 -- Laws by which the code of the order's class meets the definition: a law for each way through a function. Assumes nothing.
-use Rattle.std.specs.Prelude.{ℕ, suc, ◌+◌, ◌≤◌, ◌<◌, ◌≡◌, Bool, false, ◌&&◌, List}
-use Rattle.std.proofs.Common.{arith, ◌∙◌, lt-ltb, le-ltb}
+use Rattle.std.specs.Prelude.{ℕ, suc, ◌≤◌, ◌<◌, ◌≡◌, Bool, false, ◌&&◌, List, Some}
+use Rattle.std.proofs.Common.{◌∙◌, lt-ltb, le-ltb}
 use Rattle.std.proofs.Math.Path.{sym, ap, ap₂}
 use Rattle.std.proofs.Math.Bool.{not}
-use Rattle.std.proofs.Math.Option.{some}
 use Rattle.base_tests.specs.Tests.{ite}
-use Rattle.base_search.specs.declared.Order.{Order}
-use Rattle.base_search.specs.declared.Order.TheVariants.{Less, Same, More}
+use Rattle.std.specs.declared.cmp.Ordering.{Ordering}
+use Rattle.std.specs.declared.cmp.Ordering.TheVariants.{Less, Equal, Greater}
 use Rattle.base_search.specs.Comparings.{compare_lists}
 use Rattle.def_effects.specs.declared.Place.{Place}
 use Rattle.def_effects.specs.Places.{identifiers}
@@ -24,13 +23,13 @@ use Rattle.lent_layout.specs.Layout as Layout
 use Rattle.lent_order.specs.Order.{order_at}
 use Rattle.lent_context.specs.Lent.{interned_count, interned_key}
 use Rattle.refuse_class.specs.Class.{lower}
-use Rattle.refuse_words.specs.Classes.{lowest_below, earns, word_class, stray_after, limit_of}
+use Rattle.refuse_words.specs.Classes.{lowest_below, earns, word_class, stray_after}
 use Rattle.refuse_order.specs.Order.{is_less, descends, place_class, order_class}
 
 -- ---- the keys of two records
 
 module _ (c : List ℕ) (a i b j : ℕ) (hi : i ≡ a) (hj : j ≡ b) (key other : Key) (d e : Head) (gd : d ≡ head_in Layout.interned c i) (ge : e ≡ head_in Layout.interned c j)
-    (kd : (cs : List Place) → key_with key (identifiers cs) ≡ effect_key (effect_with d cs)) (ke : (cs : List Place) → key_with other (identifiers cs) ≡ effect_key (effect_with e cs)) (o : Order) (heads : o ≡ compare_heads key other) where
+    (kd : (cs : List Place) → key_with key (identifiers cs) ≡ effect_key (effect_with d cs)) (ke : (cs : List Place) → key_with other (identifiers cs) ≡ effect_key (effect_with e cs)) (o : Ordering) (heads : o ≡ compare_heads key other) where
   abbrev captured : ℕ → List ℕ
   captured r = identifiers (counted_places Layout.interned c r 17)
 
@@ -43,10 +42,10 @@ module _ (c : List ℕ) (a i b j : ℕ) (hi : i ≡ a) (hj : j ≡ b) (key other
   pub two_less : o ≡ Less → Less ≡ compare_keys (interned_key c a) (interned_key c b)
   two_less p = head_less key other (captured i) (captured j) (interned_key c b) second_key o heads p ∙ ap (λ k. compare_keys k (interned_key c b)) first_key
 
-  pub two_more : o ≡ More → More ≡ compare_keys (interned_key c a) (interned_key c b)
+  pub two_more : o ≡ Greater → Greater ≡ compare_keys (interned_key c a) (interned_key c b)
   two_more p = head_more key other (captured i) (captured j) (interned_key c b) second_key o heads p ∙ ap (λ k. compare_keys k (interned_key c b)) first_key
 
-  pub two_same : (r : Order) (y n z m : ℕ) → o ≡ Same → y ≡ field Layout.interned c i 17 → n ≡ ite key.captured y 0 → z ≡ field Layout.interned c j 17 → m ≡ ite other.captured z 0
+  pub two_same : (r : Ordering) (y n z m : ℕ) → o ≡ Equal → y ≡ field Layout.interned c i 17 → n ≡ ite key.captured y 0 → z ≡ field Layout.interned c j 17 → m ≡ ite other.captured z 0
       → r ≡ compare_lists (numbers_in Layout.interned c i 18 5 0 n) (numbers_in Layout.interned c j 18 5 0 m) → r ≡ compare_keys (interned_key c a) (interned_key c b)
   two_same r y n z m p hy hn hz hm q =
       head_same key other (captured i) (captured j) (interned_key c b) second_key o heads r p
@@ -55,10 +54,6 @@ module _ (c : List ℕ) (a i b j : ℕ) (hi : i ≡ a) (hj : j ≡ b) (key other
 
 -- ---- a place of the order
 
--- the limit of a number of one of n effects
-pub limit_next : (n : ℕ) → limit_of (n + 1) ≡ some n
-limit_next n = ap limit_of (let z : n + 1 ≡ suc n = omega arith in z)
-
 module _ (key : ℕ → EffectKey) (ord : ℕ → ℕ) (n j : ℕ) where
   -- the last place has no next one
   pub last_place : n ≤ suc j → false ≡ descends key ord n j
@@ -66,16 +61,16 @@ module _ (key : ℕ → EffectKey) (ord : ℕ → ℕ) (n j : ℕ) where
   last_place h = sym (ap (λ (b : Bool). b && not (is_less (compare_keys (key (ord j)) (key (ord (suc j)))))) (le-ltb (suc j) n h))
 
   -- any other is compared with it
-  pub next_place : (a b k : ℕ) (o : Order) (x : Bool) → suc j < n → a ≡ ord j → k ≡ suc j → b ≡ ord k → o ≡ compare_keys (key a) (key b) → x ≡ is_less o → not x ≡ descends key ord n j
+  pub next_place : (a b k : ℕ) (o : Ordering) (x : Bool) → suc j < n → a ≡ ord j → k ≡ suc j → b ≡ ord k → o ≡ compare_keys (key a) (key b) → x ≡ is_less o → not x ≡ descends key ord n j
   unfolding descends
   next_place a b k o x l ha hk hb ho hx =
       ap not (hx ∙ ap is_less (ho ∙ ap₂ (λ (u v : ℕ). compare_keys (key u) (key v)) ha (hb ∙ ap ord hk)))
       ∙ sym (ap (λ (b : Bool). b && not (is_less (compare_keys (key (ord j)) (key (ord (suc j)))))) (lt-ltb (suc j) n l))
 
 module _ (c : List ℕ) (n j : ℕ) where
-  pub place_is : (w x y r m : ℕ) (t : Bool) → limit_of m ≡ some n → w ≡ order_at Layout.effect_order c j → x ≡ word_class (limit_of m) w → t ≡ descends (interned_key c) (order_at Layout.effect_order c) n j → y ≡ earns 4 t → r ≡ lower x y → r ≡ place_class c n j
+  pub place_is : (w x y r : ℕ) (t : Bool) → w ≡ order_at Layout.effect_order c j → x ≡ word_class (Some n) w → t ≡ descends (interned_key c) (order_at Layout.effect_order c) n j → y ≡ earns 4 t → r ≡ lower x y → r ≡ place_class c n j
   unfolding place_class
-  place_is w x y r m t hm hw hx ht hy h = h ∙ ap₂ lower (hx ∙ ap₂ word_class hm hw) (hy ∙ ap (earns 4) ht)
+  place_is w x y r t hw hx ht hy h = h ∙ ap₂ lower (hx ∙ ap (word_class (Some n)) hw) (hy ∙ ap (earns 4) ht)
 
 -- ---- the whole order
 

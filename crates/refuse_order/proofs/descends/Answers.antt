@@ -5,11 +5,8 @@ use native.Mathlib.Omega.{arith}
 use Rattle.refuse_order.proofs.Laws.Order.{last_place, next_place}
 use Rattle.refuse_order.proofs.descends.Goals as goal
 
-pub returns-then-n-eq0 : goal.returns-then-n-eq0
-returns-then-n-eq0 c = last_place (interned_key c.args.context.now) (order_at Layout.effect_order c.args.context.now) c.args.n c.args.j (omega arith)
-
-pub returns-then-j-n : goal.returns-then-j-n
-returns-then-j-n c = last_place (interned_key c.args.context.now) (order_at Layout.effect_order c.args.context.now) c.args.n c.args.j (omega arith)
+pub returns-then-j-saturating_sub : goal.returns-then-j-saturating_sub
+returns-then-j-saturating_sub c = last_place (interned_key c.args.context.now) (order_at Layout.effect_order c.args.context.now) c.args.n c.args.j (omega arith)
 
 pub returns : goal.returns
 returns c =

@@ -1,9 +1,8 @@
 -- Laws by which the code of a context's classes meets the definitions: a law for each way through a function. Assumes nothing.
-use Rattle.std.specs.Prelude.{ℕ, ◌≤◌, ◌<◌, ◌≡◌, refl, Bool, true, false, ◌&&◌, ◌||◌, List, get_or}
+use Rattle.std.specs.Prelude.{ℕ, ◌≤◌, ◌<◌, ◌≡◌, refl, Bool, true, false, ◌&&◌, ◌||◌, List, get_or, Some}
 use Rattle.std.proofs.Math.Path.{sym, ap}
 use Rattle.std.proofs.Common.{ap₂, ◌∙◌, arith, lt-ltb, le-ltb, eq-eqb, ne_eqb}
 use Rattle.std.proofs.Math.Bool.{not}
-use Rattle.std.proofs.Math.Option.{some}
 use Rattle.std.proofs.Math.Dec.{eqb, ltb}
 use Rattle.def_effects.specs.Places.{no_span, eq_span}
 use Rattle.lent_tables.specs.Words.{field}
@@ -224,12 +223,12 @@ handed_some next l = sym (ite_ge 512 next 512 next l)
 
 -- the options and all tables
 -- the lowest class of seven
-pub tables_are : (identifiers functions : ℕ) (c : List ℕ) (next x o a b d e f g l1 l2 l3 l4 l5 r : ℕ) → x ≡ get_or c 0 0 → o ≡ word_class (some 4) x → a ≡ identifiers_class identifiers c → b ≡ functions_class identifiers functions c
+pub tables_are : (identifiers functions : ℕ) (c : List ℕ) (next x o a b d e f g l1 l2 l3 l4 l5 r : ℕ) → x ≡ get_or c 0 0 → o ≡ word_class (Some 4) x → a ≡ identifiers_class identifiers c → b ≡ functions_class identifiers functions c
     → d ≡ links_class functions c next → e ≡ keys_class identifiers functions c next → f ≡ diagnostics_class identifiers c → g ≡ effects_class identifiers functions c
     → l1 ≡ lower f g → l2 ≡ lower e l1 → l3 ≡ lower d l2 → l4 ≡ lower b l3 → l5 ≡ lower a l4 → r ≡ lower o l5 → r ≡ tables_class identifiers functions c next
 unfolding tables_class
 tables_are identifiers functions c next x o a b d e f g l1 l2 l3 l4 l5 r hx ho ha hb hd he hf hg h1 h2 h3 h4 h5 h =
-    h ∙ ap₂ lower (ho ∙ ap (word_class (some 4)) hx) (h5 ∙ ap₂ lower ha (h4 ∙ ap₂ lower hb (h3 ∙ ap₂ lower hd (h2 ∙ ap₂ lower he (h1 ∙ ap₂ lower hf hg)))))
+    h ∙ ap₂ lower (ho ∙ ap (word_class (Some 4)) hx) (h5 ∙ ap₂ lower ha (h4 ∙ ap₂ lower hb (h3 ∙ ap₂ lower hd (h2 ∙ ap₂ lower he (h1 ∙ ap₂ lower hf hg)))))
 
 module _ (identifiers functions : ℕ) (c : List ℕ) (next : ℕ) (b : Bool) (h : b ≡ counts_wrong identifiers functions c) where
   -- a count is wrong

@@ -1,11 +1,5 @@
-use Rattle.refuse_records.proofs.Laws.Accepting.{cached_zero, cached_none, cached_many, cached_counted}
+use Rattle.refuse_records.proofs.Laws.Accepting.{cached_many, cached_counted}
 use Rattle.refuse_records.proofs.cached_class.Goals as goal
-
-pub returns-then-v-eq0 : goal.returns-then-v-eq0
-returns-then-v-eq0 c = cached_zero _ _ _ _ _ c.if-v-eq0.true c.no_key_class.ensures
-
-pub returns-then-field-eq0 : goal.returns-then-field-eq0
-returns-then-field-eq0 c = cached_none _ _ _ _ _ _ c.if-v-eq0.false c.field.ensures c.if-field-eq0.true c.no_key_class-then-field-eq0.ensures
 
 pub returns-then-too_many_captures : goal.returns-then-too_many_captures
 returns-then-too_many_captures c = cached_many _ _ _ _ _ _ c.if-v-eq0.false c.field.ensures c.if-field-eq0.false c.too_many_captures.ensures c.if-too_many_captures.true

@@ -1,19 +1,15 @@
 -- Laws by which the searches of diagnostics before one meet the definitions. Assumes nothing.
-use Rattle.std.specs.Prelude.{ℕ, suc, max, ◌+◌, ◌-◌, ◌≤◌, ◌<◌, ◌≡◌, refl, Bool, ◌&&◌, eqb}
+use Rattle.std.specs.Prelude.{ℕ, suc, max, ◌+◌, ◌-◌, ◌≤◌, ◌<◌, ◌≡◌, refl, Bool, ◌&&◌, eqb, Option, None, Some}
 use Rattle.std.proofs.Common.{arith, add-one, ◌∙◌, ⊎_elim}
 use Rattle.std.proofs.Math.Path.{sym, ap, ap₂}
 use Rattle.std.proofs.Math.Bool.{true, false, not}
 use mathlib.Core.List.{List, [], ◌∷◌}
-use Rattle.std.proofs.Math.Option.{Option, none, some}
 use borrow.Author.Tests.{eq-eqb, ne_eqb}
 use Rattle.def_effects.specs.declared.Diagnostic.{Diagnostic}
 use Rattle.def_transfer.specs.Diagnostics.{same_identity, same_labels}
 use Rattle.base_tests.specs.Tests.{is_some}
 use Rattle.def_transfer.specs.Pure.{Interned, identities, find_identity, find_instance}
 use Rattle.lent_tables.specs.Words.{field}
-use Rattle.lent_keys.specs.declared.Found.{Found}
-use Rattle.lent_keys.specs.declared.Found.TheVariants.{Nowhere, At}
-use Rattle.lent_keys.specs.KeyRecords.{option_of}
 use Rattle.lent_layout.specs.Layout as Layout
 use Rattle.lent_context.specs.Lent.{diagnostic_in, diagnostics_in}
 use Rattle.lent_diagnostics.specs.declared.Numbered.{Numbered}
@@ -54,29 +50,29 @@ identities_end c k n most l inv =
 
 module _ (c : List ℕ) (d : Diagnostic) (k n : ℕ) (inv : find_identity (diagnostics_in c 0 (n - 0)) d ≡ find_identity (diagnostics_in c k (n - k)) d) where
   -- the search ends at record k
-  pub identity_found : (x : Numbered) (b : Bool) → k < n → interned_of x ≡ diagnostic_in c k → b ≡ same_identity d x.diagnostic → b ≡ true → some x.identity ≡ find_identity (diagnostics_in c 0 n) d
+  pub identity_found : (x : Numbered) (b : Bool) → k < n → interned_of x ≡ diagnostic_in c k → b ≡ same_identity d x.diagnostic → b ≡ true → Some x.identity ≡ find_identity (diagnostics_in c 0 n) d
   unfolding find_identity
   identity_found x b l g h z =
-      ap (λ (y : Interned). some y.identity) g
+      ap (λ (y : Interned). Some y.identity) g
       ∙ sym (ap (λ (ds : List Interned). find_identity ds d) (diagnostics_all c n) ∙ inv ∙ ap (λ (ds : List Interned). find_identity ds d) (diagnostics_more c k n l)
-      ∙ ap (λ (t : Bool). elim t as (λ x. Option ℕ) [ true ↦ some (diagnostic_in c k).identity | false ↦ find_identity (diagnostics_in c (k + 1) (n - (k + 1))) d ])
+      ∙ ap (λ (t : Bool). elim t as (λ x. Option ℕ) [ true ↦ Some (diagnostic_in c k).identity | false ↦ find_identity (diagnostics_in c (k + 1) (n - (k + 1))) d ])
       (ap (λ (y : Interned). same_identity d y.diagnostic) (sym g) ∙ sym h ∙ z))
 
   -- the search ends without a record
-  pub identity_nowhere : n ≤ k → none ≡ find_identity (diagnostics_in c 0 n) d
+  pub identity_nowhere : n ≤ k → None ≡ find_identity (diagnostics_in c 0 n) d
   unfolding find_identity
   identity_nowhere l = sym (ap (λ (ds : List Interned). find_identity ds d) (diagnostics_all c n) ∙ inv ∙ ap (λ (ds : List Interned). find_identity ds d) (diagnostics_none c k n l))
 
-module _ (c : List ℕ) (n : ℕ) (d : Diagnostic) (o : Found) (h : option_of o ≡ find_identity (diagnostics_in c 0 n) d) where
+module _ (c : List ℕ) (n : ℕ) (d : Diagnostic) (o : Option ℕ) (h : o ≡ find_identity (diagnostics_in c 0 n) d) where
   -- no message is equal
-  right_next : (r : ℕ) → o ≡ Nowhere → r ≡ identities (diagnostics_in c 0 n) → r ≡ right_identity c n d
+  right_next : (r : ℕ) → o ≡ None → r ≡ identities (diagnostics_in c 0 n) → r ≡ right_identity c n d
   unfolding right_identity
-  right_next r e g = g ∙ ap (number_or (identities (diagnostics_in c 0 n))) (sym (ap option_of e) ∙ h)
+  right_next r e g = g ∙ ap (number_or (identities (diagnostics_in c 0 n))) (sym e ∙ h)
 
   -- a message is equal
-  right_found : (x : ℕ) → o ≡ At x → x ≡ right_identity c n d
+  right_found : (x : ℕ) → o ≡ Some x → x ≡ right_identity c n d
   unfolding right_identity
-  right_found x e = ap (number_or (identities (diagnostics_in c 0 n))) (sym (ap option_of e) ∙ h)
+  right_found x e = ap (number_or (identities (diagnostics_in c 0 n))) (sym e ∙ h)
 
 module _ (c : List ℕ) (m : ℕ) (d : Diagnostic) (k n : ℕ) (inv : find_instance 0 (diagnostics_in c 0 (n - 0)) m d ≡ find_instance k (diagnostics_in c k (n - k)) m d) where
   -- whether a record is the instance
@@ -89,7 +85,7 @@ module _ (c : List ℕ) (m : ℕ) (d : Diagnostic) (k n : ℕ) (inv : find_insta
   unfolding find_instance
   instance_found x b l g h z =
       sym (ap is_some (ap (λ (ds : List Interned). find_instance 0 ds m d) (diagnostics_all c n) ∙ inv ∙ ap (λ (ds : List Interned). find_instance k ds m d) (diagnostics_more c k n l)
-      ∙ ap (λ (t : Bool). elim t as (λ x. Option ℕ) [ true ↦ some k | false ↦ find_instance (suc k) (diagnostics_in c (k + 1) (n - (k + 1))) m d ]) (ap is_instance (sym g) ∙ sym h ∙ z)))
+      ∙ ap (λ (t : Bool). elim t as (λ x. Option ℕ) [ true ↦ Some k | false ↦ find_instance (suc k) (diagnostics_in c (k + 1) (n - (k + 1))) m d ]) (ap is_instance (sym g) ∙ sym h ∙ z)))
 
   -- the search ends without a record
   pub instance_nowhere : n ≤ k → false ≡ is_some (find_instance 0 (diagnostics_in c 0 n) m d)
@@ -98,11 +94,11 @@ module _ (c : List ℕ) (m : ℕ) (d : Diagnostic) (k n : ℕ) (inv : find_insta
       sym (ap is_some (ap (λ (ds : List Interned). find_instance 0 ds m d) (diagnostics_all c n) ∙ inv ∙ ap (λ (ds : List Interned). find_instance k ds m d) (diagnostics_none c k n l)))
 
 -- an identity that is not below those of some records is none of theirs
-none_yet : (i : ℕ) (ds : List Interned) (n : ℕ) (d : Diagnostic) → identities ds ≤ n → find_instance i ds n d ≡ none
+none_yet : (i : ℕ) (ds : List Interned) (n : ℕ) (d : Diagnostic) → identities ds ≤ n → find_instance i ds n d ≡ None
 unfolding find_instance identities
 none_yet i [] n d l = refl
 none_yet i (x ∷ xs) n d l =
-    ap (λ (b : Bool). elim (b && same_labels d x.diagnostic) as (λ _. Option ℕ) [ true ↦ some i | false ↦ find_instance (suc i) xs n d ]) (ne_eqb n x.identity (λ e. omega arith))
+    ap (λ (b : Bool). elim (b && same_labels d x.diagnostic) as (λ _. Option ℕ) [ true ↦ Some i | false ↦ find_instance (suc i) xs n d ]) (ne_eqb n x.identity (λ e. omega arith))
     ∙ none_yet (suc i) xs n d (omega arith)
 
 module _ (c : List ℕ) (k : ℕ) (x : Numbered) (g : interned_of x ≡ diagnostic_in c k) where
@@ -135,7 +131,7 @@ module _ (c : List ℕ) (k : ℕ) (x : Numbered) (g : interned_of x ≡ diagnost
       (ap not (sym (same_test m h) ∙ eq-eqb x.identity m e)))
 
   -- a message that is new: it has the next identity, or another
-  pub diagnostic_new : (o : Found) (m : ℕ) → option_of o ≡ find_identity (diagnostics_in c 0 k) x.diagnostic → o ≡ Nowhere → m ≡ identities (diagnostics_in c 0 k) → not (eqb x.identity m) ≡ diagnostic_twice c k
+  pub diagnostic_new : (o : Option ℕ) (m : ℕ) → o ≡ find_identity (diagnostics_in c 0 k) x.diagnostic → o ≡ None → m ≡ identities (diagnostics_in c 0 k) → not (eqb x.identity m) ≡ diagnostic_twice c k
   diagnostic_new o m h e q = ⊎_elim next other (same_or_not x.identity m)
     where
       right : m ≡ right_identity c k x.diagnostic
@@ -148,7 +144,7 @@ module _ (c : List ℕ) (k : ℕ) (x : Numbered) (g : interned_of x ≡ diagnost
       other n = ap not (ne_eqb x.identity m n) ∙ diagnostic_wrong m right n
 
   -- a message that is not: another identity, or an equal record before it
-  module _ (o : Found) (m : ℕ) (h : option_of o ≡ find_identity (diagnostics_in c 0 k) x.diagnostic) (e : o ≡ At m) where
+  module _ (o : Option ℕ) (m : ℕ) (h : o ≡ find_identity (diagnostics_in c 0 k) x.diagnostic) (e : o ≡ Some m) where
     pub diagnostic_other : (x.identity ≡ m → ⊥) → true ≡ diagnostic_twice c k
     diagnostic_other n = diagnostic_wrong m (right_found c k x.diagnostic o h m e) n
 

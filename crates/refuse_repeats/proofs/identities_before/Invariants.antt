@@ -6,6 +6,3 @@ use Rattle.refuse_repeats.proofs.identities_before.Given as goal
 
 abbrev pub invariant-loop-k : goal.invariant-loop-k
 invariant-loop-k l = max l.initial.most (identities (diagnostics_in l.context l.initial.k (l.n - l.initial.k))) ≡ max l.most (identities (diagnostics_in l.context l.k (l.n - l.k)))
-
-abbrev pub decreases-loop-k : goal.decreases-loop-k
-decreases-loop-k l = l.n - l.k

@@ -6,6 +6,3 @@ use Rattle.refuse_repeats.proofs.instance_before.Given as goal
 
 abbrev pub invariant-loop-k : goal.invariant-loop-k
 invariant-loop-k l = find_instance l.initial.k (diagnostics_in l.context l.initial.k (l.n - l.initial.k)) l.identity l.d ≡ find_instance l.k (diagnostics_in l.context l.k (l.n - l.k)) l.identity l.d
-
-abbrev pub decreases-loop-k : goal.decreases-loop-k
-decreases-loop-k l = l.n - l.k

@@ -1,6 +1,6 @@
 -- `refuse_rows::row_in_use` meets its contract. The loop's invariant: each word passed is 0. The measure is the words that are left. Assumes nothing.
 use mathlib.Core.Path.{sym, ap, ◌∙◌}
-use mathlib.Core.Bool.{false, not}
+use mathlib.Core.Bool.{not}
 use native.Mathlib.Omega.{arith}
 use borrow.Author.Count.{below_more, below_none}
 use lib.Dec.{eqb}

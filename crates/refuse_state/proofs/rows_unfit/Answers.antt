@@ -1,6 +1,5 @@
 -- `refuse_state::rows_unfit` meets its contract. The loop's invariant: no row passed is unfit. The measure is the rows that are left. Assumes nothing.
 use mathlib.Core.Path.{sym, ◌∙◌}
-use mathlib.Core.Bool.{false}
 use native.Mathlib.Omega.{arith}
 use borrow.Author.Count.{below_more, below_none}
 use Rattle.base_tests.proofs.Laws.Below.{any_yes, any_no}

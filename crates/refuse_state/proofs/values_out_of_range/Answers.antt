@@ -1,6 +1,6 @@
 -- `refuse_state::values_out_of_range` meets its contract. The loop's invariant: no word passed is out of range. The measure is the words that are left. Assumes nothing.
+use Rattle.std.proofs.Common.{refl}
 use mathlib.Core.Path.{sym, ap, ◌∙◌}
-use mathlib.Core.Bool.{false}
 use native.Mathlib.Omega.{arith}
 use Prim.Native.Nat.{ℕ}
 use borrow.Author.Count.{below_more, below_none}
@@ -16,13 +16,13 @@ pub returns-then-value_out_of_range : goal.returns-then-value_out_of_range
 unfolding values_out_of_range
 returns-then-value_out_of_range c =
     let a = c.args in
-    let e = sym (c.value_out_of_range.ensures ∙ ap (word_out_of_range a.n c.loop-v.v) (c.get64.ensures ∙ ap (λ (k : ℕ). get_or a.values.now k 0) c.wide32.ensures)) in
+    let e = sym (c.value_out_of_range.ensures ∙ ap (word_out_of_range a.n c.loop-v.v) (c.get_or.ensures ∙ ap (λ (k : ℕ). get_or a.values.now k 0) refl)) in
     sym (any_yes 1024 (λ k. word_out_of_range a.n k (get_or a.values.now k 0)) c.loop-v.v (omega arith) (e ∙ c.if-value_out_of_range.true))
 
 pub loop-v-preserved : goal.loop-v-preserved
 loop-v-preserved c =
     let a = c.args in
-    let e = sym (c.value_out_of_range.ensures ∙ ap (word_out_of_range a.n c.loop-v.v) (c.get64.ensures ∙ ap (λ (k : ℕ). get_or a.values.now k 0) c.wide32.ensures)) in
+    let e = sym (c.value_out_of_range.ensures ∙ ap (word_out_of_range a.n c.loop-v.v) (c.get_or.ensures ∙ ap (λ (k : ℕ). get_or a.values.now k 0) refl)) in
     below_more _ _ c.loop-v.invariant (e ∙ c.if-value_out_of_range.false)
 
 pub returns : goal.returns

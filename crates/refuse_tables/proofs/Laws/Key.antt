@@ -1,9 +1,8 @@
 -- Laws by which the code of cached keys meets the definitions: a law for each way through a function. Assumes nothing.
-use Rattle.std.specs.Prelude.{ℕ, ◌+◌, ◌-◌, ◌≤◌, ◌<◌, ◌≡◌, Bool, true, false, ◌&&◌, ◌||◌, ◌⊎◌, List, [], ◌∷◌, ltb}
+use Rattle.std.specs.Prelude.{ℕ, ◌-◌, ◌≤◌, ◌<◌, ◌≡◌, Bool, true, false, ◌&&◌, ◌||◌, List, [], ◌∷◌, ltb, Option, None, Some}
 use Rattle.std.proofs.Math.Path.{sym, ap, ap₂}
-use Rattle.std.proofs.Common.{◌∙◌, add-one, eq-eqb, ne_eqb}
+use Rattle.std.proofs.Common.{◌∙◌, eq-eqb, ne_eqb}
 use Rattle.std.proofs.Math.Logic.{⊎_elim}
-use Rattle.std.proofs.Math.Option.{Option, none, some}
 use native.Mathlib.Omega.{arith}
 use Rattle.std.proofs.Math.Dec.{eqb}
 use Rattle.std.proofs.Math.ListN.{get_or-eq_default}
@@ -15,7 +14,7 @@ use Rattle.lent_tables.specs.Words.{field}
 use Rattle.lent_layout.specs.Layout as Layout
 use Rattle.base_tests.proofs.Laws.Bool.{or_first, or_second}
 use Rattle.refuse_class.specs.Class.{lower}
-use Rattle.refuse_words.specs.Classes.{earns, limit_of, used_if, any, record_class}
+use Rattle.refuse_words.specs.Classes.{earns, used_if, any, record_class}
 use Rattle.refuse_instruction.proofs.Laws.Use.{only}
 use Rattle.refuse_tables.specs.TableClasses.{key_uses, key_head_limit, key_limit, part_lacks, key_lacks, key_class, no_key_class}
 use Rattle.refuse_tables.proofs.Laws.KeyUse.{only_kind, only_function}
@@ -24,58 +23,58 @@ use Rattle.refuse_tables.proofs.Laws.KeyUse.{only_kind, only_function}
 
 module _ (identifiers functions code w : ℕ) where
   -- whether there is a key
-  pub head_present : w ≡ 0 → some 2 ≡ key_head_limit identifiers functions code w
+  pub head_present : w ≡ 0 → Some 2 ≡ key_head_limit identifiers functions code w
   unfolding key_head_limit
   head_present e = sym (ap (key_head_limit identifiers functions code) e)
 
   -- the code
-  pub head_code : w ≡ 1 → some 20 ≡ key_head_limit identifiers functions code w
+  pub head_code : w ≡ 1 → Some 20 ≡ key_head_limit identifiers functions code w
   unfolding key_head_limit
   head_code e = sym (ap (key_head_limit identifiers functions code) e)
 
   module _ (u : ℕ) (o : Option ℕ) where
     -- whether there is a source
     -- 0 or 1, where the code has one
-    pub head_source_flag : w ≡ 2 → u ≡ key_uses code 0 → o ≡ used_if u (some 2) → o ≡ key_head_limit identifiers functions code w
+    pub head_source_flag : w ≡ 2 → u ≡ key_uses code 0 → o ≡ used_if u (Some 2) → o ≡ key_head_limit identifiers functions code w
     unfolding key_head_limit
-    head_source_flag e h q = q ∙ ap (λ (a : ℕ). used_if a (some 2)) (h) ∙ sym (ap (key_head_limit identifiers functions code) e)
+    head_source_flag e h q = q ∙ ap (λ (a : ℕ). used_if a (Some 2)) (h) ∙ sym (ap (key_head_limit identifiers functions code) e)
 
     -- the source
-    pub head_source : w ≡ 3 → u ≡ key_uses code 0 → o ≡ used_if u (limit_of (identifiers + 1)) → o ≡ key_head_limit identifiers functions code w
+    pub head_source : w ≡ 3 → u ≡ key_uses code 0 → o ≡ used_if u (Some identifiers) → o ≡ key_head_limit identifiers functions code w
     unfolding key_head_limit
-    head_source e h q = q ∙ ap₂ (λ (a b : ℕ). used_if a (limit_of b)) (h) (add-one identifiers) ∙ sym (ap (key_head_limit identifiers functions code) e)
+    head_source e h q = q ∙ ap (λ (a : ℕ). used_if a (Some identifiers)) (h) ∙ sym (ap (key_head_limit identifiers functions code) e)
 
     -- whether there is a destination
     -- 0 or 1, where the code has one
-    pub head_destination_flag : w ≡ 4 → u ≡ key_uses code 1 → o ≡ used_if u (some 2) → o ≡ key_head_limit identifiers functions code w
+    pub head_destination_flag : w ≡ 4 → u ≡ key_uses code 1 → o ≡ used_if u (Some 2) → o ≡ key_head_limit identifiers functions code w
     unfolding key_head_limit
-    head_destination_flag e h q = q ∙ ap (λ (a : ℕ). used_if a (some 2)) (h) ∙ sym (ap (key_head_limit identifiers functions code) e)
+    head_destination_flag e h q = q ∙ ap (λ (a : ℕ). used_if a (Some 2)) (h) ∙ sym (ap (key_head_limit identifiers functions code) e)
 
     -- the destination
-    pub head_destination : w ≡ 5 → u ≡ key_uses code 1 → o ≡ used_if u (limit_of (identifiers + 1)) → o ≡ key_head_limit identifiers functions code w
+    pub head_destination : w ≡ 5 → u ≡ key_uses code 1 → o ≡ used_if u (Some identifiers) → o ≡ key_head_limit identifiers functions code w
     unfolding key_head_limit
-    head_destination e h q = q ∙ ap₂ (λ (a b : ℕ). used_if a (limit_of b)) (h) (add-one identifiers) ∙ sym (ap (key_head_limit identifiers functions code) e)
+    head_destination e h q = q ∙ ap (λ (a : ℕ). used_if a (Some identifiers)) (h) ∙ sym (ap (key_head_limit identifiers functions code) e)
 
     -- the kind
-    pub head_kind : w ≡ 6 → u ≡ only 9 code → o ≡ used_if u (some 6) → o ≡ key_head_limit identifiers functions code w
+    pub head_kind : w ≡ 6 → u ≡ only 9 code → o ≡ used_if u (Some 6) → o ≡ key_head_limit identifiers functions code w
     unfolding key_head_limit
-    head_kind e h q = q ∙ ap (λ (a : ℕ). used_if a (some 6)) (h ∙ only_kind code) ∙ sym (ap (key_head_limit identifiers functions code) e)
+    head_kind e h q = q ∙ ap (λ (a : ℕ). used_if a (Some 6)) (h ∙ only_kind code) ∙ sym (ap (key_head_limit identifiers functions code) e)
 
     -- the reason
-    pub head_reason : w ≡ 7 → u ≡ only 9 code → o ≡ used_if u (some 12) → o ≡ key_head_limit identifiers functions code w
+    pub head_reason : w ≡ 7 → u ≡ only 9 code → o ≡ used_if u (Some 12) → o ≡ key_head_limit identifiers functions code w
     unfolding key_head_limit
-    head_reason e h q = q ∙ ap (λ (a : ℕ). used_if a (some 12)) (h ∙ only_kind code) ∙ sym (ap (key_head_limit identifiers functions code) e)
+    head_reason e h q = q ∙ ap (λ (a : ℕ). used_if a (Some 12)) (h ∙ only_kind code) ∙ sym (ap (key_head_limit identifiers functions code) e)
 
     -- whether there is a function
     -- 0 or 1, where the code has one
-    pub head_function_flag : w ≡ 8 → u ≡ only 13 code → o ≡ used_if u (some 2) → o ≡ key_head_limit identifiers functions code w
+    pub head_function_flag : w ≡ 8 → u ≡ only 13 code → o ≡ used_if u (Some 2) → o ≡ key_head_limit identifiers functions code w
     unfolding key_head_limit
-    head_function_flag e h q = q ∙ ap (λ (a : ℕ). used_if a (some 2)) (h ∙ only_function code) ∙ sym (ap (key_head_limit identifiers functions code) e)
+    head_function_flag e h q = q ∙ ap (λ (a : ℕ). used_if a (Some 2)) (h ∙ only_function code) ∙ sym (ap (key_head_limit identifiers functions code) e)
 
     -- the function
-    pub head_function : w ≡ 9 → u ≡ only 13 code → o ≡ used_if u (limit_of (functions + 1)) → o ≡ key_head_limit identifiers functions code w
+    pub head_function : w ≡ 9 → u ≡ only 13 code → o ≡ used_if u (Some functions) → o ≡ key_head_limit identifiers functions code w
     unfolding key_head_limit
-    head_function e h q = q ∙ ap₂ (λ (a b : ℕ). used_if a (limit_of b)) (h ∙ only_function code) (add-one functions) ∙ sym (ap (key_head_limit identifiers functions code) e)
+    head_function e h q = q ∙ ap (λ (a : ℕ). used_if a (Some functions)) (h ∙ only_function code) ∙ sym (ap (key_head_limit identifiers functions code) e)
 
     -- the count of captures
     pub head_count : w ≡ 11 → u ≡ only 13 code → o ≡ used_if u any → o ≡ key_head_limit identifiers functions code w
@@ -96,39 +95,39 @@ module _ (identifiers functions code w : ℕ) where
   from_twelve l a b c d = omega arith
 
   -- the identity, and what stands past the twelve
-  pub head_none : (w ≡ 0 → ⊥) → (w ≡ 1 → ⊥) → (w ≡ 2 → ⊥) → (w ≡ 3 → ⊥) → (w ≡ 4 → ⊥) → (w ≡ 5 → ⊥) → (w ≡ 6 → ⊥) → (w ≡ 7 → ⊥) → (w ≡ 8 → ⊥) → (w ≡ 9 → ⊥) → (w ≡ 11 → ⊥) → none ≡ key_head_limit identifiers functions code w
+  pub head_none : (w ≡ 0 → ⊥) → (w ≡ 1 → ⊥) → (w ≡ 2 → ⊥) → (w ≡ 3 → ⊥) → (w ≡ 4 → ⊥) → (w ≡ 5 → ⊥) → (w ≡ 6 → ⊥) → (w ≡ 7 → ⊥) → (w ≡ 8 → ⊥) → (w ≡ 9 → ⊥) → (w ≡ 11 → ⊥) → None ≡ key_head_limit identifiers functions code w
   unfolding key_head_limit
   head_none a0 a1 a2 a3 a4 a5 a6 a7 a8 a9 a11 =
       ⊎_elim
       (λ e. sym (ap (key_head_limit identifiers functions code) e))
       (λ n. sym (get_or-eq_default
-      (some 2 ∷ some 20 ∷ used_if (key_uses code 0) (some 2) ∷ used_if (key_uses code 0) (some identifiers) ∷ used_if (key_uses code 1) (some 2) ∷ used_if (key_uses code 1) (some identifiers)
-      ∷ used_if (key_uses code 2) (some 6) ∷ used_if (key_uses code 2) (some reason_count) ∷ used_if (key_uses code 3) (some 2) ∷ used_if (key_uses code 3) (some functions) ∷ none ∷ used_if (key_uses code 3) any ∷ [])
-      none (from_twelve (from_eight (from_four a0 a1 a2 a3) a4 a5 a6 a7) a8 a9 a11 n)))
+      (Some 2 ∷ Some 20 ∷ used_if (key_uses code 0) (Some 2) ∷ used_if (key_uses code 0) (Some identifiers) ∷ used_if (key_uses code 1) (Some 2) ∷ used_if (key_uses code 1) (Some identifiers)
+      ∷ used_if (key_uses code 2) (Some 6) ∷ used_if (key_uses code 2) (Some reason_count) ∷ used_if (key_uses code 3) (Some 2) ∷ used_if (key_uses code 3) (Some functions) ∷ None ∷ used_if (key_uses code 3) any ∷ [])
+      None (from_twelve (from_eight (from_four a0 a1 a2 a3) a4 a5 a6 a7) a8 a9 a11 n)))
       (same_or_not w 10)
 
 module _ (identifiers functions code n w : ℕ) where
   -- a word before the captures
   pub limit_head : (o : Option ℕ) → w < 12 → o ≡ key_head_limit identifiers functions code w → o ≡ key_limit identifiers functions code n w
   unfolding key_limit
-  limit_head o l h = h ∙ sym (ite_lt w 12 (key_head_limit identifiers functions code w) (ite (ltb (w - 12) n) (used_if (key_uses code 3) (some identifiers)) none) l)
+  limit_head o l h = h ∙ sym (ite_lt w 12 (key_head_limit identifiers functions code w) (ite (ltb (w - 12) n) (used_if (key_uses code 3) (Some identifiers)) None) l)
 
   -- a capture
-  pub limit_capture : (m u : ℕ) (o : Option ℕ) → 12 ≤ w → m ≡ n → w - 12 < m → u ≡ only 13 code → o ≡ used_if u (limit_of (identifiers + 1)) → o ≡ key_limit identifiers functions code n w
+  pub limit_capture : (m u : ℕ) (o : Option ℕ) → 12 ≤ w → m ≡ n → w - 12 < m → u ≡ only 13 code → o ≡ used_if u (Some identifiers) → o ≡ key_limit identifiers functions code n w
   unfolding key_limit
   limit_capture m u o l e k h q =
       let g : w - 12 < n = omega arith in
-      q ∙ ap₂ (λ (a b : ℕ). used_if a (limit_of b)) (h ∙ only_function code) (add-one identifiers)
-      ∙ sym (ite_ge w 12 (key_head_limit identifiers functions code w) (ite (ltb (w - 12) n) (used_if (key_uses code 3) (some identifiers)) none) l
-      ∙ ite_lt (w - 12) n (used_if (key_uses code 3) (some identifiers)) none g)
+      q ∙ ap (λ (a : ℕ). used_if a (Some identifiers)) (h ∙ only_function code)
+      ∙ sym (ite_ge w 12 (key_head_limit identifiers functions code w) (ite (ltb (w - 12) n) (used_if (key_uses code 3) (Some identifiers)) None) l
+      ∙ ite_lt (w - 12) n (used_if (key_uses code 3) (Some identifiers)) None g)
 
   -- past the captures
-  pub limit_past : (m : ℕ) → 12 ≤ w → m ≡ n → m ≤ w - 12 → none ≡ key_limit identifiers functions code n w
+  pub limit_past : (m : ℕ) → 12 ≤ w → m ≡ n → m ≤ w - 12 → None ≡ key_limit identifiers functions code n w
   unfolding key_limit
   limit_past m l e k =
       let g : n ≤ w - 12 = omega arith in
-      sym (ite_ge w 12 (key_head_limit identifiers functions code w) (ite (ltb (w - 12) n) (used_if (key_uses code 3) (some identifiers)) none) l
-      ∙ ite_ge (w - 12) n (used_if (key_uses code 3) (some identifiers)) none g)
+      sym (ite_ge w 12 (key_head_limit identifiers functions code w) (ite (ltb (w - 12) n) (used_if (key_uses code 3) (Some identifiers)) None) l
+      ∙ ite_ge (w - 12) n (used_if (key_uses code 3) (Some identifiers)) None g)
 
 -- ---- what a key lacks
 
@@ -187,6 +186,6 @@ key_is identifiers functions c v code source destination function n ws ls r k hc
     (hl ∙ ap (earns 3) (hk ∙ ap₂ (λ (x y : ℕ). key_lacks x y destination function) hc hs ∙ ap₂ (key_lacks (field Layout.cached c v 1) (field Layout.cached c v 2)) hd hf))
 
 -- the class of a number without a key is that of its record
-pub no_key_is : (c : List ℕ) (v r : ℕ) → r ≡ record_class Layout.cached c (λ w. none) v → r ≡ no_key_class c v
+pub no_key_is : (c : List ℕ) (v r : ℕ) → r ≡ record_class Layout.cached c (λ w. None) v → r ≡ no_key_class c v
 unfolding no_key_class
 no_key_is c v r h = h

@@ -1,5 +1,5 @@
 -- What a cached key of each code uses: the ways through the code's tests. Assumes nothing.
-use Rattle.std.specs.Prelude.{ℕ, ◌≡◌, refl, ◌||◌, ◌⊎◌}
+use Rattle.std.specs.Prelude.{ℕ, ◌≡◌, refl, ◌||◌}
 use Rattle.std.proofs.Math.Path.{sym}
 use Rattle.std.proofs.Common.{ap, ◌∙◌, ⊎_elim, arith, ne_eqb}
 use mathlib.Core.List.{List, [], ◌∷◌}
@@ -88,3 +88,11 @@ only_function code =
     (λ b. ite_ne code 13 1 0 b
     ∙ ⊎_elim (key_from code 3) (λ c. ⊎_elim (key_assign code 3) (λ d. ⊎_elim (key_assign_primitive code 3) (λ e. ⊎_elim (key_create code 3) (λ a. key_other code 3 a b c d e) (same_or_not code 9)) (same_or_not code 19)) (same_or_not code 18)) (same_or_not code 10))
     (same_or_not code 13)
+
+-- a CreateFunction has a function
+pub key_has_function : (code : ℕ) → code ≡ 13 → key_uses code 3 ≡ 1
+key_has_function code e = sym (only_function code) ∙ ite_eq code 13 1 0 e
+
+-- no other key has one
+pub key_no_function : (code : ℕ) → (code ≡ 13 → ⊥) → key_uses code 3 ≡ 0
+key_no_function code n = sym (only_function code) ∙ ite_ne code 13 1 0 n

@@ -1,10 +1,9 @@
 -- Laws by which the code of identifiers, functions, links and diagnostics meets the definitions: a law for each way through a function. Assumes nothing.
-use Rattle.std.specs.Prelude.{ℕ, ◌+◌, ◌-◌, ◌/◌, ◌%◌, ◌≤◌, ◌<◌, ◌≡◌, Bool, ◌&&◌, ◌||◌, ◌⊎◌, List, [], ◌∷◌, eqb, ltb, get_or}
-use Rattle.std.proofs.Math.Path.{sym, ap}
-use Rattle.std.proofs.Common.{ap₂, ◌∙◌, add-one}
+use Rattle.std.specs.Prelude.{ℕ, zero, suc, ◌-◌, ◌/◌, ◌%◌, ◌≤◌, ◌<◌, ◌≡◌, Bool, ◌&&◌, ◌||◌, List, [], ◌∷◌, eqb, ltb, get_or, Option, None, Some}
+use Rattle.std.proofs.Math.Path.{refl, sym, ap}
+use Rattle.std.proofs.Common.{ap₂, ◌∙◌}
 use Rattle.std.proofs.Math.Bool.{true, false, not}
 use Rattle.std.proofs.Math.Logic.{⊎_elim}
-use Rattle.std.proofs.Math.Option.{Option, none, some}
 use native.Mathlib.Omega.{arith}
 use Rattle.std.proofs.Math.ListN.{get_or-eq_default}
 use borrow.Author.Tests.{lt-ltb, le-ltb, eq-eqb, ne_eqb}
@@ -17,20 +16,32 @@ use Rattle.lent_tables.specs.Words.{field}
 use Rattle.lent_layout.specs.Layout as Layout
 use Rattle.lent_context.specs.Lent.{flag_one, flag_two}
 use Rattle.refuse_class.specs.Class.{lower}
-use Rattle.refuse_words.specs.Classes.{earns, limit_of, used_if, any, run_limit, record_class}
+use Rattle.refuse_words.specs.Classes.{earns, used_if, any, run_limit, record_class}
 use Rattle.refuse_tables.specs.TableClasses.{identifier_limit, identifier_class, function_limit, needs_known, places_class, function_class, link_limit, link_class, diagnostic_limit, label_class, message_class}
+
+-- ---- limits
+
+-- a use, as the code tests it
+pub used_flag : (flag : ℕ) (l : Option ℕ) → used_if (ite (not (eqb flag 0)) 1 0) l ≡ used_if flag l
+used_flag zero l = refl
+used_flag (suc n) l = ap (λ (b : Bool). used_if (ite (not b) 1 0) l) (ne_eqb (suc n) 0 (λ e. omega arith))
+
+-- a limit where a test holds
+pub used_test : (b : Bool) (l : Option ℕ) → used_if (ite b 1 0) l ≡ ite b l None
+used_test true l = refl
+used_test false l = refl
 
 -- ---- identifiers
 
 module _ (flags w : ℕ) where
   -- the flags
-  pub identifier_flags_is : w ≡ 0 → some 4 ≡ identifier_limit flags w
+  pub identifier_flags_is : w ≡ 0 → Some 4 ≡ identifier_limit flags w
   unfolding identifier_limit
   identifier_flags_is e = sym (ap (identifier_limit flags) e)
 
   -- the name
   -- 512, or 0
-  pub identifier_name_is : w ≡ 1 → some 513 ≡ identifier_limit flags w
+  pub identifier_name_is : w ≡ 1 → Some 513 ≡ identifier_limit flags w
   unfolding identifier_limit
   identifier_name_is e = sym (ap (identifier_limit flags) e)
 
@@ -45,9 +56,9 @@ module _ (flags w : ℕ) where
       (same_or_not w 2)
 
   -- an identifier has four words
-  pub identifier_past : 4 ≤ w → none ≡ identifier_limit flags w
+  pub identifier_past : 4 ≤ w → None ≡ identifier_limit flags w
   unfolding identifier_limit
-  identifier_past l = sym (get_or-eq_default (some 4 ∷ some 513 ∷ used_if (flags / 2 % 2) any ∷ used_if (flags / 2 % 2) any ∷ []) none l)
+  identifier_past l = sym (get_or-eq_default (Some 4 ∷ Some 513 ∷ used_if (flags / 2 % 2) any ∷ used_if (flags / 2 % 2) any ∷ []) None l)
 
 -- the class of an identifier is that of its record
 pub identifier_is : (c : List ℕ) (i flags r : ℕ) → flags ≡ field Layout.identifiers c i 0 → r ≡ record_class Layout.identifiers c (identifier_limit flags) i → r ≡ identifier_class c i
@@ -60,10 +71,10 @@ module _ (identifiers inside w : ℕ) where
   -- a word of the places mutated inside
   pub function_place : (o : Option ℕ) → 3 ≤ w → o ≡ run_limit identifiers inside (w - 3) → o ≡ function_limit identifiers inside w
   unfolding function_limit
-  function_place o l h = h ∙ sym (ite_ge w 3 (get_or (some 4 ∷ any ∷ any ∷ []) w none) (run_limit identifiers inside (w - 3)) l)
+  function_place o l h = h ∙ sym (ite_ge w 3 (get_or (Some 4 ∷ any ∷ any ∷ []) w None) (run_limit identifiers inside (w - 3)) l)
 
   -- the flags
-  pub function_flags_is : w ≡ 0 → some 4 ≡ function_limit identifiers inside w
+  pub function_flags_is : w ≡ 0 → Some 4 ≡ function_limit identifiers inside w
   unfolding function_limit
   function_flags_is e = sym (ap (function_limit identifiers inside) e)
 
@@ -128,29 +139,29 @@ function_is identifiers c f flags n inside ws ps ks cs a b r k hf hn hi hw hp hk
 
 module _ (functions v flag w : ℕ) where
   -- value number 0
-  pub link_zero : v ≡ 0 → none ≡ link_limit functions v flag w
+  pub link_zero : v ≡ 0 → None ≡ link_limit functions v flag w
   unfolding link_limit
-  link_zero e = sym (ite_eq v 0 none (get_or (some 2 ∷ used_if flag (some functions) ∷ []) w none) e)
+  link_zero e = sym (ite_eq v 0 None (get_or (Some 2 ∷ used_if flag (Some functions) ∷ []) w None) e)
 
   module _ (n : v ≡ 0 → ⊥) where
     -- the link of another number
-    linked : get_or (some 2 ∷ used_if flag (some functions) ∷ []) w none ≡ link_limit functions v flag w
+    linked : get_or (Some 2 ∷ used_if flag (Some functions) ∷ []) w None ≡ link_limit functions v flag w
     unfolding link_limit
-    linked = sym (ite_ne v 0 none (get_or (some 2 ∷ used_if flag (some functions) ∷ []) w none) n)
+    linked = sym (ite_ne v 0 None (get_or (Some 2 ∷ used_if flag (Some functions) ∷ []) w None) n)
 
     -- whether there is one
     -- 0 or 1
-    pub link_flag : w ≡ 0 → some 2 ≡ link_limit functions v flag w
-    link_flag e = sym (ap (λ (x : ℕ). get_or (some 2 ∷ used_if flag (some functions) ∷ []) x none) e) ∙ linked
+    pub link_flag : w ≡ 0 → Some 2 ≡ link_limit functions v flag w
+    link_flag e = sym (ap (λ (x : ℕ). get_or (Some 2 ∷ used_if flag (Some functions) ∷ []) x None) e) ∙ linked
 
     -- its function
-    pub link_function : (o : Option ℕ) → w ≡ 1 → o ≡ used_if flag (limit_of (functions + 1)) → o ≡ link_limit functions v flag w
+    pub link_function : (o : Option ℕ) → w ≡ 1 → o ≡ used_if flag (Some functions) → o ≡ link_limit functions v flag w
     link_function o e h =
-        h ∙ ap (λ (x : ℕ). used_if flag (limit_of x)) (add-one functions) ∙ sym (ap (λ (x : ℕ). get_or (some 2 ∷ used_if flag (some functions) ∷ []) x none) e) ∙ linked
+        h ∙ sym (ap (λ (x : ℕ). get_or (Some 2 ∷ used_if flag (Some functions) ∷ []) x None) e) ∙ linked
 
     -- a link has two words
-    pub link_past : (w ≡ 0 → ⊥) → (w ≡ 1 → ⊥) → none ≡ link_limit functions v flag w
-    link_past a b = sym (get_or-eq_default (some 2 ∷ used_if flag (some functions) ∷ []) none {n = w} (omega arith)) ∙ linked
+    pub link_past : (w ≡ 0 → ⊥) → (w ≡ 1 → ⊥) → None ≡ link_limit functions v flag w
+    link_past a b = sym (get_or-eq_default (Some 2 ∷ used_if flag (Some functions) ∷ []) None {n = w} (omega arith)) ∙ linked
 
 -- the class of a link is that of its record
 pub link_is : (functions : ℕ) (c : List ℕ) (v flag r : ℕ) → flag ≡ field Layout.links c v 0 → r ≡ record_class Layout.links c (link_limit functions v flag) v → r ≡ link_class functions c v
@@ -161,35 +172,35 @@ link_is functions c v flag r h g = g ∙ ap (λ (x : ℕ). record_class Layout.l
 
 module _ (identifiers case w : ℕ) where
   -- the identity
-  pub diagnostic_identity : w ≡ 0 → some 256 ≡ diagnostic_limit identifiers case w
+  pub diagnostic_identity : w ≡ 0 → Some 256 ≡ diagnostic_limit identifiers case w
   unfolding diagnostic_limit
   diagnostic_identity e = sym (ap (diagnostic_limit identifiers case) e)
 
   -- the identifier
-  pub diagnostic_identifier : w ≡ 1 → limit_of (identifiers + 1) ≡ diagnostic_limit identifiers case w
+  pub diagnostic_identifier : w ≡ 1 → Some identifiers ≡ diagnostic_limit identifiers case w
   unfolding diagnostic_limit
-  diagnostic_identifier e = ap limit_of (add-one identifiers) ∙ sym (ap (diagnostic_limit identifiers case) e)
+  diagnostic_identifier e = sym (ap (diagnostic_limit identifiers case) e)
 
   -- the case
   -- 0 or 1
-  pub diagnostic_case : w ≡ 2 → some 2 ≡ diagnostic_limit identifiers case w
+  pub diagnostic_case : w ≡ 2 → Some 2 ≡ diagnostic_limit identifiers case w
   unfolding diagnostic_limit
   diagnostic_case e = sym (ap (diagnostic_limit identifiers case) e)
 
   -- the sentence of case 0
   -- one of eleven
-  pub diagnostic_sentence : w ≡ 3 → case ≡ 0 → some 11 ≡ diagnostic_limit identifiers case w
+  pub diagnostic_sentence : w ≡ 3 → case ≡ 0 → Some 11 ≡ diagnostic_limit identifiers case w
   unfolding diagnostic_limit
-  diagnostic_sentence e z = sym (ap (diagnostic_limit identifiers case) e ∙ ite_eq case 0 (some 11) none z)
+  diagnostic_sentence e z = sym (ap (diagnostic_limit identifiers case) e ∙ ite_eq case 0 (Some 11) None z)
 
   -- the sentence of case 1
-  pub diagnostic_silent : w ≡ 3 → (case ≡ 0 → ⊥) → none ≡ diagnostic_limit identifiers case w
+  pub diagnostic_silent : w ≡ 3 → (case ≡ 0 → ⊥) → None ≡ diagnostic_limit identifiers case w
   unfolding diagnostic_limit
-  diagnostic_silent e z = sym (ap (diagnostic_limit identifiers case) e ∙ ite_ne case 0 (some 11) none z)
+  diagnostic_silent e z = sym (ap (diagnostic_limit identifiers case) e ∙ ite_ne case 0 (Some 11) None z)
 
   -- the name
   -- 512, or 0
-  pub diagnostic_name : w ≡ 4 → some 513 ≡ diagnostic_limit identifiers case w
+  pub diagnostic_name : w ≡ 4 → Some 513 ≡ diagnostic_limit identifiers case w
   unfolding diagnostic_limit
   diagnostic_name e = sym (ap (diagnostic_limit identifiers case) e)
 
@@ -206,9 +217,9 @@ module _ (identifiers case w : ℕ) where
       (same_or_not w 5)
 
   -- a diagnostic has nine words
-  pub diagnostic_past : 9 ≤ w → none ≡ diagnostic_limit identifiers case w
+  pub diagnostic_past : 9 ≤ w → None ≡ diagnostic_limit identifiers case w
   unfolding diagnostic_limit
-  diagnostic_past l = sym (get_or-eq_default (some 256 ∷ some identifiers ∷ some 2 ∷ ite (eqb case 0) (some 11) none ∷ some 513 ∷ any ∷ any ∷ any ∷ any ∷ []) none l)
+  diagnostic_past l = sym (get_or-eq_default (Some 256 ∷ Some identifiers ∷ Some 2 ∷ ite (eqb case 0) (Some 11) None ∷ Some 513 ∷ any ∷ any ∷ any ∷ any ∷ []) None l)
 
 -- a number that is none of the first five
 pub from_five : (w : ℕ) → (w ≡ 0 → ⊥) → (w ≡ 1 → ⊥) → (w ≡ 2 → ⊥) → (w ≡ 3 → ⊥) → (w ≡ 4 → ⊥) → 5 ≤ w

@@ -1,14 +1,9 @@
-use Rattle.refuse_tables.proofs.Laws.Table.{label_case, label_start, label_end, label_none}
+use Rattle.std.proofs.Common.{arith}
+use Rattle.std.proofs.lemmas.Grind.{common_steps}
+use Rattle.def_effects.specs.Places.{eq_span}
+use Rattle.refuse_tables.specs.TableClasses.{label_class}
 use Rattle.refuse_tables.proofs.label_class.Goals as goal
 
-pub returns-then-case-ne0 : goal.returns-then-case-ne0
-returns-then-case-ne0 c = label_case _ _ _ c.if-case-ne0.true
-
-pub returns-then-start-ne4294967295 : goal.returns-then-start-ne4294967295
-returns-then-start-ne4294967295 c = label_start _ _ _ c.if-case-ne0.false c.if-start-ne4294967295.true
-
-pub returns-then-end-ne4294967295 : goal.returns-then-end-ne4294967295
-returns-then-end-ne4294967295 c = label_end _ _ _ c.if-case-ne0.false c.if-end-ne4294967295.true
-
 pub returns : goal.returns
-returns c = label_none _ _ _ c.if-case-ne0.false c.if-start-ne4294967295.false c.if-end-ne4294967295.false
+unfolding label_class eq_span
+returns c = grind (arith, common_steps)

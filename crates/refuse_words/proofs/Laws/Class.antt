@@ -1,10 +1,9 @@
 -- Laws of classes: the ways through the code of a word, a limit and stray words, and how a loop comes to the lowest class. Assumes nothing.
 use Prim.Native.Nat.{ℕ, zero, suc, ◌+◌, ◌-◌, ◌/◌, ◌%◌, ◌≤◌, ◌<◌}
-use Rattle.std.specs.Prelude.{◌≡◌, refl, Bool, true, false, not, ◌⊎◌, List, [], ◌∷◌, ltb}
+use Rattle.std.specs.Prelude.{◌≡◌, refl, Bool, true, false, not, List, [], ◌∷◌, Option, None, Some}
 use Rattle.std.proofs.Math.Path.{sym, ap, ap₂}
 use Rattle.std.proofs.Common.{◌∙◌, eq-or-lt_of_le, add-one, lt-ltb, le-ltb, ne_eqb}
 use Rattle.std.proofs.Math.Logic.{⊎_elim}
-use Rattle.std.proofs.Math.Option.{Option, none, some}
 use native.Mathlib.Omega.{arith}
 use Rattle.std.proofs.Math.ListN.{get_or-eq_default}
 use Rattle.base_tests.proofs.Laws.Order.{same_or_not}
@@ -13,39 +12,32 @@ use Rattle.lent_tables.specs.declared.Table.{Table}
 use Rattle.lent_tables.specs.Words.{field}
 use Rattle.refuse_class.specs.Class.{lower}
 use Rattle.refuse_class.proofs.Laws.Class.{lower_0}
-use Rattle.refuse_words.specs.Classes.{lowest_below, earns, word_class, limit_of, used_if, any, place_limit, run_limit, words_below, record_class}
+use Rattle.refuse_words.specs.Classes.{lowest_below, earns, word_class, used_if, any, place_limit, run_limit, words_below, record_class}
 
 -- ---- a word and its limit
 
-module _ (l x : ℕ) where
+module _ (x : ℕ) where
   -- an unused word that is zero
-  pub word_zero : l ≡ 0 → x ≡ 0 → 0 ≡ word_class (limit_of l) x
+  pub word_zero : x ≡ 0 → 0 ≡ word_class None x
   unfolding word_class
-  word_zero e z = sym (ap₂ (λ (a b : ℕ). word_class (limit_of a) b) e z)
+  word_zero z = sym (ap (word_class None) z)
 
   -- an unused word that is not
-  pub word_stray : l ≡ 0 → (x ≡ 0 → ⊥) → 4 ≡ word_class (limit_of l) x
+  pub word_stray : (x ≡ 0 → ⊥) → 4 ≡ word_class None x
   unfolding word_class
-  word_stray e n = sym (ap (λ (a : ℕ). word_class (limit_of a) x) e ∙ ap (λ (b : Bool). earns 4 (not b)) (ne_eqb x 0 n))
-
-  -- a limit that is not 0
-  -- one more than the number that the word has to lie below
-  limited : (l ≡ 0 → ⊥) → word_class (limit_of l) x ≡ earns 3 (not (ltb x (l - 1)))
-  unfolding word_class
-  limited n =
-      let e : l ≡ suc (l - 1) = omega arith in
-      ap (λ (a : ℕ). word_class (limit_of a) x) e
+  word_stray n = sym (ap (λ (b : Bool). earns 4 (not b)) (ne_eqb x 0 n))
 
   -- a word below its limit
-  pub word_below : (l ≡ 0 → ⊥) → x < l - 1 → 0 ≡ word_class (limit_of l) x
-  word_below n h = sym (limited n ∙ ap (λ (b : Bool). earns 3 (not b)) (lt-ltb x (l - 1) h))
+  pub word_below : (l : ℕ) → x < l → 0 ≡ word_class (Some l) x
+  unfolding word_class
+  word_below l h = sym (ap (λ (b : Bool). earns 3 (not b)) (lt-ltb x l h))
 
   -- a word past its limit
-  pub word_past : (l ≡ 0 → ⊥) → l - 1 ≤ x → 3 ≡ word_class (limit_of l) x
-  word_past n h = sym (limited n ∙ ap (λ (b : Bool). earns 3 (not b)) (le-ltb x (l - 1) h))
+  pub word_past : (l : ℕ) → l ≤ x → 3 ≡ word_class (Some l) x
+  unfolding word_class
+  word_past l h = sym (ap (λ (b : Bool). earns 3 (not b)) (le-ltb x l h))
 
 -- a use that is not 0 leaves the limit
--- the code's second way
 pub used_yes : (u : ℕ) (o : Option ℕ) → (u ≡ 0 → ⊥) → o ≡ used_if u o
 used_yes u o n =
     let e : u ≡ suc (u - 1) = omega arith in
@@ -55,18 +47,18 @@ used_yes u o n =
 
 module _ (n w : ℕ) where
   -- the identifier
-  pub place_identifier_is : w ≡ 0 → limit_of (n + 1) ≡ place_limit n w
+  pub place_identifier_is : w ≡ 0 → Some n ≡ place_limit n w
   unfolding place_limit
-  place_identifier_is e = ap limit_of (add-one n) ∙ sym (ap (place_limit n) e)
+  place_identifier_is e = sym (ap (place_limit n) e)
 
   -- the effect
-  pub place_effect_is : w ≡ 1 → some 8 ≡ place_limit n w
+  pub place_effect_is : w ≡ 1 → Some 8 ≡ place_limit n w
   unfolding place_limit
   place_effect_is e = sym (ap (place_limit n) e)
 
   -- reactive
   -- 0 or 1
-  pub place_reactive_is : w ≡ 2 → some 2 ≡ place_limit n w
+  pub place_reactive_is : w ≡ 2 → Some 2 ≡ place_limit n w
   unfolding place_limit
   place_reactive_is e = sym (ap (place_limit n) e)
 
@@ -80,23 +72,23 @@ module _ (n w : ℕ) where
       (same_or_not w 3)
 
   -- a place has five words
-  pub place_past : 5 ≤ w → none ≡ place_limit n w
+  pub place_past : 5 ≤ w → None ≡ place_limit n w
   unfolding place_limit
-  place_past l = sym (get_or-eq_default (some n ∷ some 8 ∷ some 2 ∷ any ∷ any ∷ []) none l)
+  place_past l = sym (get_or-eq_default (Some n ∷ Some 8 ∷ Some 2 ∷ any ∷ any ∷ []) None l)
 
 -- a word of a place that is used
 pub run_used : (i n w m : ℕ) (o : Option ℕ) → m ≡ n → w / 5 < m → o ≡ place_limit i (w % 5) → o ≡ run_limit i n w
 unfolding run_limit
 run_used i n w m o e h q =
     let k : w / 5 < n = omega arith in
-    q ∙ sym (ite_lt (w / 5) n (place_limit i (w % 5)) none k)
+    q ∙ sym (ite_lt (w / 5) n (place_limit i (w % 5)) None k)
 
 -- a word of a place that is not
-pub run_past : (i n w m : ℕ) → m ≡ n → m ≤ w / 5 → none ≡ run_limit i n w
+pub run_past : (i n w m : ℕ) → m ≡ n → m ≤ w / 5 → None ≡ run_limit i n w
 unfolding run_limit
 run_past i n w m e h =
     let k : n ≤ w / 5 = omega arith in
-    sym (ite_ge (w / 5) n (place_limit i (w % 5)) none k)
+    sym (ite_ge (w / 5) n (place_limit i (w % 5)) None k)
 
 -- ---- the lowest class
 

@@ -1,8 +1,7 @@
 -- What the lowest of some classes keeps: no class below 2, none above 4, so that a test may return at its first refusal. Assumes nothing.
 use Prim.Native.Nat.{ℕ, zero, suc, ◌≤◌}
-use Rattle.std.specs.Prelude.{◌≡◌, refl, Bool, true, false, not, ◌⊎◌, List, eqb, ltb}
+use Rattle.std.specs.Prelude.{◌≡◌, refl, Bool, true, false, not, ◌⊎◌, List, eqb, ltb, Option, None, Some}
 use Rattle.std.proofs.Common.{sym, subst, inl, inr, ⊎_elim, arith}
-use Rattle.std.proofs.Math.Option.{Option, none, some}
 use Rattle.base_tests.proofs.Laws.Order.{lt_or_ge, same_or_not}
 use Rattle.lent_tables.specs.declared.Table.{Table}
 use Rattle.lent_tables.specs.Words.{field}
@@ -58,8 +57,8 @@ earns_class n false h k = Class.nothing refl
 -- a word earns nothing, 3 or 4
 pub word_class_is : (o : Option ℕ) (x : ℕ) → Class (word_class o x)
 unfolding word_class
-word_class_is none x = earns_class 4 (not (eqb x 0)) (omega arith) (omega arith)
-word_class_is (some l) x = earns_class 3 (not (ltb x l)) (omega arith) (omega arith)
+word_class_is None x = earns_class 4 (not (eqb x 0)) (omega arith) (omega arith)
+word_class_is (Some l) x = earns_class 3 (not (ltb x l)) (omega arith) (omega arith)
 
 -- a record earns nothing, 3 or 4
 pub record_class_is : (t : Table) (c : List ℕ) (limit : ℕ → Option ℕ) (i : ℕ) → Class (record_class t c limit i)

@@ -1,8 +1,7 @@
 -- Laws by which the loop over words without use meets its definition: they are gathered bit by bit. Assumes nothing.
-use Rattle.std.specs.Prelude.{ℕ, zero, suc, ◌+◌, ◌-◌, ◌*◌, ◌≤◌, ◌<◌, ◌≡◌, Bool, not, ◌⊎◌, List, eqb, ltb, get_or, length}
+use Rattle.std.specs.Prelude.{ℕ, zero, suc, ◌+◌, ◌-◌, ◌*◌, ◌≤◌, ◌<◌, ◌≡◌, Bool, not, List, eqb, ltb, get_or, length, None}
 use Rattle.std.proofs.Math.Path.{refl, sym, ap}
 use Rattle.std.proofs.Common.{ap₂, ◌∙◌, ⊎_elim, le_refl, zero-mul, mul-le-mul, eq-eqb, ne_eqb}
-use Rattle.std.proofs.Math.Option.{none}
 use native.Mathlib.Omega.{arith}
 use Rattle.std.specs.Int.Bits.{bit_or, bit_and, or_add_and, or_zero_l}
 use Rattle.std.proofs.lemmas.Nat.{and_le_l, and_le_r}
@@ -126,13 +125,13 @@ module _ (c : List ℕ) (from n : ℕ) where
   -- no word is gathered yet
   pub stray_start : bit_class 0 ≡ stray_from c from 0
   unfolding stray_from
-  stray_start = lowest_none (λ j. word_class none (get_or c (from + j) 0))
+  stray_start = lowest_none (λ j. word_class None (get_or c (from + j) 0))
 
   -- a word more
   pub stray_more : (k a x : ℕ) → bit_class a ≡ stray_from c from k → x ≡ get_or c (from + k) 0 → bit_class (bit_or a x) ≡ stray_from c from (k + 1)
   unfolding stray_from word_class
   stray_more k a x h e =
-      lowest_more (λ j. word_class none (get_or c (from + j) 0)) k (bit_class a) (bit_class x) (bit_class (bit_or a x)) h (ap bit_class e) (sym (gathered a x))
+      lowest_more (λ j. word_class None (get_or c (from + j) 0)) k (bit_class a) (bit_class x) (bit_class (bit_or a x)) h (ap bit_class e) (sym (gathered a x))
 
   -- all that stand in the list
   -- where the loop ends: the others are zero
@@ -140,9 +139,9 @@ module _ (c : List ℕ) (from n : ℕ) where
   unfolding stray_from
   stray_end m k a e p q h =
       let g : k ≡ lent_from c from n = omega arith in
-      h ∙ ap (λ (x : ℕ). lowest_below x (λ j. word_class none (get_or c (from + j) 0))) g
-      ∙ lowest_rest (λ j. word_class none (get_or c (from + j) 0)) (lent_from c from n) n lent_le
-      (λ j r l. sym (word_zero 0 (get_or c (from + j) 0) refl (get_or-eq_default c 0 (lent_past j l r))))
+      h ∙ ap (λ (x : ℕ). lowest_below x (λ j. word_class None (get_or c (from + j) 0))) g
+      ∙ lowest_rest (λ j. word_class None (get_or c (from + j) 0)) (lent_from c from n) n lent_le
+      (λ j r l. sym (word_zero (get_or c (from + j) 0) (get_or-eq_default c 0 (lent_past j l r))))
 
 -- the number of words that are left fits 64 bits
 pub left_fits : (n m v : ℕ) → m < 4294967296 → v < 4294967296 → (m - n) * v ≤ 18446744065119617025
@@ -159,7 +158,7 @@ unfolding stray_after stray_from
 after_none t c n m e h =
     let z : t.count - n ≡ 0 = omega arith in
     let y : 0 ≡ (t.count - n) * t.width = sym (ap (λ (x : ℕ). x * t.width) z ∙ zero-mul t.width) in
-    lowest_none (λ k. word_class none (get_or c (index t n 0 + k) 0)) ∙ ap (λ (x : ℕ). lowest_below x (λ k. word_class none (get_or c (index t n 0 + k) 0))) y
+    lowest_none (λ k. word_class None (get_or c (index t n 0 + k) 0)) ∙ ap (λ (x : ℕ). lowest_below x (λ k. word_class None (get_or c (index t n 0 + k) 0))) y
 
 -- the words of the records that are left
 pub after_some : (t : Table) (c : List ℕ) (n b w v m r : ℕ) → b ≡ t.base → w ≡ t.width → m ≡ t.count → v ≡ t.width → r ≡ stray_from c (b + n * w) ((m - n) * v) → r ≡ stray_after t c n

@@ -1,6 +1,6 @@
 use mathlib.Core.Path.{◌∙◌, refl}
 use native.Mathlib.Omega.{arith}
-use Rattle.refuse_words.proofs.Laws.Stray.{lent_in, bit_none, bit_some, stray_start, stray_more, stray_end}
+use Rattle.refuse_words.proofs.Laws.Stray.{lent_in, stray_start, stray_more, stray_end}
 use Rattle.refuse_words.proofs.stray_from.Goals as goal
 
 pub loop-k-init : goal.loop-k-init
@@ -15,14 +15,8 @@ offset_bounds-xs-from c = let h = lent_in _ _ _ _ _ c.lent_from-m.ensures c.loop
 pub bounds-xs-from : goal.bounds-xs-from
 bounds-xs-from c = let h = lent_in _ _ _ _ _ c.lent_from-m.ensures c.loop-k-test.true in h.0
 
-pub overflow_add-k : goal.overflow_add-k
-overflow_add-k c = let h = lent_in _ _ _ _ _ c.lent_from-m.ensures c.loop-k-test.true in omega (arith, h.0)
-
 pub loop-k-preserved : goal.loop-k-preserved
 loop-k-preserved c = (omega arith, stray_more _ _ 0 _ c.loop-k.all _ c.loop-k.invariant.1 refl)
 
-pub returns-then-all-eq0 : goal.returns-then-all-eq0
-returns-then-all-eq0 c = bit_none _ c.if-all-eq0.true ∙ stray_end _ _ _ _ _ c.loop-k.all c.lent_from-m.ensures c.loop-k.invariant.0 c.loop-k-test.false c.loop-k.invariant.1
-
 pub returns : goal.returns
-returns c = bit_some _ c.if-all-eq0.false ∙ stray_end _ _ _ _ _ c.loop-k.all c.lent_from-m.ensures c.loop-k.invariant.0 c.loop-k-test.false c.loop-k.invariant.1
+returns c = c.earns.ensures ∙ stray_end _ _ _ _ _ c.loop-k.all c.lent_from-m.ensures c.loop-k.invariant.0 c.loop-k-test.false c.loop-k.invariant.1

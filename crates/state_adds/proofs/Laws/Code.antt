@@ -1,9 +1,8 @@
 -- A law for each way through a function of the crate, over plain variables: the proof files cite them. Assumes nothing.
-use Rattle.std.specs.Prelude.{◌≡◌, refl, Bool, not, ◌||◌, List, eqb, length, get_or, set, replicate}
+use Rattle.std.specs.Prelude.{◌≡◌, refl, Bool, not, ◌||◌, List, eqb, length, get_or, set, replicate, Option, None, Some}
 use Rattle.std.proofs.Math.Path.{sym, ap}
 use Rattle.std.proofs.Common.{ap₂, ◌∙◌, subst, ⊎_elim, mod-eq_of_lt, mod-lt, zero-lt-suc, add-zero, add-suc, not-suc-le-zero, eq-eqb, ne_eqb, ext_get_or}
 use Rattle.std.proofs.Math.Bool.{true, false}
-use Rattle.std.proofs.Math.Option.{Option, none, some}
 use Prim.Native.Nat.{ℕ, zero, suc, ◌+◌, ◌-◌, ◌*◌, ◌/◌, ◌%◌, ◌^◌, ◌≤◌, ◌<◌, min, max}
 use native.Mathlib.Omega.{arith}
 use Rattle.std.proofs.lemmas.List.{length-replicate, get_or-replicate}
@@ -18,9 +17,7 @@ use Rattle.def_kinds.specs.declared.AbstractValue.{AbstractValue}
 use Rattle.def_kinds.specs.Values as Values
 use Rattle.def_transfer.specs.Merge.{Entries, adds_value, adds_set, adds, above, value_above}
 use Rattle.laws_merge.proofs.Laws.Merge.{adds_value_is, adds_not_above}
-use Rattle.lent_values.specs.declared.Entry.{Entry}
-use Rattle.lent_values.specs.declared.Entry.TheVariants.{Absent, Present}
-use Rattle.lent_values.specs.Cells.{option_of, value_at, put_value}
+use Rattle.lent_values.specs.Cells.{value_at, put_value}
 use Rattle.lent_sets.specs.Rows.{bit, upto, row_word, row_number, number, word_of, marked, set_at, put_set, add_set}
 use Rattle.base_tests.proofs.Laws.Order.{same_or_not}
 use Rattle.lent_sets.proofs.Laws.Bit.{bit_word, bit_ext}
@@ -32,24 +29,24 @@ use Rattle.refuse_entries.specs.Words.{entries}
 
 -- ---- adds_value
 
-value_none : (x y : Option AbstractValue) → y ≡ none → false ≡ adds_value x y
+value_none : (x y : Option AbstractValue) → y ≡ None → false ≡ adds_value x y
 unfolding adds_value
-value_none none y e = sym (ap (adds_value none) e)
-value_none (some a) y e = sym (ap (adds_value (some a)) e)
+value_none None y e = sym (ap (adds_value None) e)
+value_none (Some a) y e = sym (ap (adds_value (Some a)) e)
 
 -- an entry that is not there adds nothing
-pub adds_absent : (x y : Option AbstractValue) (e : Entry) → e ≡ Absent → option_of e ≡ y → false ≡ adds_value x y
-adds_absent x y e p q = value_none x y (sym q ∙ ap option_of p)
+pub adds_absent : (x y : Option AbstractValue) (e : Option AbstractValue) → e ≡ None → e ≡ y → false ≡ adds_value x y
+adds_absent x y e p q = value_none x y (sym q ∙ p)
 
 -- one where there was none is new
-pub adds_new : (x y : Option AbstractValue) (d e : Entry) (b : AbstractValue) → e ≡ Present b → option_of e ≡ y → d ≡ Absent → option_of d ≡ x → true ≡ adds_value x y
+pub adds_new : (x y : Option AbstractValue) (d e : Option AbstractValue) (b : AbstractValue) → e ≡ Some b → e ≡ y → d ≡ None → d ≡ x → true ≡ adds_value x y
 unfolding adds_value
-adds_new x y d e b p q r s = sym (ap₂ adds_value (sym s ∙ ap option_of r) (sym q ∙ ap option_of p))
+adds_new x y d e b p q r s = sym (ap₂ adds_value (sym s ∙ r) (sym q ∙ p))
 
 -- two are compared
-pub adds_both : (x y : Option AbstractValue) (d e : Entry) (a b : AbstractValue) (t : Bool) → e ≡ Present b → option_of e ≡ y → d ≡ Present a → option_of d ≡ x → t ≡ Values.above a b → not t ≡ adds_value x y
+pub adds_both : (x y : Option AbstractValue) (d e : Option AbstractValue) (a b : AbstractValue) (t : Bool) → e ≡ Some b → e ≡ y → d ≡ Some a → d ≡ x → t ≡ Values.above a b → not t ≡ adds_value x y
 unfolding value_above
-adds_both x y d e a b t p q r s u = ap not u ∙ sym (ap₂ adds_value (sym s ∙ ap option_of r) (sym q ∙ ap option_of p) ∙ adds_value_is (some a) (some b))
+adds_both x y d e a b t p q r s u = ap not u ∙ sym (ap₂ adds_value (sym s ∙ r) (sym q ∙ p) ∙ adds_value_is (Some a) (Some b))
 
 -- ---- adds_bits
 
@@ -127,10 +124,10 @@ pub set_some : (rs qs : List ℕ) (i : ℕ) (b t : Bool) → b ≡ is_some (set_
 unfolding set_at
 set_some rs qs i b t p q e = e ∙ by_bits (row_number rs i) (row_number qs i) (row_number rs i % 2) (row_number qs i % 2) refl refl (sym p ∙ q)
 
-nothing_new : (x y : Option ℕ) → y ≡ none → false ≡ adds_set x y
+nothing_new : (x y : Option ℕ) → y ≡ None → false ≡ adds_set x y
 unfolding adds_set
-nothing_new none y e = sym (ap (adds_set none) e)
-nothing_new (some m) y e = sym (ap (adds_set (some m)) e)
+nothing_new None y e = sym (ap (adds_set None) e)
+nothing_new (Some m) y e = sym (ap (adds_set (Some m)) e)
 
 -- one that is not adds nothing
 pub set_none : (x y : Option ℕ) (b : Bool) → b ≡ is_some y → b ≡ false → false ≡ adds_set x y
@@ -167,7 +164,7 @@ any_cut f m (suc d) h =
     ∙ any_cut f m d (λ k p q. h k p (omega arith))
 
 -- a row past the end is not defined
-pub row_past : (rs : List ℕ) (i : ℕ) → length rs ≤ i * 16 → set_at rs i ≡ none
+pub row_past : (rs : List ℕ) (i : ℕ) → length rs ≤ i * 16 → set_at rs i ≡ None
 unfolding set_at row_number
 row_past rs i h = ap (λ (x : ℕ). marked (x % 2) x) (number_none 16 rs (i * 16) (λ j p. get_or-eq_default rs 0 {n = i * 16 + j} (omega arith)))
 
@@ -197,8 +194,8 @@ above_is s t b e = ap not (e ∙ adds_not_above s t) ∙ not_not (above s t)
 
 -- ---- put_entry
 
-pub put_present : (vs us : List ℕ) (v : ℕ) (e : Entry) (a : AbstractValue) → e ≡ Present a → us ≡ put_value vs v a → us ≡ put_entry vs v (option_of e)
-put_present vs us v e a p q = q ∙ ap (λ (d : Entry). put_entry vs v (option_of d)) (sym p)
+pub put_present : (vs us : List ℕ) (v : ℕ) (e : Option AbstractValue) (a : AbstractValue) → e ≡ Some a → us ≡ put_value vs v a → us ≡ put_entry vs v e
+put_present vs us v e a p q = q ∙ ap (λ (d : Option AbstractValue). put_entry vs v d) (sym p)
 
 -- ---- merge_value
 
@@ -215,12 +212,12 @@ merge_value_not vs ws v t p q = ap (λ (c : Bool). ite c (put_entry vs v (join_o
 -- ---- merge_set
 
 -- where the second adds to it, the join is the union of the members, of none where it was not defined
-joined_bits : (x y : Option ℕ) → adds_set x y ≡ true → join_option union x y ≡ some (bit_or (bits_of x) (bits_of y))
+joined_bits : (x y : Option ℕ) → adds_set x y ≡ true → join_option union x y ≡ Some (bit_or (bits_of x) (bits_of y))
 unfolding adds_set join_option
-joined_bits none none h = let z : ◌≡◌ {A = ℕ} 0 1 = cc in absurd (omega arith)
-joined_bits (some s) none h = let z : ◌≡◌ {A = ℕ} 0 1 = cc in absurd (omega arith)
-joined_bits none (some t) h = ap some (sym (or_zero_l t))
-joined_bits (some s) (some t) h = refl
+joined_bits None None h = let z : ◌≡◌ {A = ℕ} 0 1 = cc in absurd (omega arith)
+joined_bits (Some s) None h = let z : ◌≡◌ {A = ℕ} 0 1 = cc in absurd (omega arith)
+joined_bits None (Some t) h = ap Some (sym (or_zero_l t))
+joined_bits (Some s) (Some t) h = refl
 
 pub merge_set_is : (ss us ts k l m : List ℕ) (i : ℕ) (b : Bool) → b ≡ set_adds ss ts i → b ≡ true → 16 ≤ length k → number 16 k 0 ≡ 0
     → l ≡ add_set k (bits_of (set_at ss i)) → m ≡ add_set l (bits_of (set_at ts i)) → us ≡ put_set ss i (number 16 m 0) → us ≡ merge_set ts i ss

@@ -1,11 +1,10 @@
 -- A merge of the lists that hold two states is the merge of the states: for lists of 1,024 words and of 16 n words the entries are joined,
 -- each of them, so the merged state is the least above both. Assumes nothing.
-use Rattle.std.specs.Prelude.{◌≡◌, Bool, List, T, eqb, get_or, replicate}
+use Rattle.std.specs.Prelude.{◌≡◌, Bool, List, T, eqb, get_or, replicate, Option, None, Some}
 use Rattle.std.proofs.Math.Path.{refl, sym, ap, subst}
 use Rattle.std.proofs.Common.{◌∙◌, mod-lt, eq-or-lt_of_le, arith, lit<, ext_get_or}
 use Rattle.std.proofs.Math.Bool.{true, false}
 use Rattle.std.proofs.Math.Logic.{⊎_elim}
-use Rattle.std.proofs.Math.Option.{Option, none, some}
 use Prim.Native.Nat.{ℕ, zero, suc, ◌+◌, ◌-◌, ◌*◌, ◌/◌, ◌%◌, ◌^◌, ◌≤◌, ◌<◌, max}
 use Rattle.std.proofs.Math.ListN.{length, set, get_or-eq_default}
 use Rattle.std.proofs.lemmas.List.{length-replicate, get_or-replicate}
@@ -63,17 +62,17 @@ module _ {A : Type 0} (read : List ℕ → ℕ → A) (g : ℕ → List ℕ → 
 -- ---- values
 
 entry_keeps : (l : List ℕ) (v : ℕ) (o : Option AbstractValue) → length (put_entry l v o) ≡ length l
-entry_keeps l v none = refl
-entry_keeps l v (some a) = put_length l v a
+entry_keeps l v None = refl
+entry_keeps l v (Some a) = put_length l v a
 
 entry_other : (l : List ℕ) (v : ℕ) (o : Option AbstractValue) (j : ℕ) → (v ≡ j → ⊥) → value_at (put_entry l v o) j ≡ value_at l j
-entry_other l v none j n = refl
-entry_other l v (some a) j n = value_other l v a j n
+entry_other l v None j n = refl
+entry_other l v (Some a) j n = value_other l v a j n
 
 -- the reasons of an entry fit 32 bits
 -- so that its word holds them all
 abbrev Narrow : Option AbstractValue → Type 0
-Narrow x = (a : AbstractValue) → x ≡ some a → a.reason < 4294967296
+Narrow x = (a : AbstractValue) → x ≡ Some a → a.reason < 4294967296
 
 value_narrow : (l : List ℕ) (v : ℕ) → Narrow (value_at l v)
 unfolding value_at cell_of
@@ -82,7 +81,7 @@ value_narrow l v a e = go (eqb (get_or l v 0 % 8) 0) e
     b : AbstractValue
     b = Values.mk (kind_at (get_or l v 0 % 8 - 1)) (get_or l v 0 / 8 % 4294967296)
 
-    go : (t : Bool) → (elim t as (λ z. Option AbstractValue) [ true ↦ none | false ↦ some b ]) ≡ some a → a.reason < 4294967296
+    go : (t : Bool) → (elim t as (λ z. Option AbstractValue) [ true ↦ None | false ↦ Some b ]) ≡ Some a → a.reason < 4294967296
     go true e = let z : ◌≡◌ {A = ℕ} 0 1 = cc in absurd (omega arith)
     go false e =
         let d : b ≡ a = cc in
@@ -92,10 +91,10 @@ value_narrow l v a e = go (eqb (get_or l v 0 % 8) 0) e
 entry_joined : (l : List ℕ) (v : ℕ) (x y : Option AbstractValue) → v < length l → value_at l v ≡ x → Narrow x → Narrow y
     → value_at (put_entry l v (join_option Values.join x y)) v ≡ join_option Values.join x y
 unfolding join_option
-entry_joined l v none none h e p q = e
-entry_joined l v none (some b) h e p q = value_same l v b h (q b refl)
-entry_joined l v (some a) none h e p q = value_same l v a h (p a refl)
-entry_joined l v (some a) (some b) h e p q = value_same l v (Values.join a b) h (unfold Values.join in or_lt 32 a.reason b.reason (p a refl) (q b refl))
+entry_joined l v None None h e p q = e
+entry_joined l v None (Some b) h e p q = value_same l v b h (q b refl)
+entry_joined l v (Some a) None h e p q = value_same l v a h (p a refl)
+entry_joined l v (Some a) (Some b) h e p q = value_same l v (Values.join a b) h (unfold Values.join in or_lt 32 a.reason b.reason (p a refl) (q b refl))
 
 module _ (ws : List ℕ) where
   value_keeps : (v : ℕ) (l : List ℕ) → length (merge_value ws v l) ≡ length l
@@ -137,7 +136,7 @@ value_merged vs ws v e h =
     turns_at value_at (merge_value ws) (λ v x. join_option Values.join x (value_at ws v)) 1024 1024 (value_keeps ws) (value_turn ws) (value_rest ws) 1024 0 vs v e (omega arith) (omega arith) (omega arith)
 
 -- past the end there is no entry
-pub value_past : (l : List ℕ) (v : ℕ) → length l ≤ v → value_at l v ≡ none
+pub value_past : (l : List ℕ) (v : ℕ) → length l ≤ v → value_at l v ≡ None
 unfolding value_at
 value_past l v h = ap cell_of (get_or-eq_default l 0 {n = v} h) ∙ cell_absent 0 refl
 
@@ -159,32 +158,32 @@ row_turn i m w l = refl
 
 some_keeps : (l : List ℕ) (i : ℕ) (o : Option ℕ) → length (put_some l i o) ≡ length l
 unfolding put_set put_row
-some_keeps l i none = refl
-some_keeps l i (some s) = words_length (put_word i (bit_or s 1)) (i * 16) (λ w x. word_of (bit_or s 1) w) (row_turn i (bit_or s 1)) 16 0 l
+some_keeps l i None = refl
+some_keeps l i (Some s) = words_length (put_word i (bit_or s 1)) (i * 16) (λ w x. word_of (bit_or s 1) w) (row_turn i (bit_or s 1)) 16 0 l
 
 some_other : (l : List ℕ) (i : ℕ) (o : Option ℕ) (j : ℕ) → (i ≡ j → ⊥) → set_at (put_some l i o) j ≡ set_at l j
-some_other l i none j n = refl
-some_other l i (some s) j n = set_other l i s j n
+some_other l i None j n = refl
+some_other l i (Some s) j n = set_other l i s j n
 
 -- a set has 1,024 bits, and no bit 0
 -- so that its row holds it
 abbrev Even : Option ℕ → Type 0
-Even x = (s : ℕ) → x ≡ some s → (s < 2 ^ 1024) × (s % 2 ≡ 0)
+Even x = (s : ℕ) → x ≡ Some s → (s < 2 ^ 1024) × (s % 2 ≡ 0)
 
 set_even : (l : List ℕ) (i : ℕ) → Even (set_at l i)
 set_even l i s e = (set_fits l i s e, sym (bit_low s) ∙ set_zero l i s e)
 
-stored : (n : ℕ) (l : List ℕ) (i s : ℕ) → Fit n l → i < n → (s < 2 ^ 1024) × (s % 2 ≡ 0) → set_at (put_set l i s) i ≡ some s
-stored n l i s f h p = set_same n l i s f h p.0 ∙ ap some (let d = p.1 in let z : s - s % 2 ≡ s = omega arith in z)
+stored : (n : ℕ) (l : List ℕ) (i s : ℕ) → Fit n l → i < n → (s < 2 ^ 1024) × (s % 2 ≡ 0) → set_at (put_set l i s) i ≡ Some s
+stored n l i s f h p = set_same n l i s f h p.0 ∙ ap Some (let d = p.1 in let z : s - s % 2 ≡ s = omega arith in z)
 
 -- a union that is stored is read back
 some_joined : (n : ℕ) (l : List ℕ) (i : ℕ) (x y : Option ℕ) → Fit n l → i < n → set_at l i ≡ x → Even x → Even y
     → set_at (put_some l i (join_option union x y)) i ≡ join_option union x y
 unfolding join_option
-some_joined n l i none none f h e p q = e
-some_joined n l i none (some t) f h e p q = stored n l i t f h (q t refl)
-some_joined n l i (some s) none f h e p q = stored n l i s f h (p s refl)
-some_joined n l i (some s) (some t) f h e p q =
+some_joined n l i None None f h e p q = e
+some_joined n l i None (Some t) f h e p q = stored n l i t f h (q t refl)
+some_joined n l i (Some s) None f h e p q = stored n l i s f h (p s refl)
+some_joined n l i (Some s) (Some t) f h e p q =
     let a = p s refl in
     let b = q t refl in
     let c = a.1 in
@@ -292,12 +291,12 @@ zero_word : (n k : ℕ) → get_or {A = ℕ} (replicate n 0) k 0 ≡ 0
 zero_word n k = ⊎_elim (get_or-replicate n k 0 0) (λ h. get_or-eq_default (replicate n 0) 0 {n = k} (let l = length-replicate {A = ℕ} n 0 in omega arith)) (lt_or_ge k n)
 
 -- a cleared state has no entry
-pub cleared_value : (n v : ℕ) → value_at (replicate n 0) v ≡ none
+pub cleared_value : (n v : ℕ) → value_at (replicate n 0) v ≡ None
 unfolding value_at
 cleared_value n v = ap cell_of (zero_word n v) ∙ cell_absent 0 refl
 
 -- and no identifier is defined in it
-pub cleared_set : (n i : ℕ) → set_at (replicate n 0) i ≡ none
+pub cleared_set : (n i : ℕ) → set_at (replicate n 0) i ≡ None
 unfolding set_at row_number
 cleared_set n i = ap (λ (x : ℕ). marked (x % 2) x) (number_none 16 (replicate n 0) (i * 16) (λ j p. zero_word n (i * 16 + j)))
 
@@ -315,13 +314,13 @@ module _ (n : ℕ) (vs ss ws ts vc sc : List ℕ) (v₁ : length vs ≡ 1024) (v
 
   -- the answer and the third state are what merge yields, which is none where it is false; the third state is empty then
   pub into_merge : (b : Bool) → b ≡ adds (entries vs ss) (entries ws ts)
-      → merge (entries vs ss) (entries ws ts) ≡ ite b (some (entries (merged_values b vc vs ws) (merged_sets b sc ss ts))) none
+      → merge (entries vs ss) (entries ws ts) ≡ ite b (Some (entries (merged_values b vc vs ws) (merged_sets b sc ss ts))) None
   unfolding merge
   into_merge true e =
-      sym (ap (λ (c : Bool). elim c as (λ z. Option Entries) [ true ↦ some (joined (entries vs ss) (entries ws ts)) | false ↦ none ]) e)
-      ∙ ap some (sym into_joined)
+      sym (ap (λ (c : Bool). elim c as (λ z. Option Entries) [ true ↦ Some (joined (entries vs ss) (entries ws ts)) | false ↦ None ]) e)
+      ∙ ap Some (sym into_joined)
   into_merge false e =
-      sym (ap (λ (c : Bool). elim c as (λ z. Option Entries) [ true ↦ some (joined (entries vs ss) (entries ws ts)) | false ↦ none ]) e)
+      sym (ap (λ (c : Bool). elim c as (λ z. Option Entries) [ true ↦ Some (joined (entries vs ss) (entries ws ts)) | false ↦ None ]) e)
 
   pub into_nothing : entries (merged_values false vc vs ws) (merged_sets false sc ss ts) ≡ nothing
   into_nothing = cleared_nothing (length vc) (length sc)

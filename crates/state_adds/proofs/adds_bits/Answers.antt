@@ -1,20 +1,11 @@
--- `state_adds::adds_bits` meets its contract. The loop's invariant: each word passed of the first row has every bit of the second row's.
--- The measure is the words that are left. Assumes nothing.
-use native.Mathlib.Omega.{arith}
-use borrow.Author.Count.{below_more, below_none}
-use Rattle.state_adds.proofs.Laws.Code.{bits_same, bits_new, bits_none}
+-- `state_adds::adds_bits` meets its contract: what the search of the words finds. Assumes nothing.
+use Rattle.std.proofs.Common.{arith, rules, refl, true, false, ◌≡◌, ◌∙◌}
+use Rattle.std.proofs.lemmas.Iterator.{cases_from_any, YieldsList-from_range}
+use Rattle.state_adds.proofs.Laws.Any.{any_is, word_adds, any_bits}
 use Rattle.state_adds.proofs.adds_bits.Goals as goal
 
-pub loop-w-init : goal.loop-w-init
-loop-w-init c = below_none _
-
-pub returns-then-z-x : goal.returns-then-z-x
-returns-then-z-x c =
-    bits_new _ _ _ _ _ _ c.row_word-x.ensures c.row_word-x.type_inv c.row_word-y.ensures c.row_word-y.type_inv c.loop-w-test.true c.if-z-x.true
-
-pub loop-w-preserved : goal.loop-w-preserved
-loop-w-preserved c =
-    below_more _ _ c.loop-w.invariant (bits_same _ _ _ _ _ _ c.row_word-x.ensures c.row_word-x.type_inv c.row_word-y.ensures c.row_word-y.type_inv c.loop-w-test.true c.if-z-x.false)
-
 pub returns : goal.returns
-returns c = bits_none _ _ _ (λ k h. c.loop-w.invariant k (omega arith))
+returns c = any_is 16 (word_adds c.args.sets.now c.args.other.now c.args.i) c.any.result
+    (cases_from_any _ _ _ (λ w. word_adds c.args.sets.now c.args.other.now c.args.i w ≡ true) (λ w. word_adds c.args.sets.now c.args.other.now c.args.i w ≡ false) c.any.ensures.ran (YieldsList-from_range 0 16 16 refl refl)
+    (λ x q k. search rules) (λ x q k. (search rules, search rules)))
+    ∙ any_bits c.args.sets.now c.args.other.now c.args.i (λ k. let h = c.type_inv.sets k in omega arith) (λ k. let h = c.type_inv.other k in omega arith)

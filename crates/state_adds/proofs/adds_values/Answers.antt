@@ -1,19 +1,11 @@
--- `state_adds::adds_values` meets its contract. The loop's invariant: some value is added to exactly if one below `v` is.
--- The measure is `v`. Assumes nothing.
-use mathlib.Core.Path.{refl}
-use Rattle.state_adds.proofs.Laws.Code.{any_found, any_next, any_end}
+-- `state_adds::adds_values` meets its contract: what the search of the values finds. Assumes nothing.
+use Rattle.std.proofs.Common.{rules, refl, sym, true, false, ◌≡◌}
+use Rattle.std.proofs.lemmas.Iterator.{cases_from_any, YieldsList-from_range}
+use Rattle.state_adds.specs.Lists.{value_adds}
+use Rattle.state_adds.proofs.Laws.Any.{any_is}
 use Rattle.state_adds.proofs.adds_values.Goals as goal
 
-pub loop-v-init : goal.loop-v-init
-loop-v-init c = refl
-
-pub returns-then-adds_value : goal.returns-then-adds_value
-returns-then-adds_value c =
-    any_found _ _ _ _ c.loop-v.invariant c.loop-v-test.true c.adds_value.ensures c.if-adds_value.true
-
-pub loop-v-preserved : goal.loop-v-preserved
-loop-v-preserved c =
-    any_next _ _ _ _ c.loop-v.invariant c.loop-v-test.true c.adds_value.ensures c.if-adds_value.false
-
 pub returns : goal.returns
-returns c = any_end _ _ _ c.loop-v.invariant c.loop-v-test.false
+returns c = any_is 1024 (value_adds c.args.values.now c.args.other.now) c.any.result
+    (cases_from_any _ _ _ (λ v. value_adds c.args.values.now c.args.other.now v ≡ true) (λ v. value_adds c.args.values.now c.args.other.now v ≡ false) c.any.ensures.ran (YieldsList-from_range 0 1024 1024 refl refl)
+    (λ x q k. sym (search rules)) (λ x q k. (search rules, sym (search rules))))

@@ -1,11 +1,10 @@
 -- How a call comes to its outcome: the ways through the code, a law each. Assumes nothing.
 use Prim.Native.Nat.{ℕ, zero, suc, ◌^◌, ◌<◌}
 use native.Mathlib.Omega.{arith}
-use Rattle.std.proofs.Math.Path.{◌≡◌, ap}
-use Rattle.std.specs.Prelude.{refl, Bool, true, not, ◌||◌, List, eqb, ltb, ◌⊎◌}
+use Rattle.std.proofs.Math.Path.{◌≡◌, ap, ap₂}
+use Rattle.std.specs.Prelude.{refl, Bool, true, not, ◌||◌, List, eqb, ltb, ◌⊎◌, Option, None, Some}
 use Rattle.std.proofs.Common.{sym, ◌∙◌, inl, inr}
 use Rattle.std.proofs.Math.Bool.{false}
-use Rattle.std.proofs.Math.Option.{Option, none, some}
 use borrow.Author.Tests.{lt-ltb, ltb-true, not-false, eq-eqb, ne_eqb}
 use Rattle.base_tests.specs.Tests.{ite, is_some}
 use Rattle.base_tests.proofs.Laws.Bool.{never, or_first, or_second}
@@ -27,12 +26,13 @@ use Rattle.def_transfer.specs.State as State
 use Rattle.state_ops.specs.Lists.{assigned_values, assigned_sets, freezes, frozen_values}
 use Rattle.state_ops.proofs.Laws.Text.{initialize_lists, define_lists, assign_lists, append_lists, freeze_lists}
 use Rattle.state_calls.specs.Calls as Calls
-use Rattle.state_calls.specs.Calls.{Lent, Outcome, outcome_of, call_with, start, rest_of, worst, refusal_of, outside, refusal1, refusal2, no_kind, kind_answer, test_answer}
+use Rattle.state_calls.specs.Calls.{Lent, Outcome, outcome_of, call_with, start, rest_of, worst, refusal_of, outside, refusal1, refusal2, no_kind}
+use Rattle.state_calls.specs.Plain.{leaving}
+use Rattle.def_refusals.specs.declared.Refusal.{Refusal}
+use Rattle.def_refusals.specs.Verdicts.{number_of}
+use Rattle.def_refusals.proofs.Laws.Verdicts.{number_some}
 use Rattle.lent_work.specs.Access.{access_of}
 use Rattle.state_ops.specs.Use.{after_use}
-use Rattle.state_calls.specs.declared.KindAnswer.{KindAnswer}
-use Rattle.state_calls.specs.declared.TestAnswer.{TestAnswer}
-use Rattle.base_tests.proofs.Laws.Choice.{the}
 
 -- ---- the lower class
 
@@ -119,18 +119,18 @@ module _ (vs ss : List ℕ) (s : Session) (out unfit : Bool) (z : refusal_of vs 
 -- ---- refused before anything is done, or the definition
 
 module _ {A : Type 0} (ref : Bool) (empty : A) (m : M (World Lent) A) (vs ss : List ℕ) (s : Session) where
-  pub call_refused : (n k : ℕ) → n ≡ k → (n ≡ 0 → ⊥) → record { refusal = n; answer = empty; values = vs; sets = ss; session = s } ≡ call_with ref k empty m vs ss s
+  pub call_refused : (r : Refusal) (k : ℕ) → number_of r ≡ k → leaving (number_of r) empty vs ss s ≡ call_with ref k empty m vs ss s
   unfolding call_with
-  call_refused zero k e h = absurd (h refl)
-  call_refused (suc n) k e h = ap (λ x. call_with ref x empty m vs ss s) e
+  call_refused r k e = go (number_of r) k e (number_some r)
+    where
+      go : (n k : ℕ) → n ≡ k → (n ≡ 0 → ⊥) → leaving n empty vs ss s ≡ call_with ref k empty m vs ss s
+      go zero k e h = absurd (h refl)
+      go (suc n) k e h = ap (λ x. call_with ref x empty m vs ss s) e
 
-  pub call_runs : (n k : ℕ) (a : A) (w : World Lent) → n ≡ k → n ≡ 0 → m (start ref vs ss s) ≡ ok a w
-      → record { refusal = n; answer = a; values = w.state.values; sets = w.state.sets; session = w.rest.session } ≡ call_with ref k empty m vs ss s
+  pub call_runs : (k : ℕ) (a : A) (w : World Lent) → 0 ≡ k → m (start ref vs ss s) ≡ ok a w
+      → leaving 0 a w.state.values w.state.sets w.rest.session ≡ call_with ref k empty m vs ss s
   unfolding call_with outcome_of
-  call_runs n k a w e z r =
-      ap (λ x. record { refusal = x; answer = a; values = w.state.values; sets = w.state.sets; session = w.rest.session }) z
-      ∙ ap (outcome_of empty) (sym r)
-      ∙ ap (λ x. call_with ref x empty m vs ss s) (sym z ∙ e)
+  call_runs k a w e r = ap (outcome_of empty) (sym r) ∙ ap (λ x. call_with ref x empty m vs ss s) e
 
 -- ---- a use of a place
 
@@ -143,10 +143,10 @@ kind_runs ref vs ss s i span h = go (set_at ss i) (eqb s.access 0) (ltb i 512) (
     go : (o : Option ℕ) (b c : Bool) → c ≡ true
         → and_then {W = World Lent} {A = Done} {B = AbstractValue} (elim (is_some o) as (λ x. Res (World Lent) Done) [ true ↦ ok tt (start ref vs ss s) | false ↦ ok tt (start ref vs ss (elim b as (λ x. Session) [ true ↦ record { next = s.next; access = suc i; span = span; entries = s.entries } | false ↦ s ])) ]) (λ _. State.peek i)
         ≡ ok (State.kind_of (value_at vs) (set_at ss i)) (start ref vs ss (ite (is_some o) s (ite b (record { next = s.next; access = ite c (suc i) 0; span = span; entries = s.entries }) s)))
-    go (some x) b c e = refl
-    go none true true e = refl
-    go none true false e = never false e refl
-    go none false c e = refl
+    go (Some x) b c e = refl
+    go None true true e = refl
+    go None true false e = never false e refl
+    go None false c e = refl
 
 pub write_runs : (vs ss : List ℕ) (s : Session) (i : ℕ) → State.may_write i (start false vs ss s) ≡ ok (writable (State.kind_of (value_at vs) (set_at ss i)).kind) (start false vs ss s)
 unfolding State.may_write State.peek return ◌>>=◌ and_then
@@ -157,8 +157,8 @@ unfolding State.is_defined State.set_of return ◌>>=◌ and_then
 defined_runs vs ss s i = go (set_at ss i)
   where
     go : (o : Option ℕ) → ok (is_some o) (start false vs ss s) ≡ ok (is_some o) (start false vs ss s)
-    go none = refl
-    go (some x) = refl
+    go None = refl
+    go (Some x) = refl
 
 -- ---- how each call ends
 
@@ -167,122 +167,99 @@ module _ (vs ss : List ℕ) (s : Session) (i : ℕ) where
   unfolding refusal1
   inside1 z = inside_most vs ss s (outside ss i) false z i (in_range vs ss s (outside ss i) false z)
 
-  pub kind_ends : (span : Span) (n : ℕ) (a : AbstractValue) (t : Session) → n ≡ refusal1 vs ss s i → n ≡ 0 → a ≡ State.kind_of (value_at vs) (set_at ss i) → t ≡ after_use ss s i span
-      → record { refusal = n; value = a; session = t } ≡ kind_answer (Calls.kind_with_span vs ss s i span)
+  pub kind_ends : (span : Span) (a : AbstractValue) (t : Session) → 0 ≡ refusal1 vs ss s i → a ≡ State.kind_of (value_at vs) (set_at ss i) → t ≡ after_use ss s i span
+      → leaving 0 a vs ss t ≡ Calls.kind_with_span vs ss s i span
   unfolding Calls.kind_with_span
-  kind_ends span n a t e z f g =
-      ap (λ (x : AbstractValue). the KindAnswer (record { refusal = n; value = x; session = t })) f
-      ∙ ap (λ (x : Session). the KindAnswer (record { refusal = n; value = State.kind_of (value_at vs) (set_at ss i); session = x })) g
-      ∙ ap kind_answer (call_runs false no_kind (State.kind_with_span i span) vs ss s n (refusal1 vs ss s i) _ _ e z (kind_runs false vs ss s i span (inside1 (sym e ∙ z))))
+  kind_ends span a t e f g =
+      ap₂ (λ (x : AbstractValue) (y : Session). leaving 0 x vs ss y) f g
+      ∙ call_runs false no_kind (State.kind_with_span i span) vs ss s (refusal1 vs ss s i) _ _ e (kind_runs false vs ss s i span (inside1 (sym e)))
 
-  pub kind_refused : (span : Span) (n : ℕ) → n ≡ refusal1 vs ss s i → (n ≡ 0 → ⊥) → record { refusal = n; value = no_kind; session = s } ≡ kind_answer (Calls.kind_with_span vs ss s i span)
+  pub kind_refused : (span : Span) (r : Refusal) → number_of r ≡ refusal1 vs ss s i → leaving (number_of r) no_kind vs ss s ≡ Calls.kind_with_span vs ss s i span
   unfolding Calls.kind_with_span
-  kind_refused span n e h = ap kind_answer (call_refused false no_kind (State.kind_with_span i span) vs ss s n (refusal1 vs ss s i) e h)
+  kind_refused span r e = call_refused false no_kind (State.kind_with_span i span) vs ss s r (refusal1 vs ss s i) e
 
-  pub write_ends : (n : ℕ) (a : AbstractValue) (b : Bool) → n ≡ refusal1 vs ss s i → n ≡ 0 → a ≡ State.kind_of (value_at vs) (set_at ss i) → b ≡ writable a.kind
-      → record { refusal = n; answer = b } ≡ test_answer (Calls.may_write vs ss s i)
+  pub write_ends : (a : AbstractValue) (b : Bool) → 0 ≡ refusal1 vs ss s i → a ≡ State.kind_of (value_at vs) (set_at ss i) → b ≡ writable a.kind
+      → leaving 0 b vs ss s ≡ Calls.may_write vs ss s i
   unfolding Calls.may_write
-  write_ends n a b e z f g =
-      ap (λ (x : Bool). the TestAnswer (record { refusal = n; answer = x })) (g ∙ ap (λ (x : AbstractValue). writable x.kind) f)
-      ∙ ap test_answer (call_runs false false (State.may_write i) vs ss s n (refusal1 vs ss s i) _ _ e z (write_runs vs ss s i))
+  write_ends a b e f g =
+      ap (λ (x : Bool). leaving 0 x vs ss s) (g ∙ ap (λ (x : AbstractValue). writable x.kind) f)
+      ∙ call_runs false false (State.may_write i) vs ss s (refusal1 vs ss s i) _ _ e (write_runs vs ss s i)
 
-  pub write_refused : (n : ℕ) → n ≡ refusal1 vs ss s i → (n ≡ 0 → ⊥) → record { refusal = n; answer = false } ≡ test_answer (Calls.may_write vs ss s i)
+  pub write_refused : (r : Refusal) → number_of r ≡ refusal1 vs ss s i → leaving (number_of r) false vs ss s ≡ Calls.may_write vs ss s i
   unfolding Calls.may_write
-  write_refused n e h = ap test_answer (call_refused false false (State.may_write i) vs ss s n (refusal1 vs ss s i) e h)
+  write_refused r e = call_refused false false (State.may_write i) vs ss s r (refusal1 vs ss s i) e
 
-  pub defined_ends : (n : ℕ) (b : Bool) → n ≡ refusal1 vs ss s i → n ≡ 0 → b ≡ is_some (set_at ss i) → record { refusal = n; answer = b } ≡ test_answer (Calls.is_defined vs ss s i)
+  pub defined_ends : (b : Bool) → 0 ≡ refusal1 vs ss s i → b ≡ is_some (set_at ss i) → leaving 0 b vs ss s ≡ Calls.is_defined vs ss s i
   unfolding Calls.is_defined
-  defined_ends n b e z g =
-      ap (λ (x : Bool). the TestAnswer (record { refusal = n; answer = x })) g
-      ∙ ap test_answer (call_runs false false (State.is_defined i) vs ss s n (refusal1 vs ss s i) _ _ e z (defined_runs vs ss s i))
+  defined_ends b e g =
+      ap (λ (x : Bool). leaving 0 x vs ss s) g
+      ∙ call_runs false false (State.is_defined i) vs ss s (refusal1 vs ss s i) _ _ e (defined_runs vs ss s i)
 
-  pub defined_refused : (n : ℕ) → n ≡ refusal1 vs ss s i → (n ≡ 0 → ⊥) → record { refusal = n; answer = false } ≡ test_answer (Calls.is_defined vs ss s i)
+  pub defined_refused : (r : Refusal) → number_of r ≡ refusal1 vs ss s i → leaving (number_of r) false vs ss s ≡ Calls.is_defined vs ss s i
   unfolding Calls.is_defined
-  defined_refused n e h = ap test_answer (call_refused false false (State.is_defined i) vs ss s n (refusal1 vs ss s i) e h)
+  defined_refused r e = call_refused false false (State.is_defined i) vs ss s r (refusal1 vs ss s i) e
 
-  pub kind_plain : (a : KindAnswer) → a ≡ kind_answer (Calls.kind_with_span vs ss s i no_span) → a ≡ kind_answer (Calls.kind vs ss s i)
+  pub kind_plain : (o : Outcome AbstractValue) → o ≡ Calls.kind_with_span vs ss s i no_span → o ≡ Calls.kind vs ss s i
   unfolding Calls.kind Calls.kind_with_span State.kind
-  kind_plain a e = e
+  kind_plain o e = e
 
 -- a call that changes the tables: the number, and what it leaves
-module _ (vs ss : List ℕ) (s : Session) (v : ℕ) (a : AbstractValue) (n : ℕ) (number reasons unfit out : Bool)
-    (p : number ≡ not_anumber (identifiers ss) v) (q : reasons ≡ are_reasons a.reason) (u : unfit ≡ not_yet_handed_out s.next v) (o : out ≡ (number || not reasons))
-    (e : n ≡ refusal_of vs ss s out unfit) where
-  initialize_refusal : n ≡ refusal_of vs ss s (not_anumber (identifiers ss) v || not (are_reasons a.reason)) (not_yet_handed_out s.next v)
-  initialize_refusal = cc
-
-  pub initialize_refused : (n ≡ 0 → ⊥) → (n ≡ (Calls.initialize vs ss s v a).refusal) × (vs ≡ (Calls.initialize vs ss s v a).values)
+module _ (vs ss : List ℕ) (s : Session) (v : ℕ) (a : AbstractValue) where
+  pub initialize_refused : (r : Refusal) → number_of r ≡ refusal_of vs ss s (not_anumber (identifiers ss) v || not (are_reasons a.reason)) (not_yet_handed_out s.next v)
+      → leaving (number_of r) tt vs ss s ≡ Calls.initialize vs ss s v a
   unfolding Calls.initialize
-  initialize_refused h =
-      let r = call_refused false tt (State.initialize v a) vs ss s n _ initialize_refusal h in
-      (ap (λ (x : Outcome Done). x.refusal) r, ap (λ (x : Outcome Done). x.values) r)
+  initialize_refused r e = call_refused false tt (State.initialize v a) vs ss s r _ e
 
-  pub initialize_ends : (w : ℕ) (vs' : List ℕ) → n ≡ 0 → w ≡ v → vs' ≡ put_value vs w a → (n ≡ (Calls.initialize vs ss s v a).refusal) × (vs' ≡ (Calls.initialize vs ss s v a).values)
+  pub initialize_ends : (vs' : List ℕ) → 0 ≡ refusal_of vs ss s (not_anumber (identifiers ss) v || not (are_reasons a.reason)) (not_yet_handed_out s.next v)
+      → vs' ≡ put_value vs v a → leaving 0 tt vs' ss s ≡ Calls.initialize vs ss s v a
   unfolding Calls.initialize
-  initialize_ends w vs' z f g =
-      let r = call_runs false tt (State.initialize v a) vs ss s n _ tt _ initialize_refusal z (initialize_lists Pure.pure false (rest_of false s) vs ss v a) in
-      (ap (λ (x : Outcome Done). x.refusal) r, g ∙ ap (λ x. put_value vs x a) f ∙ ap (λ (x : Outcome Done). x.values) r)
+  initialize_ends vs' e g =
+      ap (λ (x : List ℕ). leaving 0 tt x ss s) g
+      ∙ call_runs false tt (State.initialize v a) vs ss s _ tt _ e (initialize_lists Pure.pure false (rest_of false s) vs ss v a)
 
-module _ (vs ss : List ℕ) (s : Session) (i v : ℕ) (n : ℕ) (place number unfit out : Bool)
-    (p : place ≡ outside ss i) (q : number ≡ not_anumber (identifiers ss) v) (u : unfit ≡ not_yet_handed_out s.next v) (o : out ≡ (place || number))
-    (e : n ≡ refusal_of vs ss s out unfit) where
-  define_refusal : n ≡ refusal_of vs ss s (outside ss i || not_anumber (identifiers ss) v) (not_yet_handed_out s.next v)
-  define_refusal = cc
-
-  pub define_refused : (n ≡ 0 → ⊥) → (n ≡ (Calls.define vs ss s i v).refusal) × (ss ≡ (Calls.define vs ss s i v).sets)
+module _ (vs ss : List ℕ) (s : Session) (i v : ℕ) where
+  pub define_refused : (r : Refusal) → number_of r ≡ refusal_of vs ss s (outside ss i || not_anumber (identifiers ss) v) (not_yet_handed_out s.next v)
+      → leaving (number_of r) tt vs ss s ≡ Calls.define vs ss s i v
   unfolding Calls.define
-  define_refused h =
-      let r = call_refused false tt (State.define i v) vs ss s n _ define_refusal h in
-      (ap (λ (x : Outcome Done). x.refusal) r, ap (λ (x : Outcome Done). x.sets) r)
+  define_refused r e = call_refused false tt (State.define i v) vs ss s r _ e
 
-  pub define_ends : (ss' : List ℕ) → n ≡ 0 → ss' ≡ put_set ss i (2 ^ v) → (n ≡ (Calls.define vs ss s i v).refusal) × (ss' ≡ (Calls.define vs ss s i v).sets)
+  pub define_ends : (ss' : List ℕ) → 0 ≡ refusal_of vs ss s (outside ss i || not_anumber (identifiers ss) v) (not_yet_handed_out s.next v)
+      → ss' ≡ put_set ss i (2 ^ v) → leaving 0 tt vs ss' s ≡ Calls.define vs ss s i v
   unfolding Calls.define
-  define_ends ss' z g =
-      let r = call_runs false tt (State.define i v) vs ss s n _ tt _ define_refusal z (define_lists Pure.pure false (rest_of false s) vs ss i v) in
-      (ap (λ (x : Outcome Done). x.refusal) r, g ∙ ap (λ (x : Outcome Done). x.sets) r)
+  define_ends ss' e g =
+      ap (λ (x : List ℕ). leaving 0 tt vs x s) g
+      ∙ call_runs false tt (State.define i v) vs ss s _ tt _ e (define_lists Pure.pure false (rest_of false s) vs ss i v)
 
-module _ (vs ss : List ℕ) (s : Session) (into from : ℕ) (n : ℕ) where
-  pub assign_refused : n ≡ refusal2 vs ss s into from → (n ≡ 0 → ⊥)
-      → (n ≡ (Calls.assign vs ss s into from).refusal) × (vs ≡ (Calls.assign vs ss s into from).values) × (ss ≡ (Calls.assign vs ss s into from).sets)
+module _ (vs ss : List ℕ) (s : Session) (into from : ℕ) where
+  pub assign_refused : (r : Refusal) → number_of r ≡ refusal2 vs ss s into from → leaving (number_of r) tt vs ss s ≡ Calls.assign vs ss s into from
   unfolding Calls.assign
-  assign_refused e h =
-      let r = call_refused false tt (State.assign into from) vs ss s n _ e h in
-      (ap (λ (x : Outcome Done). x.refusal) r, ap (λ (x : Outcome Done). x.values) r, ap (λ (x : Outcome Done). x.sets) r)
+  assign_refused r e = call_refused false tt (State.assign into from) vs ss s r _ e
 
-  pub assign_ends : (vs' ss' : List ℕ) → n ≡ refusal2 vs ss s into from → n ≡ 0 → (vs' ≡ assigned_values vs ss from) × (ss' ≡ assigned_sets ss into from)
-      → (n ≡ (Calls.assign vs ss s into from).refusal) × (vs' ≡ (Calls.assign vs ss s into from).values) × (ss' ≡ (Calls.assign vs ss s into from).sets)
+  pub assign_ends : (vs' ss' : List ℕ) → 0 ≡ refusal2 vs ss s into from → vs' ≡ assigned_values vs ss from → ss' ≡ assigned_sets ss into from
+      → leaving 0 tt vs' ss' s ≡ Calls.assign vs ss s into from
   unfolding Calls.assign
-  assign_ends vs' ss' e z g =
-      let r = call_runs false tt (State.assign into from) vs ss s n _ tt _ e z (assign_lists Pure.pure false (rest_of false s) vs ss into from) in
-      (ap (λ (x : Outcome Done). x.refusal) r, g.0 ∙ ap (λ (x : Outcome Done). x.values) r, g.1 ∙ ap (λ (x : Outcome Done). x.sets) r)
+  assign_ends vs' ss' e f g =
+      ap₂ (λ (x y : List ℕ). leaving 0 tt x y s) f g
+      ∙ call_runs false tt (State.assign into from) vs ss s _ tt _ e (assign_lists Pure.pure false (rest_of false s) vs ss into from)
 
-  pub append_refused : n ≡ refusal2 vs ss s into from → (n ≡ 0 → ⊥) → (n ≡ (Calls.append_alias vs ss s into from).refusal) × (ss ≡ (Calls.append_alias vs ss s into from).sets)
+  pub append_refused : (r : Refusal) → number_of r ≡ refusal2 vs ss s into from → leaving (number_of r) tt vs ss s ≡ Calls.append_alias vs ss s into from
   unfolding Calls.append_alias
-  append_refused e h =
-      let r = call_refused false tt (State.append_alias into from) vs ss s n _ e h in
-      (ap (λ (x : Outcome Done). x.refusal) r, ap (λ (x : Outcome Done). x.sets) r)
+  append_refused r e = call_refused false tt (State.append_alias into from) vs ss s r _ e
 
-  pub append_ends : (ss' : List ℕ) → n ≡ refusal2 vs ss s into from → n ≡ 0 → ss' ≡ append_set ss into from
-      → (n ≡ (Calls.append_alias vs ss s into from).refusal) × (ss' ≡ (Calls.append_alias vs ss s into from).sets)
+  pub append_ends : (ss' : List ℕ) → 0 ≡ refusal2 vs ss s into from → ss' ≡ append_set ss into from → leaving 0 tt vs ss' s ≡ Calls.append_alias vs ss s into from
   unfolding Calls.append_alias
-  append_ends ss' e z g =
-      let r = call_runs false tt (State.append_alias into from) vs ss s n _ tt _ e z (append_lists Pure.pure false (rest_of false s) vs ss into from) in
-      (ap (λ (x : Outcome Done). x.refusal) r, g ∙ ap (λ (x : Outcome Done). x.sets) r)
+  append_ends ss' e g =
+      ap (λ (x : List ℕ). leaving 0 tt vs x s) g
+      ∙ call_runs false tt (State.append_alias into from) vs ss s _ tt _ e (append_lists Pure.pure false (rest_of false s) vs ss into from)
 
-module _ (vs ss : List ℕ) (s : Session) (i reason : ℕ) (n : ℕ) (place known out : Bool)
-    (p : place ≡ outside ss i) (q : known ≡ is_reason reason) (o : out ≡ (place || not known)) (e : n ≡ refusal_of vs ss s out false) where
-  freeze_refusal : n ≡ refusal_of vs ss s (outside ss i || not (is_reason reason)) false
-  freeze_refusal = cc
-
-  pub freeze_refused : (n ≡ 0 → ⊥) → (record { refusal = n; answer = false } ≡ test_answer (Calls.freeze vs ss s i reason)) × (vs ≡ (Calls.freeze vs ss s i reason).values)
+module _ (vs ss : List ℕ) (s : Session) (i reason : ℕ) where
+  pub freeze_refused : (r : Refusal) → number_of r ≡ refusal_of vs ss s (outside ss i || not (is_reason reason)) false → leaving (number_of r) false vs ss s ≡ Calls.freeze vs ss s i reason
   unfolding Calls.freeze
-  freeze_refused h =
-      let r = call_refused false false (State.freeze i reason) vs ss s n _ freeze_refusal h in
-      (ap test_answer r, ap (λ (x : Outcome Bool). x.values) r)
+  freeze_refused r e = call_refused false false (State.freeze i reason) vs ss s r _ e
 
-  pub freeze_ends : (b : Bool) (vs' : List ℕ) → n ≡ 0 → (b ≡ freezes vs ss i) × (vs' ≡ frozen_values vs ss i reason)
-      → (record { refusal = n; answer = b } ≡ test_answer (Calls.freeze vs ss s i reason)) × (vs' ≡ (Calls.freeze vs ss s i reason).values)
+  pub freeze_ends : (b : Bool) (vs' : List ℕ) → 0 ≡ refusal_of vs ss s (outside ss i || not (is_reason reason)) false → b ≡ freezes vs ss i → vs' ≡ frozen_values vs ss i reason
+      → leaving 0 b vs' ss s ≡ Calls.freeze vs ss s i reason
   unfolding Calls.freeze
-  freeze_ends b vs' z g =
-      let r = call_runs false false (State.freeze i reason) vs ss s n _ _ _ freeze_refusal z (freeze_lists Pure.pure false (rest_of false s) vs ss i reason) in
-      (ap (λ (x : Bool). the TestAnswer (record { refusal = n; answer = x })) g.0 ∙ ap test_answer r, g.1 ∙ ap (λ (x : Outcome Bool). x.values) r)
+  freeze_ends b vs' e f g =
+      ap₂ (λ (x : Bool) (y : List ℕ). leaving 0 x y ss s) f g
+      ∙ call_runs false false (State.freeze i reason) vs ss s _ _ _ e (freeze_lists Pure.pure false (rest_of false s) vs ss i reason)

@@ -1,8 +1,7 @@
 -- The operations on a state that the transfer does not use do the same over faithful tables as over plain ones. Assumes nothing.
-use Rattle.std.specs.Prelude.{ℕ, ◌<◌, max, refl, eqb}
+use Rattle.std.specs.Prelude.{ℕ, ◌<◌, max, refl, eqb, Option, None, Some}
 use Rattle.std.proofs.Common.{sym, ap₂, ◌∙◌, lit<}
 use mathlib.Core.List.{List, [], ◌∷◌}
-use Rattle.std.proofs.Math.Option.{Option, none, some}
 use Rattle.std.proofs.lemmas.Nat.{or_lt}
 use Rattle.base_sets.specs.Members.{union, bits_of}
 use Rattle.lent_sets.proofs.Laws.Bit.{bit_low, bit_or_is}
@@ -20,8 +19,8 @@ union_set : (s t : ℕ) → IsSet s → IsSet t → IsSet (union s t)
 union_set s t p q = record { small = or_lt 1024 s t p.small q.small; even = sym (bit_low (union s t)) ∙ bit_or_is s t 0 ∙ ap₂ max (bit_low s ∙ p.even) (bit_low t ∙ q.even) }
 
 bits_set : (o : Option ℕ) → Pointing o → IsSet (bits_of o)
-bits_set none p = empty_set
-bits_set (some s) p = p
+bits_set None p = empty_set
+bits_set (Some s) p = p
 
 module _ {n : ℕ} {T : Tables} {F : Faithful n T} where
   pub is_defined_means : (i : ℕ) → Means F Any (is_defined i) (is_defined i)
@@ -34,9 +33,9 @@ module _ {n : ℕ} {T : Tables} {F : Faithful n T} where
 
   append_sets_means : (place : ℕ) (o t : Option ℕ) → place < n → Pointing o → Pointing t → Means F Any (append_sets place o t) (append_sets place o t)
   unfolding append_sets
-  append_sets_means place none t l p q = done_means
-  append_sets_means place (some x) none l p q = done_means
-  append_sets_means place (some x) (some y) l p q = point_means place (union x y) l (union_set x y p q)
+  append_sets_means place None t l p q = done_means
+  append_sets_means place (Some x) None l p q = done_means
+  append_sets_means place (Some x) (Some y) l p q = point_means place (union x y) l (union_set x y p q)
 
   pub append_alias_means : (place value : ℕ) → place < n → Means F Any (append_alias place value) (append_alias place value)
   unfolding append_alias

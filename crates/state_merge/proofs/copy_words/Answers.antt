@@ -13,7 +13,7 @@ loop-k-init c = (refl, loop_start _ _ _)
 pub loop-k-preserved : goal.loop-k-preserved
 loop-k-preserved c =
     let a = c.args in
-    (c.set64.auto.xs ∙ c.loop-k.invariant.0, loop_turn (copy_word a.from.now) (length a.from.now) _ _ _ _ c.loop-k.invariant.1 c.loop-k-test.true (copied _ _ _ _ _ c.get64-x.ensures c.set64.ensures))
+    (c.set.auto.xs ∙ c.loop-k.invariant.0, loop_turn (copy_word a.from.now) (length a.from.now) _ _ _ _ c.loop-k.invariant.1 c.loop-k-test.true (copied _ _ _ _ _ c.get_or-x.ensures c.set.ensures))
 
 pub returns : goal.returns
 returns c =

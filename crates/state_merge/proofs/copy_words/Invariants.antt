@@ -7,6 +7,3 @@ use Rattle.state_merge.proofs.copy_words.Given as goal
 
 abbrev pub invariant-loop-k : goal.invariant-loop-k
 invariant-loop-k l = (length l.into ≡ length l.initial.into) × (copy_words l.initial.into l.from ≡ upto (copy_word l.from) (length l.from - l.k) l.k l.into)
-
-abbrev pub decreases-loop-k : goal.decreases-loop-k
-decreases-loop-k l = length l.from - l.k

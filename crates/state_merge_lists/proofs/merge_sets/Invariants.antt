@@ -7,6 +7,3 @@ use Rattle.state_merge_lists.proofs.merge_sets.Given as goal
 
 abbrev pub invariant-loop-i : goal.invariant-loop-i
 invariant-loop-i l = (length l.sets ≡ length l.initial.sets) × (merge_sets l.n l.initial.sets l.other ≡ upto (merge_set l.other) (l.n - l.i) l.i l.sets)
-
-abbrev pub decreases-loop-i : goal.decreases-loop-i
-decreases-loop-i l = l.n - l.i

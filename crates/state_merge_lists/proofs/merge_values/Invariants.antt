@@ -7,6 +7,3 @@ use Rattle.state_merge_lists.proofs.merge_values.Given as goal
 
 abbrev pub invariant-loop-v : goal.invariant-loop-v
 invariant-loop-v l = (length l.values ≡ length l.initial.values) × (merge_values l.initial.values l.other ≡ upto (merge_value l.other) (1024 - l.v) l.v l.values)
-
-abbrev pub decreases-loop-v : goal.decreases-loop-v
-decreases-loop-v l = 1024 - l.v

@@ -2,5 +2,5 @@
 use Rattle.state_adds.proofs.Laws.Code.{put_present}
 use Rattle.state_merge_lists.proofs.put_entry.Goals as goal
 
-pub returns-in-Present : goal.returns-in-Present
-returns-in-Present c = put_present _ _ _ _ _ c.in-Present.is c.put_value.ensures
+pub returns-in-Some : goal.returns-in-Some
+returns-in-Some c = put_present _ _ _ _ _ c.in-Some.is c.put_value.ensures

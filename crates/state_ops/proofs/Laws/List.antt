@@ -1,27 +1,23 @@
 -- The laws by which the loops meet their definitions. Assumes nothing.
-use Rattle.std.specs.Prelude.{ℕ, ◌+◌, ◌-◌, ◌%◌, ◌^◌, ◌≤◌, ◌<◌, ◌≡◌, refl, Bool, ◌&&◌, eqb, length, get_or, drop}
+use Rattle.std.specs.Prelude.{ℕ, ◌+◌, ◌-◌, ◌%◌, ◌^◌, ◌≤◌, ◌<◌, ◌≡◌, refl, Bool, ◌&&◌, eqb, length, get_or, drop, Option, None, Some}
 use Rattle.std.proofs.Math.Nat.{mul-mod_left}
 use Rattle.std.proofs.Common.{add-one, arith, ◌∙◌, pow-add, drop-cons}
 use Rattle.std.proofs.Math.Path.{sym, ap, ap₂}
 use Rattle.std.proofs.Math.Bool.{true, false}
 use mathlib.Core.List.{List, [], ◌∷◌}
-use Rattle.std.proofs.Math.Option.{Option, none, some}
 use Rattle.std.proofs.Math.Seq.{drop-length}
-use Rattle.base_tests.proofs.Laws.Bool.{and_true, and_false}
-use Rattle.base_orders.specs.Options.{join_option}
+use Rattle.base_tests.proofs.Laws.Bool.{and_true, and_false, never}
 use Rattle.base_sets.specs.Members.{union, bits_of, values_of}
 use Rattle.def_kinds.specs.declared.ValueKind.TheVariants.{Frozen}
 use Rattle.def_kinds.specs.declared.AbstractValue.{AbstractValue}
 use Rattle.def_kinds.specs.Kinds.{freezable}
 use Rattle.def_kinds.specs.Reasons.{single}
-use Rattle.def_kinds.specs.Values.{mk, join, or_default}
-use Rattle.def_transfer.specs.State.{join_values, kind_of}
-use Rattle.lent_values.specs.declared.Entry.{Entry}
-use Rattle.lent_values.specs.declared.Entry.TheVariants.{Absent, Present}
-use Rattle.lent_values.specs.Cells.{value_at, put_value, option_of}
+use Rattle.def_kinds.specs.Values.{mk, or_default}
+use Rattle.def_transfer.specs.State.{kind_of}
+use Rattle.lent_values.specs.Cells.{value_at, put_value}
 use Rattle.lent_sets.specs.Rows.{set_at, left, next_member, number, add_set, put_set, copy_set, copied}
 use Rattle.base_tests.specs.Tests.{is_some}
-use Rattle.lent_sets.proofs.Laws.Row.{Walk, walk_start, walk_step, walk_end, some_of, none_of, add_row}
+use Rattle.lent_sets.proofs.Laws.Row.{Walk, walk_start, some_of, add_row}
 use Rattle.lent_sets.proofs.Laws.Code.{put_cut}
 use Rattle.state_ops.specs.Lists.{freeze_all, freezes, frozen_values, inserted, own_inserted, own_value, own_sets, set_or_own, assigned_values, assigned_sets, unions, phi_sets}
 
@@ -33,53 +29,20 @@ At ss i m = Walk ss i (bits_of (set_at ss i)) m
 pub values_start : (ss : List ℕ) (i u : ℕ) → is_some (set_at ss i) ≡ true → u ≡ next_member ss i 1 → values_of (set_at ss i) ≡ left (bits_of (set_at ss i)) u
 values_start ss i u h e = ap values_of (some_of (set_at ss i) h) ∙ (walk_start ss i u h e).1
 
--- ---- the kind of a place
-
-pub kind_none : (f : ℕ → Option AbstractValue) (o : Option ℕ) → is_some o ≡ false → kind_of f o ≡ or_default none
-unfolding kind_of join_values
-kind_none f o h = ap (λ (x : Option ℕ). kind_of f x) (none_of o h)
-
-pub join_step : (f : ℕ → Option AbstractValue) (l k : List ℕ) (v : ℕ) (a x : Option AbstractValue) → l ≡ v ∷ k → x ≡ join_option join a (f v) → join_values f l a ≡ join_values f k x
-unfolding join_values
-join_step f l k v a x e g = ap (λ (m : List ℕ). join_values f m a) e ∙ ap (join_values f k) (sym g)
-
-pub join_end : (f : ℕ → Option AbstractValue) (l : List ℕ) (a : Option AbstractValue) → l ≡ [] → join_values f l a ≡ a
-unfolding join_values
-join_end f l a e = ap (λ (m : List ℕ). join_values f m a) e
-
--- what a loop that joins the entries of a set has still to do
-pub kind_start : (f : ℕ → Option AbstractValue) (ss : List ℕ) (i u : ℕ) → is_some (set_at ss i) ≡ true → u ≡ next_member ss i 1 → join_values f (left (bits_of (set_at ss i)) u) none ≡ join_values f (values_of (set_at ss i)) none
-kind_start f ss i u h e = ap (λ (l : List ℕ). join_values f l none) (sym (values_start ss i u h e))
-
-pub kind_next : (f : ℕ → Option AbstractValue) (ss : List ℕ) (i v u : ℕ) (a x z y : Option AbstractValue) → At ss i v → v < 1024 → u ≡ next_member ss i (v + 1) → y ≡ f v → x ≡ join_option join a y
-    → join_values f (left (bits_of (set_at ss i)) v) a ≡ z → join_values f (left (bits_of (set_at ss i)) u) x ≡ z
-kind_next f ss i v u a x z y p l e q g h = sym (join_step f _ _ v a x (walk_step ss i (bits_of (set_at ss i)) v u p l e).2 (g ∙ ap (join_option join a) q)) ∙ h
-
-pub kind_end : (f : ℕ → Option AbstractValue) (ss : List ℕ) (i v : ℕ) (a : Option AbstractValue) → At ss i v → 1024 ≤ v → join_values f (left (bits_of (set_at ss i)) v) a ≡ join_values f (values_of (set_at ss i)) none → or_default a ≡ kind_of f (set_at ss i)
-unfolding kind_of
-kind_end f ss i v a p l h = ap or_default (sym (join_end f _ a (walk_end ss i (bits_of (set_at ss i)) v p l)) ∙ h)
-
 -- ---- freezing the values of a place
 
+module _ (reason : ℕ) where
+  -- a loop over values freezes the first of those that are left
+  pub freeze_turn : (vs us z l k : List ℕ) (v b : ℕ) → l ≡ v ∷ k → b ≡ single reason → us ≡ put_value vs v (mk Frozen b) → freeze_all reason l vs ≡ z → freeze_all reason k us ≡ z
+  unfolding freeze_all
+  freeze_turn vs us z l k v b e q g h =
+      ap (freeze_all reason k) (g ∙ ap (λ (c : ℕ). put_value vs v (mk Frozen c)) q) ∙ sym (ap (λ (m : List ℕ). freeze_all reason m vs) e) ∙ h
+
+  pub freeze_done : (vs z l : List ℕ) → l ≡ [] → freeze_all reason l vs ≡ z → vs ≡ z
+  unfolding freeze_all
+  freeze_done vs z l e h = sym (ap (λ (m : List ℕ). freeze_all reason m vs) e) ∙ h
+
 module _ (reason : ℕ) (ss : List ℕ) (i : ℕ) where
-  pub freeze_none : (vs : List ℕ) → is_some (set_at ss i) ≡ false → vs ≡ freeze_all reason (values_of (set_at ss i)) vs
-  unfolding freeze_all
-  freeze_none vs h = sym (ap (λ (o : Option ℕ). freeze_all reason (values_of o) vs) (none_of (set_at ss i) h))
-
-  pub freeze_start : (vs : List ℕ) (u : ℕ) → is_some (set_at ss i) ≡ true → u ≡ next_member ss i 1 → freeze_all reason (left (bits_of (set_at ss i)) u) vs ≡ freeze_all reason (values_of (set_at ss i)) vs
-  freeze_start vs u h e = ap (λ (l : List ℕ). freeze_all reason l vs) (sym (values_start ss i u h e))
-
-  pub freeze_next : (vs us z : List ℕ) (v u x b : ℕ) → At ss i v → v < 1024 → u ≡ next_member ss i (v + 1) → b ≡ single reason → x ≡ v → us ≡ put_value vs x (mk Frozen b)
-      → freeze_all reason (left (bits_of (set_at ss i)) v) vs ≡ z → freeze_all reason (left (bits_of (set_at ss i)) u) us ≡ z
-  unfolding freeze_all
-  freeze_next vs us z v u x b p l e q w g h =
-      ap (freeze_all reason (left (bits_of (set_at ss i)) u)) (g ∙ ap₂ (λ (y c : ℕ). put_value vs y (mk Frozen c)) w q)
-      ∙ sym (ap (λ (k : List ℕ). freeze_all reason k vs) (walk_step ss i (bits_of (set_at ss i)) v u p l e).2) ∙ h
-
-  pub freeze_end : (vs z : List ℕ) (v : ℕ) → At ss i v → 1024 ≤ v → freeze_all reason (left (bits_of (set_at ss i)) v) vs ≡ z → vs ≡ z
-  unfolding freeze_all
-  freeze_end vs z v p l h = sym (ap (λ (k : List ℕ). freeze_all reason k vs) (walk_end ss i (bits_of (set_at ss i)) v p l)) ∙ h
-
   -- the three ways through a freeze
   pub freeze_undefined : (vs : List ℕ) → is_some (set_at ss i) ≡ false → (false ≡ freezes vs ss i) × (vs ≡ frozen_values vs ss i reason)
   unfolding freezes frozen_values
@@ -103,14 +66,23 @@ module _ (reason : ℕ) (ss : List ℕ) (i : ℕ) where
 
 -- ---- assignment
 
-pub insert_absent : (vs us : List ℕ) (from x y : ℕ) (e : Entry) (a : AbstractValue) → x ≡ from → e ≡ Absent → option_of e ≡ value_at vs (512 + x) → a ≡ or_default none → us ≡ put_value vs (512 + x) a → us ≡ own_inserted vs from
+pub insert_absent : (vs us : List ℕ) (from x y : ℕ) (e : Option AbstractValue) (a : AbstractValue) → x ≡ from → e ≡ None → e ≡ value_at vs (512 + x) → a ≡ or_default None → us ≡ put_value vs (512 + x) a → us ≡ own_inserted vs from
 unfolding own_inserted
 insert_absent vs us from x y e a p q g d h =
-    h ∙ ap₂ (λ (n : ℕ) (b : AbstractValue). put_value vs (512 + n) b) p d ∙ ap (inserted vs (512 + from)) (ap option_of (sym q) ∙ g ∙ ap (λ (n : ℕ). value_at vs (512 + n)) p)
+    h ∙ ap₂ (λ (n : ℕ) (b : AbstractValue). put_value vs (512 + n) b) p d ∙ ap (inserted vs (512 + from)) ((sym q) ∙ g ∙ ap (λ (n : ℕ). value_at vs (512 + n)) p)
 
-pub insert_present : (vs : List ℕ) (from x : ℕ) (e : Entry) (a : AbstractValue) → x ≡ from → e ≡ Present a → option_of e ≡ value_at vs (512 + x) → vs ≡ own_inserted vs from
+pub insert_present : (vs : List ℕ) (from x : ℕ) (e : Option AbstractValue) (a : AbstractValue) → x ≡ from → e ≡ Some a → e ≡ value_at vs (512 + x) → vs ≡ own_inserted vs from
 unfolding own_inserted
-insert_present vs from x e a p q g = ap (inserted vs (512 + from)) (ap option_of (sym q) ∙ g ∙ ap (λ (n : ℕ). value_at vs (512 + n)) p)
+insert_present vs from x e a p q g = ap (inserted vs (512 + from)) ((sym q) ∙ g ∙ ap (λ (n : ℕ). value_at vs (512 + n)) p)
+
+-- the same, by whether an entry stands there
+pub insert_none : (vs us : List ℕ) (from : ℕ) (e : Option AbstractValue) (a : AbstractValue) → e ≡ value_at vs (512 + from) → Rattle.std.specs.Option.is_some e ≡ false → a ≡ or_default None → us ≡ put_value vs (512 + from) a → us ≡ own_inserted vs from
+insert_none vs us from None a g t d h = insert_absent vs us from from 0 None a refl refl g d h
+insert_none vs us from (Some b) a g t d h = never true refl t
+
+pub insert_some : (vs : List ℕ) (from : ℕ) (e : Option AbstractValue) → e ≡ value_at vs (512 + from) → Rattle.std.specs.Option.is_some e ≡ true → vs ≡ own_inserted vs from
+insert_some vs from None g t = never false t refl
+insert_some vs from (Some b) g t = insert_present vs from from (Some b) b refl refl g
 
 -- values past 1,023 are cut off, so all of them give the same row
 pub own_past : (ss us : List ℕ) (into from : ℕ) → 512 ≤ from → us ≡ put_set ss into (2 ^ 1024) → us ≡ own_sets ss into from
@@ -127,16 +99,16 @@ unfolding assigned_values assigned_sets copy_set
 assign_defined vs ss us into from b p q e = go (set_at ss from) (sym p ∙ q) e
   where
     go : (o : Option ℕ) → is_some o ≡ true → us ≡ copied ss into o → (vs ≡ own_value vs from o) × (us ≡ set_or_own ss into from o)
-    go none h e = let z : ◌≡◌ {A = ℕ} 0 1 = cc in absurd (omega arith)
-    go (some s) h e = (refl, e)
+    go None h e = let z : ◌≡◌ {A = ℕ} 0 1 = cc in absurd (omega arith)
+    go (Some s) h e = (refl, e)
 
 pub assign_undefined : (vs ss ws us : List ℕ) (into from : ℕ) (b : Bool) → b ≡ is_some (set_at ss from) → b ≡ false → ws ≡ own_inserted vs from → us ≡ own_sets ss into from → (ws ≡ assigned_values vs ss from) × (us ≡ assigned_sets ss into from)
 unfolding assigned_values assigned_sets
 assign_undefined vs ss ws us into from b p q e g = go (set_at ss from) (sym p ∙ q)
   where
     go : (o : Option ℕ) → is_some o ≡ false → (ws ≡ own_value vs from o) × (us ≡ set_or_own ss into from o)
-    go none h = (e, g)
-    go (some s) h = let z : ◌≡◌ {A = ℕ} 0 1 = cc in absurd (omega arith)
+    go None h = (e, g)
+    go (Some s) h = let z : ◌≡◌ {A = ℕ} 0 1 = cc in absurd (omega arith)
 
 -- ---- phi
 

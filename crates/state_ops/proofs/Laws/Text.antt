@@ -1,10 +1,9 @@
 -- The definition's operations at the lists that a state is lent as: each is what `Lists.antt` says, whatever the context. Assumes nothing.
-use Rattle.std.specs.Prelude.{ℕ, ◌^◌, ◌≡◌, Bool, ◌&&◌}
+use Rattle.std.specs.Prelude.{ℕ, ◌^◌, ◌≡◌, Bool, ◌&&◌, Option, None, Some}
 use Rattle.std.proofs.Math.Path.{refl, ap}
 use Rattle.std.proofs.Common.{◌∙◌}
 use Rattle.std.proofs.Math.Bool.{true, false}
 use mathlib.Core.List.{List, [], ◌∷◌}
-use Rattle.std.proofs.Math.Option.{Option, none, some}
 use Rattle.std.proofs.Math.Dec.{eqb}
 use Rattle.base_sets.specs.Members.{union, singleton, values_of, bits_of}
 use Rattle.def_kinds.specs.declared.AbstractValue.{AbstractValue}
@@ -53,32 +52,32 @@ module _ (T : Tables) (flag : Bool) (r : Rest (on_lists T)) where
   freeze_lists vs ss i reason = go (set_at ss i) (freezable (kind_of (value_at vs) (set_at ss i)).kind)
     where
       go : (o : Option ℕ) (b : Bool)
-          → and_then (elim (is_some o && b) as (λ x. Res (World (on_lists T)) (Option ℕ)) [ true ↦ ok o (lists T flag r vs ss) | false ↦ ok none (lists T flag r vs ss) ]) (λ x. each (values_of x) (freeze_value reason) >> return (is_some x))
+          → and_then (elim (is_some o && b) as (λ x. Res (World (on_lists T)) (Option ℕ)) [ true ↦ ok o (lists T flag r vs ss) | false ↦ ok None (lists T flag r vs ss) ]) (λ x. each (values_of x) (freeze_value reason) >> return (is_some x))
           ≡ ok (is_some o && b) (lists T flag r (elim (is_some o && b) as (λ x. List ℕ) [ true ↦ freeze_all reason (values_of o) vs | false ↦ vs ]) ss)
-      go none b = refl
-      go (some s) false = refl
-      go (some s) true = ap (λ (x : Res (World (on_lists T)) Done). and_then x (λ _. return true)) (each_frozen reason (values_of (some s)) vs ss)
+      go None b = refl
+      go (Some s) false = refl
+      go (Some s) true = ap (λ (x : Res (World (on_lists T)) Done). and_then x (λ _. return true)) (each_frozen reason (values_of (Some s)) vs ss)
 
   pub append_lists : (vs ss : List ℕ) (place value : ℕ) → append_alias place value (lists T flag r vs ss) ≡ ok tt (lists T flag r vs (append_set ss place value))
   unfolding append_alias set_of append_set append_sets point done return ◌>>=◌ and_then
   append_lists vs ss place value = go (set_at ss place) (set_at ss value)
     where
       go : (o n : Option ℕ) → append_sets place o n (lists T flag r vs ss) ≡ ok tt (lists T flag r vs (Rattle.lent_sets.specs.Rows.appended ss place o n))
-      go none n = refl
-      go (some s) none = refl
-      go (some s) (some t) = refl
+      go None n = refl
+      go (Some s) None = refl
+      go (Some s) (Some t) = refl
 
   pub assign_lists : (vs ss : List ℕ) (into from : ℕ) → assign into from (lists T flag r vs ss) ≡ ok tt (lists T flag r (assigned_values vs ss from) (assigned_sets ss into from))
   unfolding assign set_of assigned_values assigned_sets own_inserted own_sets assign_set or_insert initialize define point value_of done return ◌>>◌ ◌>>=◌ and_then
   assign_lists vs ss into from = go (set_at ss from)
     where
       inner : (o : Option AbstractValue) → and_then (or_insert (from_identifier from) o (lists T flag r vs ss)) (λ _. define into (from_identifier from)) ≡ ok tt (lists T flag r (inserted vs (from_identifier from) o) (put_set ss into (singleton (from_identifier from))))
-      inner none = refl
-      inner (some a) = refl
+      inner None = refl
+      inner (Some a) = refl
 
       go : (o : Option ℕ) → assign_set into from o (lists T flag r vs ss) ≡ ok tt (lists T flag r (own_value vs from o) (set_or_own ss into from o))
-      go none = inner (value_at vs (from_identifier from))
-      go (some s) = refl
+      go None = inner (value_at vs (from_identifier from))
+      go (Some s) = refl
 
   pub union_lists : (vs ss is : List ℕ) (s : ℕ) → union_of is s (lists T flag r vs ss) ≡ ok (unions ss is s) (lists T flag r vs ss)
   unfolding union_of unions set_of return ◌>>=◌ and_then

@@ -1,25 +1,24 @@
-use native.Mathlib.Omega.{arith}
-use mathlib.Core.Path.{sym, ap, ◌∙◌}
-use Rattle.lent_sets.proofs.Laws.Row.{walk_start, walk_step}
+-- `state_ops::kind_of` meets its contract: the fold over the members joins their entries. Assumes nothing.
+use Rattle.std.specs.Prelude.{ℕ, ◌≡◌, refl, List, [], ◌∷◌, Option, None}
+use Rattle.std.specs.List.{fold}
+use Rattle.std.proofs.Common.{rules, ap, ◌∙◌}
+use Rattle.std.proofs.lemmas.Iterator.Consumers.{fold_from_yields_List, YieldsList-from_first}
+use Rattle.base_orders.specs.Options.{join_option}
+use Rattle.def_kinds.specs.declared.AbstractValue.{AbstractValue}
+use Rattle.def_kinds.specs.Values.{join, or_default}
+use Rattle.def_transfer.specs.State.{kind_of, join_values}
 use Rattle.lent_values.specs.Cells.{value_at}
-use Rattle.state_ops.proofs.Laws.List.{kind_none, kind_start, kind_next, kind_end}
+use Rattle.lent_members.specs.Members.{rest}
 use Rattle.state_ops.proofs.kind_of.Goals as goal
 
-pub returns-then-not-is_defined : goal.returns-then-not-is_defined
-returns-then-not-is_defined c = c.or_default.ensures ∙ sym (kind_none _ _ (sym c.is_defined.ensures ∙ c.if-not-is_defined.true))
-
-pub loop-m-init : goal.loop-m-init
-loop-m-init c = let h = sym c.is_defined.ensures ∙ c.if-not-is_defined.false in ((walk_start _ _ _ h c.next_member-m.ensures).0, kind_start _ _ _ _ h c.next_member-m.ensures)
-
-pub overflow_add-m : goal.overflow_add-m
-overflow_add-m c = omega arith
-
-pub loop-m-smaller : goal.loop-m-smaller
-loop-m-smaller c = let g = (walk_step _ _ _ _ _ c.loop-m.invariant.0 c.loop-m-test.true c.next_member-m-in-loop-m.ensures).1 in omega arith
-
-pub loop-m-preserved : goal.loop-m-preserved
-loop-m-preserved c =
-    ((walk_step _ _ _ _ _ c.loop-m.invariant.0 c.loop-m-test.true c.next_member-m-in-loop-m.ensures).0, kind_next _ _ _ _ _ _ _ _ _ c.loop-m.invariant.0 c.loop-m-test.true c.next_member-m-in-loop-m.ensures (c.value_at.ensures ∙ ap (value_at _) c.wide32.ensures) c.join-e.ensures c.loop-m.invariant.1)
+fold_is : (f : ℕ → Option AbstractValue) (l : List ℕ) (a : Option AbstractValue) → fold (λ e v. join_option join e (f v)) a l ≡ join_values f l a
+unfolding join_values
+fold_is f [] a = refl
+fold_is f (v ∷ l) a = fold_is f l (join_option join a (f v))
 
 pub returns : goal.returns
-returns c = c.or_default-2.ensures ∙ kind_end _ _ _ _ _ c.loop-m.invariant.0 c.loop-m-test.false c.loop-m.invariant.1
+unfolding kind_of
+returns c =
+    c.or_default.ensures
+    ∙ ap or_default (fold_from_yields_List _ (λ e v. join_option join e (value_at c.args.values.now v)) None c.fold-entry.result c.fold-entry.ensures.ran (YieldsList-from_first (λ v. v) rest _ c.members.ensures) (λ a x b q k. search rules)
+    ∙ fold_is (value_at c.args.values.now) _ None)

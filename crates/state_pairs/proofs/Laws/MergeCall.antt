@@ -1,7 +1,7 @@
 -- How a call on two states comes to its outcome: the ways through the code, a law each. Assumes nothing.
 use Prim.Native.Nat.{ℕ, zero, suc}
 use Rattle.std.proofs.Common.{arith, ap₂, ◌∙◌, ⊎_elim}
-use Rattle.std.specs.Prelude.{◌≡◌, refl, Bool, true, List, length}
+use Rattle.std.specs.Prelude.{◌≡◌, refl, Bool, true, List, length, Option, Result, Ok, Err, IsErrAnd}
 use Rattle.std.proofs.Math.Path.{sym, ap}
 use Rattle.std.proofs.Math.Bool.{false}
 use Rattle.base_tests.proofs.Laws.Choice.{ite_eq, ite_ne, the}
@@ -12,12 +12,14 @@ use Rattle.def_transfer.specs.Merge.{above, adds, clear_access}
 use Rattle.refuse_entries.specs.Words.{state_refusal, entries}
 use Rattle.state_adds.specs.Lists.{merge_values, merge_sets, rows_of, merged_values, merged_sets}
 use Rattle.state_calls.specs.Calls.{Outcome}
-use Rattle.state_calls.specs.declared.TestAnswer.{TestAnswer}
 use Rattle.state_pairs.specs.MergeCalls as MergeCalls
 use Rattle.refuse_class.specs.Class.{lower}
-use Rattle.state_pairs.specs.MergeCalls.{wrong_length, pair_refusal, third_refusal, refusing, kept_flag, merged_flag, merge_answer, session_answer}
-use Rattle.state_pairs.specs.declared.MergeAnswer.{MergeAnswer}
+use Rattle.state_pairs.specs.MergeCalls.{wrong_length, pair_refusal, third_refusal, refusing, kept_flag, merged_flag, Compared, Merged, Joined, above_said, merge_said, from_said, merge_answer, session_answer}
 use Rattle.state_pairs.specs.declared.SessionAnswer.{SessionAnswer}
+use Rattle.std.specs.Bool.{then_some}
+use Rattle.def_refusals.specs.declared.Refusal.{Refusal}
+use Rattle.def_refusals.specs.Verdicts.{number_of}
+use Rattle.def_refusals.proofs.Laws.Verdicts.{number_some}
 
 -- ---- a length
 
@@ -71,55 +73,69 @@ module _ (left right : Bool) where
 
 -- ---- how each call ends
 
-module _ (vs ss ws ts : List ℕ) (s : Session) (n : ℕ) where
-  pub above_refused : n ≡ pair_refusal vs ss ws ts s → (n ≡ 0 → ⊥) → record { refusal = n; answer = false } ≡ MergeCalls.is_above vs ss ws ts s
+module _ (vs ss ws ts : List ℕ) (s : Session) where
+  pub above_refused : (r : Refusal) → number_of r ≡ pair_refusal vs ss ws ts s → the Compared (record { refusal = number_of r; answer = false }) ≡ MergeCalls.is_above vs ss ws ts s
   unfolding MergeCalls.is_above
-  above_refused e h = is_refused (λ k. record { refusal = k; answer = false }) _ n (pair_refusal vs ss ws ts s) e h
+  above_refused r e = is_refused (λ k. record { refusal = k; answer = false }) _ (number_of r) (pair_refusal vs ss ws ts s) e (number_some r)
 
-  pub above_ends : (b : Bool) → n ≡ pair_refusal vs ss ws ts s → n ≡ 0 → b ≡ above (entries vs ss) (entries ws ts) → record { refusal = n; answer = b } ≡ MergeCalls.is_above vs ss ws ts s
+  pub above_ends : (b : Bool) → 0 ≡ pair_refusal vs ss ws ts s → b ≡ above (entries vs ss) (entries ws ts) → the Compared (record { refusal = 0; answer = b }) ≡ MergeCalls.is_above vs ss ws ts s
   unfolding MergeCalls.is_above
-  above_ends b e z g =
-      ap (λ (x : ℕ). the TestAnswer (record { refusal = x; answer = b })) z
-      ∙ ap (λ (x : Bool). the TestAnswer (record { refusal = 0; answer = x })) g
-      ∙ is_done (λ k. record { refusal = k; answer = false }) _ (pair_refusal vs ss ws ts s) (sym e ∙ z)
+  above_ends b e g =
+      ap (λ (x : Bool). the Compared (record { refusal = 0; answer = x })) g
+      ∙ is_done (λ k. record { refusal = k; answer = false }) _ (pair_refusal vs ss ws ts s) (sym e)
 
-  pub from_refused : (left right : Bool) → n ≡ pair_refusal vs ss ws ts s → (n ≡ 0 → ⊥)
-      → (record { refusal = n; session = s; flag = left } ≡ session_answer left right (MergeCalls.merge_from vs ss ws ts s)) × (vs ≡ (MergeCalls.merge_from vs ss ws ts s).values) × (ss ≡ (MergeCalls.merge_from vs ss ws ts s).sets)
+  pub from_refused : (left right : Bool) (r : Refusal) → number_of r ≡ pair_refusal vs ss ws ts s
+      → (the Joined (record { refusal = number_of r; session = s; flag = left }) ≡ session_answer left right (MergeCalls.merge_from vs ss ws ts s)) × (vs ≡ (MergeCalls.merge_from vs ss ws ts s).values) × (ss ≡ (MergeCalls.merge_from vs ss ws ts s).sets)
   unfolding MergeCalls.merge_from kept_flag
-  from_refused left right e h =
-      let r = is_refused (λ k. the (Outcome Done) (record { refusal = k; answer = tt; values = vs; sets = ss; session = s })) _ n (pair_refusal vs ss ws ts s) e h in
-      (ap (session_answer left right) r, ap (λ (x : Outcome Done). x.values) r, ap (λ (x : Outcome Done). x.sets) r)
+  from_refused left right r e =
+      let q = is_refused (λ k. the (Outcome Done) (record { refusal = k; answer = tt; values = vs; sets = ss; session = s })) _ (number_of r) (pair_refusal vs ss ws ts s) e (number_some r) in
+      (ap (session_answer left right) q, ap (λ (x : Outcome Done). x.values) q, ap (λ (x : Outcome Done). x.sets) q)
 
-  pub from_ends : (left right : Bool) (vs' ss' : List ℕ) → n ≡ pair_refusal vs ss ws ts s → n ≡ 0 → vs' ≡ merge_values vs ws → ss' ≡ merge_sets (rows_of ss) ss ts
-      → (record { refusal = n; session = clear_access s; flag = left } ≡ session_answer left right (MergeCalls.merge_from vs ss ws ts s)) × (vs' ≡ (MergeCalls.merge_from vs ss ws ts s).values) × (ss' ≡ (MergeCalls.merge_from vs ss ws ts s).sets)
+  pub from_ends : (left right : Bool) (vs' ss' : List ℕ) → 0 ≡ pair_refusal vs ss ws ts s → vs' ≡ merge_values vs ws → ss' ≡ merge_sets (rows_of ss) ss ts
+      → (the Joined (record { refusal = 0; session = clear_access s; flag = left }) ≡ session_answer left right (MergeCalls.merge_from vs ss ws ts s)) × (vs' ≡ (MergeCalls.merge_from vs ss ws ts s).values) × (ss' ≡ (MergeCalls.merge_from vs ss ws ts s).sets)
   unfolding MergeCalls.merge_from kept_flag
-  from_ends left right vs' ss' e z f g =
-      let r = is_done (λ k. the (Outcome Done) (record { refusal = k; answer = tt; values = vs; sets = ss; session = s })) _ (pair_refusal vs ss ws ts s) (sym e ∙ z) in (
-        ap (λ (x : ℕ). the SessionAnswer (record { refusal = x; session = clear_access s; flag = left })) z ∙ ap (session_answer left right) r,
-        f ∙ ap (λ (x : Outcome Done). x.values) r,
-        g ∙ ap (λ (x : Outcome Done). x.sets) r,
-      )
+  from_ends left right vs' ss' e f g =
+      let q = is_done (λ k. the (Outcome Done) (record { refusal = k; answer = tt; values = vs; sets = ss; session = s })) _ (pair_refusal vs ss ws ts s) (sym e) in
+      (ap (session_answer left right) q, f ∙ ap (λ (x : Outcome Done). x.values) q, g ∙ ap (λ (x : Outcome Done). x.sets) q)
 
-module _ (vs ss ws ts : List ℕ) (s : Session) (vc sc : List ℕ) (n t p : ℕ) (f : t ≡ third_refusal ss vc sc) (g : p ≡ pair_refusal vs ss ws ts s) (e : n ≡ lower t p) where
-  merge_refusal : n ≡ lower (third_refusal ss vc sc) (pair_refusal vs ss ws ts s)
-  merge_refusal = cc
-
-  pub merge_refused : (left right : Bool) → (n ≡ 0 → ⊥)
-      → (record { refusal = n; answer = false; flag = false } ≡ merge_answer left right (MergeCalls.merge vs ss ws ts s vc sc)) × (vc ≡ (MergeCalls.merge vs ss ws ts s vc sc).values) × (sc ≡ (MergeCalls.merge vs ss ws ts s vc sc).sets)
+module _ (vs ss ws ts : List ℕ) (s : Session) (vc sc : List ℕ) where
+  pub merge_refused : (left right : Bool) (r : Refusal) → number_of r ≡ lower (third_refusal ss vc sc) (pair_refusal vs ss ws ts s)
+      → (the Merged (record { refusal = number_of r; answer = false; flag = false }) ≡ merge_answer left right (MergeCalls.merge vs ss ws ts s vc sc)) × (vc ≡ (MergeCalls.merge vs ss ws ts s vc sc).values) × (sc ≡ (MergeCalls.merge vs ss ws ts s vc sc).sets)
   unfolding MergeCalls.merge merged_flag
-  merge_refused left right h =
-      let r = is_refused (λ k. the (Outcome Bool) (record { refusal = k; answer = false; values = vc; sets = sc; session = s })) _ n _ merge_refusal h in
-      (ap (merge_answer left right) r, ap (λ (x : Outcome Bool). x.values) r, ap (λ (x : Outcome Bool). x.sets) r)
+  merge_refused left right r e =
+      let q = is_refused (λ k. the (Outcome Bool) (record { refusal = k; answer = false; values = vc; sets = sc; session = s })) _ (number_of r) _ e (number_some r) in
+      (ap (merge_answer left right) q, ap (λ (x : Outcome Bool). x.values) q, ap (λ (x : Outcome Bool). x.sets) q)
 
-  pub merge_ends : (left right b flag : Bool) (vd sd : List ℕ) → n ≡ 0 → (b ≡ adds (entries vs ss) (entries ws ts)) × (vd ≡ merged_values b vc vs ws) × (sd ≡ merged_sets b sc ss ts) → flag ≡ merged_flag b left right
-      → (record { refusal = n; answer = b; flag = flag } ≡ merge_answer left right (MergeCalls.merge vs ss ws ts s vc sc)) × (vd ≡ (MergeCalls.merge vs ss ws ts s vc sc).values) × (sd ≡ (MergeCalls.merge vs ss ws ts s vc sc).sets)
+  -- the third state has its flag where the second adds to the first
+  flagged : (left right b : Bool) → the Merged (merge_said (Ok (then_some b left))) ≡ record { refusal = 0; answer = b; flag = merged_flag b left right }
+  unfolding kept_flag merged_flag
+  flagged left right true = refl
+  flagged left right false = refl
+
+  pub merge_ends : (left right b : Bool) (o : Option Bool) (vd sd : List ℕ) → 0 ≡ lower (third_refusal ss vc sc) (pair_refusal vs ss ws ts s)
+      → (b ≡ adds (entries vs ss) (entries ws ts)) × (vd ≡ merged_values b vc vs ws) × (sd ≡ merged_sets b sc ss ts) → o ≡ then_some b left
+      → (merge_said (Ok o) ≡ merge_answer left right (MergeCalls.merge vs ss ws ts s vc sc)) × (vd ≡ (MergeCalls.merge vs ss ws ts s vc sc).values) × (sd ≡ (MergeCalls.merge vs ss ws ts s vc sc).sets)
   unfolding MergeCalls.merge
-  merge_ends left right b flag vd sd z h k =
-      let r = is_done (λ k. the (Outcome Bool) (record { refusal = k; answer = false; values = vc; sets = sc; session = s })) _ _ (sym merge_refusal ∙ z) in (
-        ap (λ (x : ℕ). the MergeAnswer (record { refusal = x; answer = b; flag = flag })) z
-            ∙ ap (λ (x : Bool). the MergeAnswer (record { refusal = 0; answer = b; flag = x })) k
-            ∙ ap (λ (x : Bool). the MergeAnswer (record { refusal = 0; answer = x; flag = merged_flag x left right })) h.0
-            ∙ ap (merge_answer left right) r,
-        h.1 ∙ ap (λ (x : Bool). merged_values x vc vs ws) h.0 ∙ ap (λ (x : Outcome Bool). x.values) r,
-        h.2 ∙ ap (λ (x : Bool). merged_sets x sc ss ts) h.0 ∙ ap (λ (x : Outcome Bool). x.sets) r,
+  merge_ends left right b o vd sd e h k =
+      let q = is_done (λ k. the (Outcome Bool) (record { refusal = k; answer = false; values = vc; sets = sc; session = s })) _ _ (sym e) in (
+        ap (λ (x : Option Bool). merge_said (Ok x)) k
+            ∙ flagged left right b
+            ∙ ap (λ (x : Bool). the Merged (record { refusal = 0; answer = x; flag = merged_flag x left right })) h.0
+            ∙ ap (merge_answer left right) q,
+        h.1 ∙ ap (λ (x : Bool). merged_values x vc vs ws) h.0 ∙ ap (λ (x : Outcome Bool). x.values) q,
+        h.2 ∙ ap (λ (x : Bool). merged_sets x sc ss ts) h.0 ∙ ap (λ (x : Outcome Bool). x.sets) q,
       )
+
+-- ---- a Result that is the refusal that a test came to
+
+pub above_err : (w : Result Bool Refusal) (r : Refusal) → IsErrAnd w (λ e. e ≡ r) → above_said w ≡ record { refusal = number_of r; answer = false }
+above_err (Err e) r h = ap (λ (x : Refusal). the Compared (record { refusal = number_of x; answer = false })) h
+above_err (Ok b) r h = absurd h
+
+pub merge_err : (w : Result (Option Bool) Refusal) (r : Refusal) → IsErrAnd w (λ e. e ≡ r) → merge_said w ≡ record { refusal = number_of r; answer = false; flag = false }
+merge_err (Err e) r h = ap (λ (x : Refusal). the Merged (record { refusal = number_of x; answer = false; flag = false })) h
+merge_err (Ok b) r h = absurd h
+
+pub from_err : (s : Session) (left : Bool) (w : Result SessionAnswer Refusal) (r : Refusal) → IsErrAnd w (λ e. e ≡ r) → from_said s left w ≡ record { refusal = number_of r; session = s; flag = left }
+from_err s left (Err e) r h = ap (λ (x : Refusal). the Joined (record { refusal = number_of x; session = s; flag = left })) h
+from_err s left (Ok b) r h = absurd h

@@ -2,10 +2,9 @@
 -- state is the least above both. Where it is refused, all is as it was. Assumes nothing.
 use Prim.Native.Nat.{ℕ, zero, suc, ◌≤◌}
 use Rattle.std.proofs.Common.{arith, ◌∙◌, subst, inl, inr, ⊎_elim}
-use Rattle.std.specs.Prelude.{◌≡◌, true, not, ◌||◌, List, ◌⊎◌, T, eqb, length}
+use Rattle.std.specs.Prelude.{◌≡◌, true, not, ◌||◌, List, ◌⊎◌, T, eqb, length, None, Some}
 use Rattle.std.proofs.Math.Path.{refl, sym, ap}
 use Rattle.std.proofs.Math.Bool.{Bool, false}
-use Rattle.std.proofs.Math.Option.{none, some}
 use Rattle.base_tests.specs.Tests.{ite}
 use Rattle.base_tests.proofs.Laws.Choice.{ite_eq, ite_ne, the}
 use Rattle.lent_sets.proofs.Laws.Row.{Fit}
@@ -20,9 +19,8 @@ use Rattle.refuse_entries.proofs.Laws.Accepted.{refusal_one, accepted_lent}
 use Rattle.state_adds.specs.Lists.{merge_values, merge_sets, rows_of, merged_values, merged_sets}
 use Rattle.state_adds.proofs.Laws.MergeList.{rows_of_is, merged_joined, merged_from, into_joined, into_merge, into_nothing}
 use Rattle.state_calls.specs.Calls.{Outcome}
-use Rattle.state_calls.specs.declared.TestAnswer.{TestAnswer}
 use Rattle.refuse_class.specs.Class.{lower}
-use Rattle.state_pairs.specs.MergeCalls.{wrong_length, pair_refusal, third_refusal, refusing, kept_flag, merge_answer, session_answer, is_above, merge, merge_from}
+use Rattle.state_pairs.specs.MergeCalls.{Compared, wrong_length, pair_refusal, third_refusal, refusing, kept_flag, merge_answer, session_answer, is_above, merge, merge_from}
 use Rattle.state_pairs.proofs.Laws.MergeCall.{length_fits, length_wrong, length_0, is_refused, is_done, flag_kept, flag_none}
 use Rattle.refuse_class.proofs.Laws.Class.{lower_none, lower_alone, lower_first, lower_0}
 
@@ -136,19 +134,19 @@ module _ (vs ss ws ts : List ℕ) (s : Session) where
   unfolding is_above refusing
   above_number = go (pair_refusal vs ss ws ts s)
     where
-      go : (n : ℕ) → (refusing {A = TestAnswer} n (λ k. record { refusal = k; answer = false }) (record { refusal = 0; answer = above (entries vs ss) (entries ws ts) })).refusal ≡ n
+      go : (n : ℕ) → (refusing {A = Compared} n (λ k. record { refusal = k; answer = false }) (record { refusal = 0; answer = above (entries vs ss) (entries ws ts) })).refusal ≡ n
       go zero = refl
       go (suc n) = refl
 
   -- a refusal answers false
   pub above_no : ((is_above vs ss ws ts s).refusal ≡ 0 → ⊥) → (is_above vs ss ws ts s).answer ≡ false
   unfolding is_above
-  above_no h = sym (ap (λ (x : TestAnswer). x.answer) (is_refused (λ k. the TestAnswer (record { refusal = k; answer = false })) _ _ _ above_number h))
+  above_no h = sym (ap (λ (x : Compared). x.answer) (is_refused (λ k. the Compared (record { refusal = k; answer = false })) _ _ _ above_number h))
 
   -- the answer says whether the first is above or equal to the second
   pub above_answers : (is_above vs ss ws ts s).refusal ≡ 0 → (is_above vs ss ws ts s).answer ≡ above (entries vs ss) (entries ws ts)
   unfolding is_above
-  above_answers z = sym (ap (λ (x : TestAnswer). x.answer) (is_done (λ k. the TestAnswer (record { refusal = k; answer = false })) _ (pair_refusal vs ss ws ts s) (sym above_number ∙ z)))
+  above_answers z = sym (ap (λ (x : Compared). x.answer) (is_done (λ k. the Compared (record { refusal = k; answer = false })) _ (pair_refusal vs ss ws ts s) (sym above_number ∙ z)))
 
 -- ---- merge
 
@@ -234,13 +232,13 @@ module _ (vs ss ws ts : List ℕ) (s : Session) (vc sc : List ℕ) where
         ap (λ (x : List ℕ). entries x (merge vs ss ws ts s vc sc).sets) l.0 ∙ ap (entries (merged_values b vc vs ws)) l.1
 
     -- at yes the third state is what merge of the entries yields
-    pub merge_yields : (merge vs ss ws ts s vc sc).answer ≡ true → Merge.merge (entries vs ss) (entries ws ts) ≡ some (entries (merge vs ss ws ts s vc sc).values (merge vs ss ws ts s vc sc).sets)
+    pub merge_yields : (merge vs ss ws ts s vc sc).answer ≡ true → Merge.merge (entries vs ss) (entries ws ts) ≡ Some (entries (merge vs ss ws ts s vc sc).values (merge vs ss ws ts s vc sc).sets)
     merge_yields e =
         into_merge (identifiers ss) vs ss ws ts vc sc pair.values1 pair.values2 third.0 pair.sets1 pair.sets2 third.1 pair.most true (sym e ∙ merge_answers)
-        ∙ ap some (sym (third_entries true e))
+        ∙ ap Some (sym (third_entries true e))
 
     -- at no merge of the entries yields none, and the third state is empty
-    pub merge_yields_none : (merge vs ss ws ts s vc sc).answer ≡ false → (Merge.merge (entries vs ss) (entries ws ts) ≡ none) × (entries (merge vs ss ws ts s vc sc).values (merge vs ss ws ts s vc sc).sets ≡ nothing)
+    pub merge_yields_none : (merge vs ss ws ts s vc sc).answer ≡ false → (Merge.merge (entries vs ss) (entries ws ts) ≡ None) × (entries (merge vs ss ws ts s vc sc).values (merge vs ss ws ts s vc sc).sets ≡ nothing)
     merge_yields_none e = (
       into_merge (identifiers ss) vs ss ws ts vc sc pair.values1 pair.values2 third.0 pair.sets1 pair.sets2 third.1 pair.most false (sym e ∙ merge_answers),
       third_entries false e ∙ into_nothing (identifiers ss) vs ss ws ts vc sc pair.values1 pair.values2 third.0 pair.sets1 pair.sets2 third.1 pair.most,

@@ -1,20 +1,20 @@
-use borrow.Author.Rules.{rules}
-use mathlib.Core.Path.{refl}
-use Rattle.state_calls.proofs.Laws.More.{any_hit, any_step, any_end}
+-- `state_phi::any_outside` meets its contract: what the search of the operands finds. Assumes nothing.
+use Rattle.std.specs.Prelude.{ℕ, ◌≡◌, refl, Bool, ◌||◌, List, [], ◌∷◌}
+use Rattle.std.proofs.Common.{rules, ap, ◌∙◌}
+use borrow.Author.Tests.{tests}
+use Rattle.std.specs.List.{list_any}
+use Rattle.std.proofs.lemmas.Iterator.{YieldsList-from_slice}
+use Rattle.std.proofs.lemmas.Iterator.Search.{any_from_yields_List}
+use Rattle.base_tests.specs.Tests.{any_of}
 use Rattle.state_calls.specs.Calls.{outside}
 use Rattle.state_phi.proofs.any_outside.Goals as goal
 
-pub loop-k-init : goal.loop-k-init
-loop-k-init c = (search rules, refl)
-
-pub returns-then-outside : goal.returns-then-outside
-returns-then-outside c =
-    any_hit (outside c.args.sets.now) c.args.operands.now _ _ _ c.loop-k-test.true c.get32.ensures c.outside.ensures c.if-outside.true c.loop-k.invariant.1
-
-pub loop-k-preserved : goal.loop-k-preserved
-loop-k-preserved c =
-    (search rules, any_step (outside c.args.sets.now) c.args.operands.now _ _ _ c.loop-k-test.true c.get32.ensures c.outside.ensures c.if-outside.false c.loop-k.invariant.1)
+any_is : (f : ℕ → Bool) (xs : List ℕ) → list_any f xs ≡ any_of f xs
+unfolding any_of
+any_is f [] = refl
+any_is f (x ∷ xs) = ap (λ (b : Bool). f x || b) (any_is f xs)
 
 pub returns : goal.returns
 returns c =
-    any_end (outside c.args.sets.now) c.args.operands.now _ c.loop-k-test.false c.loop-k.invariant.0 c.loop-k.invariant.1
+    any_from_yields_List (outside c.args.sets.now) _ _ _ c.any.ensures.ran (YieldsList-from_slice c.args.operands.now c.iter.ensures.rest) (λ x b q k. search (rules, tests))
+    ∙ any_is (outside c.args.sets.now) c.args.operands.now

@@ -1,14 +1,13 @@
-use mathlib.Core.Path.{◌≡◌}
-use Prim.Native.Nat.{◌<◌, ◌-◌}
-use lib.ListN.{length}
-use Rattle.state_ops.proofs.Laws.List.{At}
-use Rattle.lent_sets.specs.Rows.{set_at, left}
-use Rattle.base_sets.specs.Members.{bits_of, values_of}
+use Rattle.std.proofs.Common.{◌≡◌, ◌+◌, ◌≤◌, length}
+use Rattle.lent_members.specs.Members.{rest}
+use Rattle.lent_sets.specs.Rows.{set_at}
+use Rattle.base_sets.specs.Members.{values_of}
 use Rattle.state_calls.specs.Calls.{written}
 use Rattle.state_read_sets.proofs.write_values.Given as goal
 
-abbrev pub invariant-loop-m : goal.invariant-loop-m
-invariant-loop-m l = At l.sets l.i l.m × (l.k < l.m) × (length l.out ≡ length l.initial.out) × (written (left (bits_of (set_at l.sets l.i)) l.m) l.k l.out ≡ written (values_of (set_at l.sets l.i)) 0 l.initial.out)
-
-abbrev pub decreases-loop-m : goal.decreases-loop-m
-decreases-loop-m l = 1024 - l.m
+abbrev pub invariant-loop-k : goal.invariant-loop-k
+invariant-loop-k l =
+    (goal.iterator-loop-k).can_next l.k-iterator
+    × (goal.iterator-loop-k).is_finite l.k-iterator
+    × (l.k-iterator.count + length (rest l.k-iterator.iter) ≤ 1024)
+    × (written (rest l.k-iterator.iter) l.k-iterator.count l.out ≡ written (values_of (set_at l.sets l.i)) 0 l.initial.out)

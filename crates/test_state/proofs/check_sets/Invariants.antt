@@ -1,5 +1,5 @@
-use Rattle.std.proofs.Common.{◌-◌}
+use Rattle.std.proofs.Common.{◌≤◌}
 use Rattle.test_state.proofs.check_sets.Given as goal
 
-abbrev pub decreases-loop-i : goal.decreases-loop-i
-decreases-loop-i l = 512 - l.i
+abbrev pub invariant-loop-i : goal.invariant-loop-i
+invariant-loop-i l = l.found ≤ l.i

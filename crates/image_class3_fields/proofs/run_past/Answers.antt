@@ -1,8 +1,0 @@
--- `image_class3_fields::run_past` meets its contract: the ways through it, one after the other. Assumes nothing.
-use Prim.Native.Nat.{◌+◌, ℕ}
-use mathlib.Core.Path.{◌∙◌, ap₂}
-use lib.Dec.{ltb}
-use Rattle.image_class3_fields.proofs.run_past.Goals as goal
-
-pub returns : goal.returns
-returns c = ap₂ (λ (x y : ℕ). ltb x y) (c.wide32.ensures ∙ c.count_of.ensures) (ap₂ (λ (x y : ℕ). x + y) c.wide32-2.ensures c.wide32-3.ensures)

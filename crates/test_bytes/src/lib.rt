@@ -1,0 +1,135 @@
+// What the programs share: words of a file as they are read and compared, whole buffers, arguments, and what the benchmarks and the replays lend.
+// No contract can say what a file or an argument gives.
+#![tactic(auto)]
+
+ghost use Rattle.std.specs.Prelude.{◌≡◌, ◌≤◌, ◌<◌, true, false, IfOk, length};
+
+use def_effects::{Session, Span};
+use def_kinds::{AbstractValue, ValueKind};
+use std::io;
+use std::io::Read;
+use std::rt::Env;
+
+// ---- words
+
+// Words that are read from the first to the last, and how many differences were found between them and what they were compared with.
+// Each program takes a recorded call apart by one of these.
+#[derive(Drop)]
+pub struct Reading<'a> {
+    pub rest: &'a [u8],
+    pub faults: u32,
+}
+
+impl<'a> Reading<'a> {
+    // Some bytes, of which nothing is read.
+    pub fn new(bytes: &'a [u8]) -> Self
+        ensures rest { result.rest.now ≡ bytes.now }
+        ensures faults { result.faults ≡ 0 }
+    {
+        Reading {
+            rest: bytes,
+            faults: 0,
+        }
+    }
+
+    // The next bytes; past the end they are 0, and that is a difference.
+    // So a record that is read wrong does not pass.
+    pub fn bytes<const N: usize>(&mut self) -> [u8; N] {
+        match self.rest.split_first_chunk::<N>() {
+            Some((first, rest)) => {
+                self.rest = rest;
+                *first
+            }
+            None => {
+                self.rest = &[];
+                self.check(false);
+                [0; N]
+            }
+        }
+    }
+
+    // The next word, its lowest byte first.
+    pub fn word(&mut self) -> u32 {
+        u32::from_le_bytes(self.bytes())
+    }
+
+    // Counts a difference where a test fails.
+    pub fn check(&mut self, ok: bool)
+        ensures right { ok ≡ true → self.new.faults ≡ self.old.faults }
+        ensures wrong { ok ≡ false → 0 < self.new.faults }
+    {
+        if !ok {
+            self.faults = self.faults.saturating_add(1);
+        }
+    }
+
+    // Counts a difference where the next word is not x.
+    pub fn expect(&mut self, x: u32) {
+        let y = self.word();
+        self.check(x == y);
+    }
+}
+
+// ---- files and arguments
+
+// Reads until the buffer is full or the input ends, and answers how many bytes there were.
+// `read_exact` does not say how many there were before the end.
+pub fn read_full(input: &mut impl Read, buffer: &mut [u8]) -> io::Result<usize>
+    ensures { IfOk result (λ n. n ≤ length buffer.new) }
+{
+    let mut done = 0;
+    while done < buffer.len() {
+        let n = input.read(&mut buffer[done..])?;
+        if n == 0 {
+            break;
+        }
+        done += n;
+    }
+    Ok(done)
+}
+
+// Argument i, or an empty text where it is missing, too long or no text.
+pub fn argument<'a>(rt: &impl Env, i: usize, buffer: &'a mut [u8]) -> &'a str {
+    match rt.arg(i, buffer) {
+        Ok(n) => str::from_utf8(&buffer[..n]).unwrap_or(""),
+        Err(_) => "",
+    }
+}
+
+// Argument i as a number, or 0 where it is none.
+pub fn number(rt: &impl Env, i: usize) -> u32 {
+    let mut text = [0u8; 16];
+    argument(rt, i, &mut text).parse().unwrap_or(0)
+}
+
+// ---- what is lent
+
+// A session with a next number, no access and no entries.
+// With the next number 512 every fresh number is handed out.
+pub fn session(next: u32) -> Session
+    ensures { result.next ≡ next }
+{
+    Session {
+        next,
+        access: 0,
+        span: Span { start: 0, end: 0 },
+        entries: 0,
+    }
+}
+
+// A value that is Mutable {Other}.
+// As an undefined lvalue becomes defined.
+pub const MUTABLE: AbstractValue = AbstractValue {
+    kind: ValueKind::Mutable,
+    reason: 2048,
+};
+
+// Full tables of a state: one entry for each value number, Mutable {Other}, and every value in the set of every identifier.
+pub fn fill_state(values: &mut [u64], sets: &mut [u64]) {
+    for v in 1..1024 {
+        lent_values::put_value(values, v, MUTABLE);
+    }
+    for i in 0..512 {
+        lent_set_writes::put_set(sets, i, &[u64::MAX; 16]);
+    }
+}

@@ -1,5 +1,0 @@
-use Rattle.std.proofs.Common.{◌-◌}
-use Rattle.test_state.proofs.check_set.Given as goal
-
-abbrev pub decreases-loop-v : goal.decreases-loop-v
-decreases-loop-v l = 1024 - l.v

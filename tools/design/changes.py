@@ -1,0 +1,91 @@
+#!/usr/bin/env python3
+"""Writes the last part of docs/DESIGN-PASS.md, from the line '## What changed in contracts' on: what differs from a commit, old beside new.
+
+usage: python3 tools/design/changes.py COMMIT
+"""
+import json
+import os
+import re
+import subprocess
+import sys
+import tempfile
+
+COMMIT = sys.argv[1]
+PAGE = "docs/DESIGN-PASS.md"
+MARK = "## What changed in contracts"
+# Words that are the library's now: a definition that differs by these alone is the same.
+WORDS = {"none": "None", "some": "Some", "Order": "Ordering", "Same": "Equal", "More": "Greater", "Spot": "Result ℕ ℕ", "Found": "Option ℕ", "Entry": "Option AbstractValue", "Nowhere": "None", "Absent": "None", "Present": "Some"}
+
+
+def renamed(text):
+    text = re.sub(r"\((?:Cells\.)?option_of ([\w.]+)\)|(?:Cells\.)?option_of ([\w.]+)", lambda m: m.group(1) or m.group(2), text)
+    text = re.sub(r"(?<![\w\-.'])(\w+)(?![\w\-'])", lambda m: WORDS.get(m.group(1), m.group(1)), text)
+    return re.sub(r"\s+", " ", text)
+
+
+def short(texts):
+    return " ".join(str(t) for t in texts) if isinstance(texts, list) else str(texts)
+
+
+with tempfile.TemporaryDirectory() as folder:
+    archive = subprocess.run(["git", "archive", COMMIT], capture_output=True, check=True).stdout
+    subprocess.run(["tar", "-x", "-C", folder], input=archive, check=True)
+    got = subprocess.run([sys.executable, "/opt/rattle/port/contracts.py", folder, os.getcwd(), "--json"], capture_output=True, text=True).stdout
+r = json.loads(got)
+
+out = [MARK, "", f"Written by `python3 tools/design/changes.py {COMMIT[:7]}`. {len(r['contracts changed'])} contracts and {len(r['signatures changed'])} signatures differ, {r['contracts the same']} contracts are the same; no function has fewer clauses, none is no longer public.", ""]
+
+out += ["### Functions that are no longer there", "", "Each private one went into the body of its caller, and what it promised stands in that caller's contract; the public ones of the libraries are:", "", "| function | what states its promise now |", "|---|---|"]
+NOW = {
+    "base_search compare_numbers": "`cmp` of the library; `base_search` `Laws/Comparings.antt`: `numbers_compared`",
+    "base_search first": "`then` of the library (`ordering_then`, which the definition `first` is)",
+    "lent_slices wide32": "`as usize`",
+    "lent_slices get32": "`lent_slices::get_or`", "lent_slices get64": "`lent_slices::get_or`",
+    "lent_slices set32": "`lent_slices::set`", "lent_slices set64": "`lent_slices::set`",
+    "lent_copies clear32": "`fill` of the library; `lent_copies` `Laws/Copy.antt`: `cleared`", "lent_copies clear64": "the same",
+    "lent_copies copy32": "`lent_copies::copy`", "lent_copies copy64": "`lent_copies::copy`",
+    "lent_values Entry join": "`lent_values::join_entries`", "lent_values Entry or_default": "`lent_values::or_default`",
+    "refuse_instruction is_code": "`==`", "state_calls either": "the language's own or", "state_pairs merged_flag": "the contract of `state_merge_calls::merge`",
+    "call_apply_lent without_session": "the contract of `call_apply_lent::apply`",
+}
+seen = set()
+for row in r["functions not found again"]:
+    crate, path, rest = row.split(" ", 2)
+    name = rest.split(" (")[0]
+    key = f"{crate} {name}"
+    text = subprocess.run(["git", "show", f"{COMMIT}:crates/{crate}/{path}"], capture_output=True, text=True).stdout
+    last = name.split()[-1]
+    if not re.search(rf"pub fn {re.escape(last)}\b", text) or path.endswith("main.rt") or key in seen:
+        continue
+    seen.add(key)
+    out.append(f"| `{crate}::{'::'.join(name.split())}` | {NOW.get(key, 'the contracts of its callers: its body stands there as an operator, a closure or a method of the library')} |")
+gone = r["definitions"]["gone"]
+out += ["", "### Definitions that are no longer there", ""] + [f"- `{' '.join(map(str, g[:2]))}`" for g in gone]
+same = [d for d in r["definitions"]["changed"] if renamed(short(d[-2])) == renamed(short(d[-1]))]
+other = [d for d in r["definitions"]["changed"] if d not in same]
+out += ["", "### Definitions that differ only by the library's words", "", "`None`, `Some`, `Ordering` and `Result` in place of `none`, `some`, `Order`, `Found`, `Entry` and `Spot`, and without `option_of`:", "", ", ".join(f"`{d[0]} {d[1]}`" for d in same) + "."]
+out += ["", "### Other definitions that changed", ""]
+for d in other:
+    out += [f"- `{d[0]} {d[1]}`", "  ```", "  - " + short(d[-2]), "  + " + short(d[-1]), "  ```"]
+out += ["", "### Constants and laws of code", ""]
+for d in r["ghost items and constants"]["changed"]:
+    out.append(f"- `{' '.join(d[:-2])}`: `{short(d[-2])}` → `{short(d[-1])}`")
+for g in r["ghost items and constants"]["gone"]:
+    out.append(f"- `{' '.join(map(str, g))}` is gone")
+out += ["", "### Signatures", ""]
+for name, old, new in r["signatures changed"]:
+    out += [f"- `{name}`", "  ```", "  - " + old, "  + " + new, "  ```"]
+out += ["", "### Contracts", ""]
+for row in r["contracts changed"]:
+    name, parts = row[0], row[1:]
+    out += [f"- `{name}`", "  ```"]
+    for sign, label, clauses in (("-", "requires", parts[0]), ("-", "ensures", parts[1]), ("+", "requires", parts[2]), ("+", "ensures", parts[3])) if len(parts) == 4 else ():
+        for c in clauses:
+            out.append(f"  {sign} {label} {c[0]} {{ {c[1]} }}")
+    out.append("  ```")
+
+page = open(PAGE, encoding="utf-8").read()
+at = page.find(MARK)
+page = (page if at < 0 else page[:at]).rstrip("\n") + "\n\n" + "\n".join(out).rstrip("\n") + "\n"
+open(PAGE, "w", encoding="utf-8").write(page)
+print(f"{len(out)} lines")
