@@ -1,7 +1,9 @@
 #!/usr/bin/env python3
 """Writes the last part of docs/DESIGN-PASS.md, from the line '## What changed in contracts' on: what differs from a commit, old beside new.
 
-usage: python3 tools/design/changes.py COMMIT
+usage: python3 tools/design/changes.py COMMIT CONTRACTS
+
+CONTRACTS is the kit's port/contracts.py, which compares the contracts of two trees.
 """
 import json
 import os
@@ -10,7 +12,7 @@ import subprocess
 import sys
 import tempfile
 
-COMMIT = sys.argv[1]
+COMMIT, CONTRACTS = sys.argv[1:]
 PAGE = "docs/DESIGN-PASS.md"
 MARK = "## What changed in contracts"
 # Words that are the library's now: a definition that differs by these alone is the same.
@@ -30,10 +32,10 @@ def short(texts):
 with tempfile.TemporaryDirectory() as folder:
     archive = subprocess.run(["git", "archive", COMMIT], capture_output=True, check=True).stdout
     subprocess.run(["tar", "-x", "-C", folder], input=archive, check=True)
-    got = subprocess.run([sys.executable, "/opt/rattle/port/contracts.py", folder, os.getcwd(), "--json"], capture_output=True, text=True).stdout
+    got = subprocess.run([sys.executable, CONTRACTS, folder, os.getcwd(), "--json"], capture_output=True, text=True).stdout
 r = json.loads(got)
 
-out = [MARK, "", f"Written by `python3 tools/design/changes.py {COMMIT[:7]}`. {len(r['contracts changed'])} contracts and {len(r['signatures changed'])} signatures differ, {r['contracts the same']} contracts are the same; no function has fewer clauses, none is no longer public.", ""]
+out = [MARK, "", f"Written by `python3 tools/design/changes.py {COMMIT[:7]} CONTRACTS`, where CONTRACTS is the kit's port/contracts.py. {len(r['contracts changed'])} contracts and {len(r['signatures changed'])} signatures differ, {r['contracts the same']} contracts are the same; no function has fewer clauses, none is no longer public.", ""]
 
 out += ["### Functions that are no longer there", "", "Each private one went into the body of its caller, and what it promised stands in that caller's contract; the public ones of the libraries are:", "", "| function | what states its promise now |", "|---|---|"]
 NOW = {
