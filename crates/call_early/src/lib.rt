@@ -16,7 +16,6 @@ use lent_context::name_of;
 use lent_effects::AliasingEffect;
 use lent_layout::{INSIDE, INSIDE_WORDS};
 use lent_sets::is_defined;
-use lent_tables::{field, place_in};
 use lent_work::{Ran, Run};
 use state_ops::kind_of;
 
@@ -88,10 +87,10 @@ pub fn early_all(
         (before values.now sets.now context.old output.old run)
         (after values.now sets.now context.new output.new) result }
 {
-    let n = field(INSIDE, places, 0, 0);
+    let n = INSIDE.field(places, 0, 0);
     let mut now = run;
     for k in 0..n {
-        let p = place_in(INSIDE, places, 0, 1, k);
+        let p = INSIDE.place_in(places, 0, 1, k);
         now = early_error(values, sets, context, output, now, f, p, places)?;
     }
     Ok(now)

@@ -20,7 +20,6 @@ use lent_layout::FUNCTIONS;
 use lent_set_writes::define;
 use lent_sets::is_defined;
 use lent_slices::set;
-use lent_tables::field;
 use lent_values::put_value;
 use lent_work::Run;
 
@@ -45,7 +44,7 @@ pub fn copy_inside(context: &[u32], f: u32, out: &mut [u32])
 {
     set(out, 0, inside_count(context, f));
     for k in 0usize..160 {
-        set(out, 1 + k, field(FUNCTIONS, context, f as usize, 3 + k));
+        set(out, 1 + k, FUNCTIONS.field(context, f as usize, 3 + k));
     }
 }
 

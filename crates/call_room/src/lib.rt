@@ -14,7 +14,6 @@ ghost use Rattle.call_outcome.specs.Calls.{room_for, context_wrong};
 use lent_effects::code_in;
 use lent_layout::{CANDIDATES, CONTEXT_WORDS, EFFECT_WORDS, EFFECTS_FROM};
 use lent_links::interned_count;
-use lent_tables::field;
 
 // How many effects one of a code can derive, and they in turn; captures apart.
 fn derived(code: u32) -> u64
@@ -33,7 +32,7 @@ fn captures_of(xs: &[u32], i: usize, code: u32) -> u32
     ensures { result ≡ ite (eqb code 13) (Words.field Layout.candidate_table xs.now i 17) 0 }
 {
     if code == 13 {
-        field(CANDIDATES, xs, i, 17)
+        CANDIDATES.field(xs, i, 17)
     } else {
         0
     }

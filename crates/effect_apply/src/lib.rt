@@ -25,7 +25,6 @@ use effect_parts::emit;
 use effect_plain::plain;
 use lent_effects::AliasingEffect;
 use lent_layout::{ONE_RUN, RUN_WORDS};
-use lent_tables::{field, place_in};
 use lent_work::{Ran, Run};
 
 // What comes next: nothing, the effect itself is listed, or a derived effect goes through the same step.
@@ -195,10 +194,10 @@ pub fn capture_all(
         (before values.old sets.old context.old output.old run)
         (after values.new sets.new context.new output.new) result }
 {
-    let n = field(ONE_RUN, captures, 0, 0);
+    let n = ONE_RUN.field(captures, 0, 0);
     let mut now = run;
     for k in 0..n {
-        let from = place_in(ONE_RUN, captures, 0, 1, k);
+        let from = ONE_RUN.place_in(captures, 0, 1, k);
         now = apply_effect(
             values,
             sets,

@@ -11,7 +11,6 @@ use def_kinds::ValueKind;
 use lent_effects::copy_captures;
 use lent_layout::{INTERNED, ONE_RUN, RUN_WORDS};
 use lent_slices::set;
-use lent_tables::field;
 
 // The kind of a new function: Mutable if it captures what can be written, has a tracked side effect or a ref in its context, else Frozen.
 pub fn function_kind(written: bool, tracked: bool, refs: bool) -> ValueKind
@@ -29,7 +28,7 @@ fn copy_run(captures: &[u32], out: &mut [u32])
     ensures { length out.old ≡ one_run.width → captures_of out.new ≡ captures_of captures.now }
 {
     for k in 0..RUN_WORDS {
-        set(out, k, field(ONE_RUN, captures, 0, k));
+        set(out, k, ONE_RUN.field(captures, 0, k));
     }
 }
 

@@ -16,7 +16,6 @@ use lent_functions::context_identifier;
 use lent_layout::{CONTEXTS, ONE_RUN, RUN_WORDS};
 use lent_sets::is_defined;
 use lent_slices::set;
-use lent_tables::{field, place_in};
 use state_ops::kind_of;
 
 // Whether any context place of a function is a ref.
@@ -41,7 +40,7 @@ pub fn copy_context(context: &[u32], f: u32, out: &mut [u32])
 {
     set(out, 0, context_count(context, f));
     for k in 0usize..80 {
-        set(out, 1 + k, field(CONTEXTS, context, f as usize, k));
+        set(out, 1 + k, CONTEXTS.field(context, f as usize, k));
     }
 }
 
@@ -77,9 +76,9 @@ pub fn update_places(values: &[u64], sets: &[u64], context: &mut [u32], f: u32, 
         (world values.now sets.now context.old os run)
         ≡ ok tt (world values.now sets.now context.new os run) }
 {
-    let n = field(ONE_RUN, places, 0, 0);
+    let n = ONE_RUN.field(places, 0, 0);
     for k in 0..n {
-        let p = place_in(ONE_RUN, places, 0, 1, k);
+        let p = ONE_RUN.place_in(places, 0, 1, k);
         update_place(values, sets, context, f, p);
     }
 }

@@ -21,7 +21,6 @@ use lent_effects::AliasingEffect;
 use lent_layout::{ONE_RUN, OUTPUT};
 use lent_set_writes::define;
 use lent_sets::is_defined;
-use lent_tables::{field, place_in};
 use lent_values::put_value;
 use lent_work::{Ran, Run, is_marked, mark};
 use state_ops::{after_use, kind_of};
@@ -127,9 +126,9 @@ pub fn any_written(values: &[u64], sets: &[u64], captures: &[u32]) -> bool
         → Step.any_written (captures_of captures.now) (world values.now sets.now cs os run)
         ≡ ok result (world values.now sets.now cs os run) }
 {
-    let n = field(ONE_RUN, captures, 0, 0);
+    let n = ONE_RUN.field(captures, 0, 0);
     for k in 0..n {
-        let p = place_in(ONE_RUN, captures, 0, 1, k);
+        let p = ONE_RUN.place_in(captures, 0, 1, k);
         if is_written(values, sets, p.identifier) {
             return true;
         }

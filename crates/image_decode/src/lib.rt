@@ -18,7 +18,7 @@ use lent_layout::{CONTEXTS, FUNCTION_COUNT, FUNCTIONS, IDENTIFIER_COUNT, IDENTIF
 use lent_set_writes::{add_set, put_set};
 use lent_sets::add_value;
 use lent_slices::set;
-use lent_tables::{Table, put_field, put_place};
+use lent_tables::Table;
 use lent_values::put_value;
 
 // ---- the words of an image
@@ -127,8 +127,7 @@ fn decode_identifier(im: &[u32], k: u32, context: &mut [u32])
     ensures { context.new ≡ decoded_identifier im.now k context.old }
 {
     for j in 0..4 {
-        put_field(
-            IDENTIFIERS,
+        IDENTIFIERS.put_field(
             context,
             k as usize,
             j as usize,
@@ -154,7 +153,7 @@ pub fn put_run(t: Table, xs: &mut [u32], i: usize, w: u32, im: &[u32], first: u3
     ensures { xs.new ≡ put_places t xs.old i w 0 (places_from im.now first n) }
 {
     for k in 0..n {
-        put_place(t, xs, i, w, k, place_of(im, first, k));
+        t.put_place(xs, i, w, k, place_of(im, first, k));
     }
 }
 
@@ -165,9 +164,9 @@ fn decode_counts(im: &[u32], k: u32, context: &mut [u32])
     ensures { context.new ≡ decoded_counts im.now k context.old }
 {
     let i = k as usize;
-    put_field(FUNCTIONS, context, i, 0, cell(im, Section::Functions, k, 0));
-    put_field(FUNCTIONS, context, i, 1, cell(im, Section::Functions, k, 2));
-    put_field(FUNCTIONS, context, i, 2, cell(im, Section::Functions, k, 4));
+    FUNCTIONS.put_field(context, i, 0, cell(im, Section::Functions, k, 0));
+    FUNCTIONS.put_field(context, i, 1, cell(im, Section::Functions, k, 2));
+    FUNCTIONS.put_field(context, i, 2, cell(im, Section::Functions, k, 4));
 }
 
 // Function k is put into a context: flags and counts, the places mutated inside, the context places.

@@ -17,7 +17,6 @@ use image_decode::{kind_at, place_at, put_run};
 use lent_effect_write::put_effect;
 use lent_effects::AliasingEffect;
 use lent_layout::CANDIDATES;
-use lent_tables::{put_field, put_place};
 
 // The diagnostic of candidate k.
 fn diagnostic_at(im: &[u32], k: u32) -> AliasingDiagnostic
@@ -109,10 +108,10 @@ fn decode_creation(im: &[u32], k: u32, xs: &mut [u32])
     let i = k as usize;
     let first = cell(im, Section::Candidates, k, 6);
     let n = cell(im, Section::Candidates, k, 7);
-    put_field(CANDIDATES, xs, i, 0, 13);
-    put_place(CANDIDATES, xs, i, 6, 0, second_at(im, k));
-    put_field(CANDIDATES, xs, i, 14, cell(im, Section::Candidates, k, 5));
-    put_field(CANDIDATES, xs, i, 17, n);
+    CANDIDATES.put_field(xs, i, 0, 13);
+    CANDIDATES.put_place(xs, i, 6, 0, second_at(im, k));
+    CANDIDATES.put_field(xs, i, 14, cell(im, Section::Candidates, k, 5));
+    CANDIDATES.put_field(xs, i, 17, n);
     put_run(CANDIDATES, xs, i, 18, im, first, n);
 }
 

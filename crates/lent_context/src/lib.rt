@@ -11,7 +11,6 @@ ghost use Rattle.lent_context.specs.Lent.{read_place};
 use def_effects::Span;
 use lent_layout::{CONTEXTS, FUNCTIONS, IDENTIFIERS, OPTIONS};
 use lent_slices::get_or;
-use lent_tables::{field, put_field};
 
 // ---- functions
 
@@ -20,7 +19,7 @@ use lent_tables::{field, put_field};
 pub fn context_count(context: &[u32], f: u32) -> u32
     ensures { result ≡ Words.field Layout.functions context.now f 1 }
 {
-    field(FUNCTIONS, context, f as usize, 1)
+    FUNCTIONS.field(context, f as usize, 1)
 }
 
 // Whether a function has a tracked side effect.
@@ -28,7 +27,7 @@ pub fn context_count(context: &[u32], f: u32) -> u32
 pub fn has_tracked_side_effect(context: &[u32], f: u32) -> bool
     ensures { result ≡ Lent.has_tracked_side_effect context.now f }
 {
-    field(FUNCTIONS, context, f as usize, 0) / 2 % 2 == 1
+    FUNCTIONS.field(context, f as usize, 0) / 2 % 2 == 1
 }
 
 // Context place k of a function becomes Read if it is a Capture of identifier i.
@@ -37,13 +36,13 @@ fn read_place(context: &mut [u32], f: u32, i: u32, k: u32)
 {
     let at = f as usize;
     let w = k as usize * 5;
-    if field(CONTEXTS, context, at, w) != i {
+    if CONTEXTS.field(context, at, w) != i {
         return;
     }
-    if field(CONTEXTS, context, at, w + 1) != 3 {
+    if CONTEXTS.field(context, at, w + 1) != 3 {
         return;
     }
-    put_field(CONTEXTS, context, at, w + 1, 2);
+    CONTEXTS.put_field(context, at, w + 1, 2);
 }
 
 // The Capture context places of an identifier become Read, in a function's own copy.
@@ -64,7 +63,7 @@ pub fn make_read(context: &mut [u32], f: u32, i: u32)
 pub fn is_ref(context: &[u32], i: u32) -> bool
     ensures { result ≡ Lent.is_ref context.now i }
 {
-    field(IDENTIFIERS, context, i as usize, 0) % 2 == 1
+    IDENTIFIERS.field(context, i as usize, 0) % 2 == 1
 }
 
 // Whether an identifier is hoisted.
@@ -72,15 +71,15 @@ pub fn is_ref(context: &[u32], i: u32) -> bool
 pub fn is_hoisted(context: &[u32], i: u32) -> bool
     ensures { result ≡ Lent.is_hoisted context.now i }
 {
-    field(IDENTIFIERS, context, i as usize, 0) / 2 % 2 == 1
+    IDENTIFIERS.field(context, i as usize, 0) / 2 % 2 == 1
 }
 
 // The access span of an identifier.
 pub fn access_span(context: &[u32], i: u32) -> Span
     ensures { result ≡ Lent.access_span context.now i }
 {
-    let start = field(IDENTIFIERS, context, i as usize, 2);
-    let end = field(IDENTIFIERS, context, i as usize, 3);
+    let start = IDENTIFIERS.field(context, i as usize, 2);
+    let end = IDENTIFIERS.field(context, i as usize, 3);
     Span { start, end }
 }
 
@@ -89,7 +88,7 @@ pub fn access_span(context: &[u32], i: u32) -> Span
 pub fn name_of(context: &[u32], i: u32) -> u32
     ensures { result ≡ Lent.name_of context.now i }
 {
-    field(IDENTIFIERS, context, i as usize, 1)
+    IDENTIFIERS.field(context, i as usize, 1)
 }
 
 // Whether a freeze is transitive.

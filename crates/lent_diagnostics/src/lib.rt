@@ -10,7 +10,6 @@ ghost use Rattle.lent_diagnostics.specs.Numbered.{interned_of};
 use def_effects::{Diagnostic, Span};
 use lent_layout::{DIAGNOSTIC_COUNT, DIAGNOSTICS};
 use lent_slices::get_or;
-use lent_tables::{field, put_field};
 
 // A record of the table: a diagnostic with its identity.
 #[derive(Clone, Copy)]
@@ -88,16 +87,16 @@ pub fn diagnostic_in(context: &[u32], k: u32) -> Numbered
     ensures { interned_of result ≡ Lent.diagnostic_in context.now k }
 {
     let i = k as usize;
-    let identity = field(DIAGNOSTICS, context, i, 0);
-    let identifier = field(DIAGNOSTICS, context, i, 1);
-    let case = field(DIAGNOSTICS, context, i, 2);
-    let sentence = field(DIAGNOSTICS, context, i, 3);
-    let name = field(DIAGNOSTICS, context, i, 4);
-    let start = field(DIAGNOSTICS, context, i, 5);
-    let end = field(DIAGNOSTICS, context, i, 6);
+    let identity = DIAGNOSTICS.field(context, i, 0);
+    let identifier = DIAGNOSTICS.field(context, i, 1);
+    let case = DIAGNOSTICS.field(context, i, 2);
+    let sentence = DIAGNOSTICS.field(context, i, 3);
+    let name = DIAGNOSTICS.field(context, i, 4);
+    let start = DIAGNOSTICS.field(context, i, 5);
+    let end = DIAGNOSTICS.field(context, i, 6);
     let access = Span { start, end };
-    let own_start = field(DIAGNOSTICS, context, i, 7);
-    let own_end = field(DIAGNOSTICS, context, i, 8);
+    let own_start = DIAGNOSTICS.field(context, i, 7);
+    let own_end = DIAGNOSTICS.field(context, i, 8);
     let own = Span {
         start: own_start,
         end: own_end,
@@ -135,7 +134,7 @@ pub fn identity_count(context: &[u32]) -> u64
     let n = instance_count(context);
     let mut most: u64 = 0;
     for k in 0..n {
-        let identity = field(DIAGNOSTICS, context, k as usize, 0);
+        let identity = DIAGNOSTICS.field(context, k as usize, 0);
         most = larger(identity as u64 + 1, most);
     }
     most
@@ -188,13 +187,13 @@ pub fn put_diagnostic(context: &mut [u32], k: u32, identity: u32, d: Diagnostic)
     ensures { context.new ≡ Lent.put_diagnostic context.old k identity d }
 {
     let i = k as usize;
-    put_field(DIAGNOSTICS, context, i, 0, identity);
-    put_field(DIAGNOSTICS, context, i, 1, d.identifier);
-    put_field(DIAGNOSTICS, context, i, 2, d.case);
-    put_field(DIAGNOSTICS, context, i, 3, d.sentence);
-    put_field(DIAGNOSTICS, context, i, 4, d.name);
-    put_field(DIAGNOSTICS, context, i, 5, d.access.start);
-    put_field(DIAGNOSTICS, context, i, 6, d.access.end);
-    put_field(DIAGNOSTICS, context, i, 7, d.own.start);
-    put_field(DIAGNOSTICS, context, i, 8, d.own.end);
+    DIAGNOSTICS.put_field(context, i, 0, identity);
+    DIAGNOSTICS.put_field(context, i, 1, d.identifier);
+    DIAGNOSTICS.put_field(context, i, 2, d.case);
+    DIAGNOSTICS.put_field(context, i, 3, d.sentence);
+    DIAGNOSTICS.put_field(context, i, 4, d.name);
+    DIAGNOSTICS.put_field(context, i, 5, d.access.start);
+    DIAGNOSTICS.put_field(context, i, 6, d.access.end);
+    DIAGNOSTICS.put_field(context, i, 7, d.own.start);
+    DIAGNOSTICS.put_field(context, i, 8, d.own.end);
 }

@@ -10,7 +10,7 @@ ghost use Rattle.lent_effects.specs.Records.{head_in};
 use def_effects::AliasingDiagnostic;
 use def_kinds::ValueKind;
 use lent_effects::AliasingEffect;
-use lent_tables::{Table, field, place_in};
+use lent_tables::Table;
 
 // The kind of a word; what is no kind reads as MaybeFrozen.
 // A record with such a word is refused before it is used.
@@ -28,8 +28,8 @@ fn kind_of_word(x: u32) -> ValueKind
 fn diagnostic_in(t: Table, xs: &[u32], i: usize) -> AliasingDiagnostic
     ensures { result ≡ Records.diagnostic t xs.now i }
 {
-    let identity = field(t, xs, i, 15);
-    let instance = field(t, xs, i, 16);
+    let identity = t.field(xs, i, 15);
+    let instance = t.field(xs, i, 16);
     AliasingDiagnostic { identity, instance }
 }
 
@@ -38,72 +38,72 @@ fn diagnostic_in(t: Table, xs: &[u32], i: usize) -> AliasingDiagnostic
 pub fn effect_in(t: Table, xs: &[u32], i: usize) -> AliasingEffect
     ensures { result ≡ head_in t xs.now i }
 {
-    let code = field(t, xs, i, 0);
+    let code = t.field(xs, i, 0);
     match code {
         0 => AliasingEffect::Freeze {
-            place: place_in(t, xs, i, 1, 0),
-            reason: field(t, xs, i, 12),
+            place: t.place_in(xs, i, 1, 0),
+            reason: t.field(xs, i, 12),
         },
         1 => AliasingEffect::Mutate {
-            place: place_in(t, xs, i, 1, 0),
-            reason: field(t, xs, i, 13),
+            place: t.place_in(xs, i, 1, 0),
+            reason: t.field(xs, i, 13),
         },
         2 => AliasingEffect::MutateConditionally {
-            place: place_in(t, xs, i, 1, 0),
+            place: t.place_in(xs, i, 1, 0),
         },
         3 => AliasingEffect::MutateTransitive {
-            place: place_in(t, xs, i, 1, 0),
+            place: t.place_in(xs, i, 1, 0),
         },
         4 => AliasingEffect::MutateTransitiveConditionally {
-            place: place_in(t, xs, i, 1, 0),
+            place: t.place_in(xs, i, 1, 0),
         },
         5 => AliasingEffect::Capture {
-            from: place_in(t, xs, i, 1, 0),
-            into: place_in(t, xs, i, 6, 0),
+            from: t.place_in(xs, i, 1, 0),
+            into: t.place_in(xs, i, 6, 0),
         },
         6 => AliasingEffect::Alias {
-            from: place_in(t, xs, i, 1, 0),
-            into: place_in(t, xs, i, 6, 0),
+            from: t.place_in(xs, i, 1, 0),
+            into: t.place_in(xs, i, 6, 0),
         },
         7 => AliasingEffect::MaybeAlias {
-            from: place_in(t, xs, i, 1, 0),
-            into: place_in(t, xs, i, 6, 0),
+            from: t.place_in(xs, i, 1, 0),
+            into: t.place_in(xs, i, 6, 0),
         },
         8 => AliasingEffect::Assign {
-            from: place_in(t, xs, i, 1, 0),
-            into: place_in(t, xs, i, 6, 0),
+            from: t.place_in(xs, i, 1, 0),
+            into: t.place_in(xs, i, 6, 0),
         },
         9 => AliasingEffect::Create {
-            into: place_in(t, xs, i, 6, 0),
-            kind: kind_of_word(field(t, xs, i, 11)),
-            reason: field(t, xs, i, 12),
+            into: t.place_in(xs, i, 6, 0),
+            kind: kind_of_word(t.field(xs, i, 11)),
+            reason: t.field(xs, i, 12),
         },
         10 => AliasingEffect::CreateFrom {
-            from: place_in(t, xs, i, 1, 0),
-            into: place_in(t, xs, i, 6, 0),
+            from: t.place_in(xs, i, 1, 0),
+            into: t.place_in(xs, i, 6, 0),
         },
         11 => AliasingEffect::ImmutableCapture {
-            from: place_in(t, xs, i, 1, 0),
-            into: place_in(t, xs, i, 6, 0),
+            from: t.place_in(xs, i, 1, 0),
+            into: t.place_in(xs, i, 6, 0),
         },
         13 => AliasingEffect::CreateFunction {
-            function: field(t, xs, i, 14),
-            into: place_in(t, xs, i, 6, 0),
+            function: t.field(xs, i, 14),
+            into: t.place_in(xs, i, 6, 0),
         },
         14 => AliasingEffect::MutateFrozen {
-            place: place_in(t, xs, i, 1, 0),
+            place: t.place_in(xs, i, 1, 0),
             error: diagnostic_in(t, xs, i),
         },
         15 => AliasingEffect::MutateGlobal {
-            place: place_in(t, xs, i, 1, 0),
+            place: t.place_in(xs, i, 1, 0),
             error: diagnostic_in(t, xs, i),
         },
         16 => AliasingEffect::Impure {
-            place: place_in(t, xs, i, 1, 0),
+            place: t.place_in(xs, i, 1, 0),
             error: diagnostic_in(t, xs, i),
         },
         _ => AliasingEffect::Render {
-            place: place_in(t, xs, i, 1, 0),
+            place: t.place_in(xs, i, 1, 0),
         },
     }
 }

@@ -10,7 +10,7 @@ use def_effects::{AliasingDiagnostic, Place};
 use def_kinds::ValueKind;
 use lent_effects::{AliasingEffect, kind_word, put_captures, put_one, put_two};
 use lent_layout::ONE_RUN;
-use lent_tables::{Table, field, put_field, put_place};
+use lent_tables::Table;
 
 // A code, a place and a diagnostic are written as record i.
 // Both numbers of the diagnostic stand in the record.
@@ -18,8 +18,8 @@ fn put_reported(t: Table, xs: &mut [u32], i: usize, code: u32, p: Place, d: Alia
     ensures { xs.new ≡ Records.reported t xs.old i code p d }
 {
     put_one(t, xs, i, code, p);
-    put_field(t, xs, i, 15, d.identity);
-    put_field(t, xs, i, 16, d.instance);
+    t.put_field(xs, i, 15, d.identity);
+    t.put_field(xs, i, 16, d.instance);
 }
 
 // A Create is written as record i.
@@ -27,10 +27,10 @@ fn put_reported(t: Table, xs: &mut [u32], i: usize, code: u32, p: Place, d: Alia
 fn put_create(t: Table, xs: &mut [u32], i: usize, into: Place, kind: ValueKind, reason: u32)
     ensures { xs.new ≡ put_effect t xs.old i (Create into kind reason) }
 {
-    put_field(t, xs, i, 0, 9);
-    put_place(t, xs, i, 6, 0, into);
-    put_field(t, xs, i, 11, kind_word(kind));
-    put_field(t, xs, i, 12, reason);
+    t.put_field(xs, i, 0, 9);
+    t.put_place(xs, i, 6, 0, into);
+    t.put_field(xs, i, 11, kind_word(kind));
+    t.put_field(xs, i, 12, reason);
 }
 
 // A CreateFunction is written as record i, with its captures.
@@ -38,10 +38,10 @@ fn put_create(t: Table, xs: &mut [u32], i: usize, into: Place, kind: ValueKind, 
 fn put_function(t: Table, xs: &mut [u32], i: usize, function: u32, into: Place, captures: &[u32])
     ensures { xs.new ≡ put_effect t xs.old i (CreateFunction (captures_of captures.now) function into) }
 {
-    put_field(t, xs, i, 0, 13);
-    put_place(t, xs, i, 6, 0, into);
-    put_field(t, xs, i, 14, function);
-    put_field(t, xs, i, 17, field(ONE_RUN, captures, 0, 0));
+    t.put_field(xs, i, 0, 13);
+    t.put_place(xs, i, 6, 0, into);
+    t.put_field(xs, i, 14, function);
+    t.put_field(xs, i, 17, ONE_RUN.field(captures, 0, 0));
     put_captures(t, xs, i, captures);
 }
 
@@ -53,11 +53,11 @@ pub fn put_effect(t: Table, xs: &mut [u32], i: usize, e: AliasingEffect, capture
     match e {
         AliasingEffect::Freeze { place, reason } => {
             put_one(t, xs, i, 0, place);
-            put_field(t, xs, i, 12, reason);
+            t.put_field(xs, i, 12, reason);
         }
         AliasingEffect::Mutate { place, reason } => {
             put_one(t, xs, i, 1, place);
-            put_field(t, xs, i, 13, reason);
+            t.put_field(xs, i, 13, reason);
         }
         AliasingEffect::MutateConditionally { place } => put_one(t, xs, i, 2, place),
         AliasingEffect::MutateTransitive { place } => put_one(t, xs, i, 3, place),

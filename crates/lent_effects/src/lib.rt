@@ -13,7 +13,7 @@ use def_effects::{AliasingDiagnostic, Place};
 use def_kinds::ValueKind;
 use lent_layout::{ONE_RUN, RUN_WORDS};
 use lent_slices::set;
-use lent_tables::{Table, field, place_in, put_field, put_place};
+use lent_tables::Table;
 
 // An effect, without the captures of a CreateFunction: AliasingEffect of the Rust.
 // Places come in the order from, into; a mutation reason is 0 for none, else 1 + its place in MutationReason.
@@ -99,7 +99,7 @@ pub fn kind_word(k: ValueKind) -> u32
 pub fn code_in(t: Table, xs: &[u32], i: usize) -> u32
     ensures { result ≡ code_of (effect_in t xs.now i) }
 {
-    let code = field(t, xs, i, 0);
+    let code = t.field(xs, i, 0);
     if code > 17 {
         return 17;
     }
@@ -114,8 +114,8 @@ pub fn code_in(t: Table, xs: &[u32], i: usize) -> u32
 pub fn put_one(t: Table, xs: &mut [u32], i: usize, code: u32, p: Place)
     ensures { xs.new ≡ Records.one_place t xs.old i code p }
 {
-    put_field(t, xs, i, 0, code);
-    put_place(t, xs, i, 1, 0, p);
+    t.put_field(xs, i, 0, code);
+    t.put_place(xs, i, 1, 0, p);
 }
 
 // A code and two places are written as record i.
@@ -123,7 +123,7 @@ pub fn put_two(t: Table, xs: &mut [u32], i: usize, code: u32, from: Place, into:
     ensures { xs.new ≡ Records.two_places t xs.old i code from into }
 {
     put_one(t, xs, i, code, from);
-    put_place(t, xs, i, 6, 0, into);
+    t.put_place(xs, i, 6, 0, into);
 }
 
 // The places of captures are written from word 18 of record i on.
@@ -131,9 +131,9 @@ pub fn put_two(t: Table, xs: &mut [u32], i: usize, code: u32, from: Place, into:
 pub fn put_captures(t: Table, xs: &mut [u32], i: usize, captures: &[u32])
     ensures { xs.new ≡ put_places t xs.old i 18 0 (captures_of captures.now) }
 {
-    let n = field(ONE_RUN, captures, 0, 0);
+    let n = ONE_RUN.field(captures, 0, 0);
     for k in 0..n {
-        put_place(t, xs, i, 18, k, place_in(ONE_RUN, captures, 0, 1, k));
+        t.put_place(xs, i, 18, k, ONE_RUN.place_in(captures, 0, 1, k));
     }
 }
 
@@ -143,6 +143,6 @@ pub fn copy_captures(t: Table, xs: &[u32], i: usize, out: &mut [u32])
     ensures { out.new ≡ copied_captures t xs.now i out.old }
 {
     for k in 0..RUN_WORDS {
-        set(out, k, field(t, xs, i, 17 + k));
+        set(out, k, t.field(xs, i, 17 + k));
     }
 }

@@ -8,13 +8,12 @@ ghost use Rattle.lent_layout.specs.Layout as Layout;
 
 use def_effects::Place;
 use lent_layout::{CONTEXTS, FUNCTIONS};
-use lent_tables::{field, place_in};
 
 // Context place k of a function, from its own copy.
 pub fn context_place(context: &[u32], f: u32, k: u32) -> Place
     ensures { result ≡ place_in Layout.contexts context.now f (0 + k * 5) }
 {
-    place_in(CONTEXTS, context, f as usize, 0, k)
+    CONTEXTS.place_in(context, f as usize, 0, k)
 }
 
 // The identifier of context place k of a function.
@@ -22,7 +21,7 @@ pub fn context_place(context: &[u32], f: u32, k: u32) -> Place
 pub fn context_identifier(context: &[u32], f: u32, k: u32) -> u32
     ensures { result ≡ Words.field Layout.contexts context.now f (k * 5) }
 {
-    field(CONTEXTS, context, f as usize, k as usize * 5)
+    CONTEXTS.field(context, f as usize, k as usize * 5)
 }
 
 // How many places a function mutates inside.
@@ -30,7 +29,7 @@ pub fn context_identifier(context: &[u32], f: u32, k: u32) -> u32
 pub fn inside_count(context: &[u32], f: u32) -> u32
     ensures { result ≡ Words.field Layout.functions context.now f 2 }
 {
-    field(FUNCTIONS, context, f as usize, 2)
+    FUNCTIONS.field(context, f as usize, 2)
 }
 
 // Place k of those that a function mutates inside.
@@ -38,5 +37,5 @@ pub fn inside_count(context: &[u32], f: u32) -> u32
 pub fn inside_place(context: &[u32], f: u32, k: u32) -> Place
     ensures { result ≡ place_in Layout.functions context.now f (3 + k * 5) }
 {
-    place_in(FUNCTIONS, context, f as usize, 3, k)
+    FUNCTIONS.place_in(context, f as usize, 3, k)
 }

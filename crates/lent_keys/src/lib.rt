@@ -10,7 +10,7 @@ ghost use Rattle.lent_keys.specs.KeyRecords.{key_with, numbers_in, put_numbers, 
 ghost use Rattle.lent_layout.specs.Layout.{one_run};
 
 use lent_layout::ONE_RUN;
-use lent_tables::{Table, field, put_field};
+use lent_tables::Table;
 
 // The key of an effect (`effect_key` of the Rust), without the identifiers of its captures.
 // What a key does not hold is absent or 0. Keys are compared part by part as they stand here; whether one has captures goes by its code.
@@ -33,7 +33,7 @@ pub struct Key {
 pub fn number_in(t: Table, xs: &[u32], i: usize, w: u32, s: u32, k: u32) -> u32
     ensures { result ≡ Words.field t xs.now i (w + k * s) }
 {
-    field(t, xs, i, w as usize + (k as usize) * (s as usize))
+    t.field(xs, i, w as usize + (k as usize) * (s as usize))
 }
 
 // How many captures a key has, of those that stand beside it.
@@ -54,10 +54,10 @@ pub fn taken(has: bool, n: u32) -> u32
 pub fn option_in(t: Table, xs: &[u32], i: usize, w: u32) -> Option<u32>
     ensures { result ≡ option_in t xs.now i w }
 {
-    if field(t, xs, i, w as usize) == 0 {
+    if t.field(xs, i, w as usize) == 0 {
         return None;
     }
-    Some(field(t, xs, i, w as usize + 1))
+    Some(t.field(xs, i, w as usize + 1))
 }
 
 // A number that may be absent is written at word w of record i.
@@ -67,12 +67,12 @@ pub fn put_option(t: Table, xs: &mut [u32], i: usize, w: u32, o: Option<u32>)
 {
     match o {
         None => {
-            put_field(t, xs, i, w as usize, 0);
-            put_field(t, xs, i, w as usize + 1, 0);
+            t.put_field(xs, i, w as usize, 0);
+            t.put_field(xs, i, w as usize + 1, 0);
         }
         Some(n) => {
-            put_field(t, xs, i, w as usize, 1);
-            put_field(t, xs, i, w as usize + 1, n);
+            t.put_field(xs, i, w as usize, 1);
+            t.put_field(xs, i, w as usize + 1, n);
         }
     }
 }
@@ -82,13 +82,13 @@ pub fn put_option(t: Table, xs: &mut [u32], i: usize, w: u32, o: Option<u32>)
 pub fn head_in(t: Table, xs: &[u32], i: usize) -> Key
     ensures { (is : List ℕ) → key_with result is ≡ key_head_in t xs.now i is }
 {
-    let code = field(t, xs, i, 1);
+    let code = t.field(xs, i, 1);
     let from = option_in(t, xs, i, 2);
     let into = option_in(t, xs, i, 4);
-    let kind = field(t, xs, i, 6);
-    let reason = field(t, xs, i, 7);
+    let kind = t.field(xs, i, 6);
+    let reason = t.field(xs, i, 7);
     let function = option_in(t, xs, i, 8);
-    let identity = field(t, xs, i, 10);
+    let identity = t.field(xs, i, 10);
     Key {
         code,
         from,
@@ -108,7 +108,7 @@ fn put_identifiers(t: Table, xs: &mut [u32], i: usize, captures: &[u32], n: u32)
 {
     for k in 0..n {
         let x = number_in(ONE_RUN, captures, 0, 1, 5, k);
-        put_field(t, xs, i, 12 + (k as usize), x);
+        t.put_field(xs, i, 12 + (k as usize), x);
     }
 }
 
@@ -117,17 +117,17 @@ fn put_identifiers(t: Table, xs: &mut [u32], i: usize, captures: &[u32], n: u32)
 fn put_head(t: Table, xs: &mut [u32], i: usize, key: Key)
     ensures { xs.new ≡ put_head t xs.old i (key_with key []) }
 {
-    put_field(t, xs, i, 0, 1);
-    put_field(t, xs, i, 1, key.code);
+    t.put_field(xs, i, 0, 1);
+    t.put_field(xs, i, 1, key.code);
     let from = key.from;
     put_option(t, xs, i, 2, from);
     let into = key.into;
     put_option(t, xs, i, 4, into);
-    put_field(t, xs, i, 6, key.kind);
-    put_field(t, xs, i, 7, key.reason);
+    t.put_field(xs, i, 6, key.kind);
+    t.put_field(xs, i, 7, key.reason);
     let function = key.function;
     put_option(t, xs, i, 8, function);
-    put_field(t, xs, i, 10, key.identity);
+    t.put_field(xs, i, 10, key.identity);
 }
 
 // A key is written as record i, with the identifiers of its captures.
@@ -135,8 +135,8 @@ fn put_head(t: Table, xs: &mut [u32], i: usize, key: Key)
 pub fn put_key(t: Table, xs: &mut [u32], i: usize, key: Key, captures: &[u32])
     ensures { xs.new ≡ put_key t xs.old i (key_with key (identifiers (captures_of captures.now))) }
 {
-    let n = taken(key.captured, field(ONE_RUN, captures, 0, 0));
+    let n = taken(key.captured, ONE_RUN.field(captures, 0, 0));
     put_head(t, xs, i, key);
-    put_field(t, xs, i, 11, n);
+    t.put_field(xs, i, 11, n);
     put_identifiers(t, xs, i, captures, n);
 }

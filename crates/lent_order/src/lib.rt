@@ -5,14 +5,14 @@
 ghost use Rattle.std.specs.Prelude.{◌≡◌};
 ghost use Rattle.lent_order.specs.Order.{order_at, inserted};
 
-use lent_tables::{Table, field, put_field};
+use lent_tables::Table;
 
 // The record that comes j-th.
 // Past the table's end it is 0.
 pub fn order_at(t: Table, xs: &[u32], j: u32) -> u32
     ensures { result ≡ order_at t xs.now j }
 {
-    field(t, xs, j as usize, 0)
+    t.field(xs, j as usize, 0)
 }
 
 // Record r comes p-th of n + 1: those from p on move up by one, from the last one down.
@@ -21,9 +21,9 @@ pub fn insert(t: Table, xs: &mut [u32], n: u32, p: u32, r: u32)
 {
     let mut k = n;
     while k > p {
-        let x = field(t, xs, (k - 1) as usize, 0);
-        put_field(t, xs, k as usize, 0, x);
+        let x = t.field(xs, (k - 1) as usize, 0);
+        t.put_field(xs, k as usize, 0, x);
         k -= 1;
     }
-    put_field(t, xs, p as usize, 0, r);
+    t.put_field(xs, p as usize, 0, r);
 }

@@ -21,7 +21,6 @@ use lent_keys::{Key, head_in, taken};
 use lent_layout::{CACHED, EFFECT_ORDER, INTERNED, KEY_ORDER, ONE_RUN};
 use lent_links::{interned_count, key_count};
 use lent_order::order_at;
-use lent_tables::field;
 use std::cmp::Ordering;
 
 // A key against that of interned effect k; the key's captures stand beside it, the record's in the record.
@@ -37,8 +36,8 @@ pub fn compare_effect(context: &[u32], k: u32, key: Key, captures: &[u32]) -> Or
     match heads {
         Ordering::Less => Ordering::Less,
         Ordering::Equal => {
-            let n = taken(key.captured, field(ONE_RUN, captures, 0, 0));
-            let m = taken(other.captured, field(INTERNED, context, i, 17));
+            let n = taken(key.captured, ONE_RUN.field(captures, 0, 0));
+            let m = taken(other.captured, INTERNED.field(context, i, 17));
             compare_runs(
                 ONE_RUN, captures, 0, 1, 5, n, INTERNED, context, i, 18, 5, m,
             )
@@ -103,8 +102,8 @@ pub fn compare_key(context: &[u32], v: u32, key: Key, captures: &[u32]) -> Order
     match heads {
         Ordering::Less => Ordering::Less,
         Ordering::Equal => {
-            let n = taken(key.captured, field(ONE_RUN, captures, 0, 0));
-            let m = field(CACHED, context, i, 11);
+            let n = taken(key.captured, ONE_RUN.field(captures, 0, 0));
+            let m = CACHED.field(context, i, 11);
             compare_runs(ONE_RUN, captures, 0, 1, 5, n, CACHED, context, i, 12, 1, m)
         }
         Ordering::Greater => Ordering::Greater,
@@ -133,7 +132,7 @@ pub fn number_at(context: &[u32], spot: Result<u32, u32>) -> Option<u32>
     match spot {
         Ok(j) => {
             let v = order_at(KEY_ORDER, context, j);
-            if field(CACHED, context, v as usize, 0) == 0 {
+            if CACHED.field(context, v as usize, 0) == 0 {
                 return None;
             }
             Some(v)

@@ -17,62 +17,64 @@ pub struct Table {
     pub width: u32,
 }
 
-// Word w of record i, 0 where the table has no such word.
-// Reading is total: a large number does not lead into the next table.
-pub fn field(t: Table, xs: &[u32], i: usize, w: usize) -> u32
-    ensures { result ≡ field t xs.now i w }
-{
-    if i >= (t.count as usize) {
-        return 0;
+impl Table {
+    // Word w of record i, 0 where the table has no such word.
+    // Reading is total: a large number does not lead into the next table.
+    pub fn field(self, xs: &[u32], i: usize, w: usize) -> u32
+        ensures { result ≡ field self xs.now i w }
+    {
+        if i >= (self.count as usize) {
+            return 0;
+        }
+        if w >= (self.width as usize) {
+            return 0;
+        }
+        get_or(xs, self.base as usize + i * (self.width as usize) + w, 0)
     }
-    if w >= (t.width as usize) {
-        return 0;
-    }
-    get_or(xs, t.base as usize + i * (t.width as usize) + w, 0)
-}
 
-// Word w of record i becomes x; nothing changes where the table has no such word.
-pub fn put_field(t: Table, xs: &mut [u32], i: usize, w: usize, x: u32)
-    ensures { xs.new ≡ put_field t xs.old i w x }
-{
-    if i >= (t.count as usize) {
-        return;
+    // Word w of record i becomes x; nothing changes where the table has no such word.
+    pub fn put_field(self, xs: &mut [u32], i: usize, w: usize, x: u32)
+        ensures { xs.new ≡ put_field self xs.old i w x }
+    {
+        if i >= (self.count as usize) {
+            return;
+        }
+        if w >= (self.width as usize) {
+            return;
+        }
+        set(xs, self.base as usize + i * (self.width as usize) + w, x);
     }
-    if w >= (t.width as usize) {
-        return;
-    }
-    set(xs, t.base as usize + i * (t.width as usize) + w, x);
-}
 
-// Place k of a run of places that begins at word `first` of record i.
-// A single place is place 0 of its run.
-pub fn place_in(t: Table, xs: &[u32], i: usize, first: u32, k: u32) -> Place
-    ensures { result ≡ place_in t xs.now i (first + k * 5) }
-{
-    let w = first as usize + (k as usize) * 5;
-    let identifier = field(t, xs, i, w);
-    let effect = field(t, xs, i, w + 1);
-    let reactive = field(t, xs, i, w + 2);
-    let start = field(t, xs, i, w + 3);
-    let end = field(t, xs, i, w + 4);
-    let span = Span { start, end };
-    Place {
-        identifier,
-        effect,
-        reactive,
-        span,
+    // Place k of a run of places that begins at word `first` of record i.
+    // A single place is place 0 of its run.
+    pub fn place_in(self, xs: &[u32], i: usize, first: u32, k: u32) -> Place
+        ensures { result ≡ place_in self xs.now i (first + k * 5) }
+    {
+        let w = first as usize + (k as usize) * 5;
+        let identifier = self.field(xs, i, w);
+        let effect = self.field(xs, i, w + 1);
+        let reactive = self.field(xs, i, w + 2);
+        let start = self.field(xs, i, w + 3);
+        let end = self.field(xs, i, w + 4);
+        let span = Span { start, end };
+        Place {
+            identifier,
+            effect,
+            reactive,
+            span,
+        }
     }
-}
 
-// Place k of a run of places is written.
-// Of its five words those that the record has no room for are not written.
-pub fn put_place(t: Table, xs: &mut [u32], i: usize, first: u32, k: u32, p: Place)
-    ensures { xs.new ≡ put_place t xs.old i (first + k * 5) p }
-{
-    let w = first as usize + (k as usize) * 5;
-    put_field(t, xs, i, w, p.identifier);
-    put_field(t, xs, i, w + 1, p.effect);
-    put_field(t, xs, i, w + 2, p.reactive);
-    put_field(t, xs, i, w + 3, p.span.start);
-    put_field(t, xs, i, w + 4, p.span.end);
+    // Place k of a run of places is written.
+    // Of its five words those that the record has no room for are not written.
+    pub fn put_place(self, xs: &mut [u32], i: usize, first: u32, k: u32, p: Place)
+        ensures { xs.new ≡ put_place self xs.old i (first + k * 5) p }
+    {
+        let w = first as usize + (k as usize) * 5;
+        self.put_field(xs, i, w, p.identifier);
+        self.put_field(xs, i, w + 1, p.effect);
+        self.put_field(xs, i, w + 2, p.reactive);
+        self.put_field(xs, i, w + 3, p.span.start);
+        self.put_field(xs, i, w + 4, p.span.end);
+    }
 }

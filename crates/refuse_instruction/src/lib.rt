@@ -15,7 +15,7 @@ use def_effects::Place;
 use def_refusals::{Refusal, Verdict};
 use lent_diagnostics::instance_count;
 use lent_layout::{CANDIDATES, DIAGNOSTICS, EFFECT_WORDS};
-use lent_tables::{Table, field};
+use lent_tables::Table;
 use refuse_class::lower;
 use refuse_words::{
     ANY, earns, lowest, place_limit, record_class, run_limit, stray_from, used_if, word_class,
@@ -131,11 +131,11 @@ fn place_words(t: Table, xs: &[u32], i: usize, first: u32, u: bool, identifiers:
     ensures { class_of result ≡ lowest_below 5 (place_word t xs.now i first (ite u 1 0) identifiers) }
 {
     let w = first as usize;
-    let a = field(t, xs, i, w);
-    let b = field(t, xs, i, w + 1);
-    let c = field(t, xs, i, w + 2);
-    let d = field(t, xs, i, w + 3);
-    let e = field(t, xs, i, w + 4);
+    let a = t.field(xs, i, w);
+    let b = t.field(xs, i, w + 1);
+    let c = t.field(xs, i, w + 2);
+    let d = t.field(xs, i, w + 3);
+    let e = t.field(xs, i, w + 4);
     let identifier = word_class(used_if(u, place_limit(identifiers, 0)), a);
     let effect = word_class(used_if(u, place_limit(identifiers, 1)), b);
     let reactive = word_class(used_if(u, place_limit(identifiers, 2)), c);
@@ -160,31 +160,31 @@ fn middle_words(
 {
     let kind = word_class(
         middle_limit(functions, diagnostics, code, 0),
-        field(t, xs, i, 11),
+        t.field(xs, i, 11),
     );
     let reason = word_class(
         middle_limit(functions, diagnostics, code, 1),
-        field(t, xs, i, 12),
+        t.field(xs, i, 12),
     );
     let mutation = word_class(
         middle_limit(functions, diagnostics, code, 2),
-        field(t, xs, i, 13),
+        t.field(xs, i, 13),
     );
     let function = word_class(
         middle_limit(functions, diagnostics, code, 3),
-        field(t, xs, i, 14),
+        t.field(xs, i, 14),
     );
     let identity = word_class(
         middle_limit(functions, diagnostics, code, 4),
-        field(t, xs, i, 15),
+        t.field(xs, i, 15),
     );
     let instance = word_class(
         middle_limit(functions, diagnostics, code, 5),
-        field(t, xs, i, 16),
+        t.field(xs, i, 16),
     );
     let count = word_class(
         middle_limit(functions, diagnostics, code, 6),
-        field(t, xs, i, 17),
+        t.field(xs, i, 17),
     );
     lower(
         kind,
@@ -211,7 +211,7 @@ fn head_words(
 ) -> Verdict
     ensures { class_of result ≡ words_below t xs.now (effect_limit identifiers functions diagnostics code n) i 18 }
 {
-    let tag = word_class(Some(18), field(t, xs, i, 0));
+    let tag = word_class(Some(18), t.field(xs, i, 0));
     let first = place_words(t, xs, i, 1, uses_place(code), identifiers);
     let second = place_words(t, xs, i, 6, uses_destination(code), identifiers);
     let rest = middle_words(t, xs, i, functions, diagnostics, code);
@@ -257,7 +257,7 @@ fn numbers_class(context: &[u32], code: u32, identity: u32, instance: u32) -> Ve
 {
     earns(
         Refusal::Range,
-        uses_diagnostic(code) && identity != field(DIAGNOSTICS, context, instance as usize, 0),
+        uses_diagnostic(code) && identity != DIAGNOSTICS.field(context, instance as usize, 0),
     )
 }
 
@@ -274,14 +274,14 @@ pub fn effect_class(
 ) -> Verdict
     ensures { class_of result ≡ effect_class identifiers functions context.now (class_of apply) t xs.now i }
 {
-    let code = field(t, xs, i, 0);
+    let code = t.field(xs, i, 0);
     if code == 12 {
         return apply;
     }
-    let n = field(t, xs, i, 17);
+    let n = t.field(xs, i, 17);
     let diagnostics = instance_count(context);
     let words = effect_words(t, xs, i, identifiers, functions, diagnostics, code, n);
-    let numbers = numbers_class(context, code, field(t, xs, i, 15), field(t, xs, i, 16));
+    let numbers = numbers_class(context, code, t.field(xs, i, 15), t.field(xs, i, 16));
     lower(count_class(code, n), lower(words, numbers))
 }
 

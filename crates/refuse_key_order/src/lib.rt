@@ -20,7 +20,6 @@ use lent_keys::head_in;
 use lent_layout::{CACHED, KEY_ORDER};
 use lent_links::key_count;
 use lent_order::order_at;
-use lent_tables::field;
 use refuse_class::lower;
 use refuse_order::is_less;
 use refuse_words::{earns, lowest, stray_after, word_class};
@@ -37,8 +36,8 @@ fn compare_cached(context: &[u32], a: u32, b: u32) -> Ordering
     match heads {
         Ordering::Less => Ordering::Less,
         Ordering::Equal => {
-            let n = field(CACHED, context, i, 11);
-            let m = field(CACHED, context, j, 11);
+            let n = CACHED.field(context, i, 11);
+            let m = CACHED.field(context, j, 11);
             compare_runs(CACHED, context, i, 12, 1, n, CACHED, context, j, 12, 1, m)
         }
         Ordering::Greater => Ordering::Greater,
@@ -50,7 +49,7 @@ fn compare_cached(context: &[u32], a: u32, b: u32) -> Ordering
 fn is_keyed(context: &[u32], v: u32) -> bool
     ensures { result ≡ Lent.is_keyed context.now v }
 {
-    field(CACHED, context, v as usize, 0) != 0
+    CACHED.field(context, v as usize, 0) != 0
 }
 
 // How many of the numbers below m have a key.

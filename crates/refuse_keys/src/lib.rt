@@ -8,7 +8,6 @@ ghost use Rattle.refuse_tables.specs.TableClasses.{key_uses, key_head_limit, key
 
 use def_refusals::{Refusal, Verdict};
 use lent_layout::CACHED;
-use lent_tables::field;
 use refuse_class::lower;
 use refuse_words::{ANY, earns, record_class, used_if};
 
@@ -91,11 +90,11 @@ fn key_lacks(code: u32, source: u32, destination: u32, function: u32) -> bool
 pub fn key_class(context: &[u32], v: usize, identifiers: u32, functions: u32) -> Verdict
     ensures { class_of result ≡ key_class identifiers functions context.now v }
 {
-    let code = field(CACHED, context, v, 1);
-    let source = field(CACHED, context, v, 2);
-    let destination = field(CACHED, context, v, 4);
-    let function = field(CACHED, context, v, 8);
-    let n = field(CACHED, context, v, 11);
+    let code = CACHED.field(context, v, 1);
+    let source = CACHED.field(context, v, 2);
+    let destination = CACHED.field(context, v, 4);
+    let function = CACHED.field(context, v, 8);
+    let n = CACHED.field(context, v, 11);
     let words = record_class(
         CACHED,
         context,

@@ -19,7 +19,6 @@ use lent_keys::taken;
 use lent_layout::{EFFECT_ORDER, INTERNED};
 use lent_links::interned_count;
 use lent_order::order_at;
-use lent_tables::field;
 use refuse_class::lower;
 use refuse_words::{earns, lowest, stray_after, word_class};
 use std::cmp::Ordering;
@@ -37,8 +36,8 @@ pub fn compare_records(context: &[u32], a: u32, b: u32) -> Ordering
     match heads {
         Ordering::Less => Ordering::Less,
         Ordering::Equal => {
-            let n = taken(key.captured, field(INTERNED, context, i, 17));
-            let m = taken(other.captured, field(INTERNED, context, j, 17));
+            let n = taken(key.captured, INTERNED.field(context, i, 17));
+            let m = taken(other.captured, INTERNED.field(context, j, 17));
             compare_runs(
                 INTERNED, context, i, 18, 5, n, INTERNED, context, j, 18, 5, m,
             )

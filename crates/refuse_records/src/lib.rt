@@ -9,7 +9,6 @@ ghost use Rattle.refuse_records.specs.Accepting.{too_many_captures, cached_class
 
 use def_refusals::{Refusal, Verdict};
 use lent_layout::{CACHED, INTERNED};
-use lent_tables::field;
 use refuse_instruction::effect_class;
 use refuse_keys::{key_class, no_key_class};
 use refuse_repeats::diagnostic_twice;
@@ -22,7 +21,7 @@ use refuse_words::{earns, lowest};
 fn too_many_captures(context: &[u32], v: usize) -> bool
     ensures { result ≡ too_many_captures context.now v }
 {
-    field(CACHED, context, v, 1) == 13 && field(CACHED, context, v, 11) > 16
+    CACHED.field(context, v, 1) == 13 && CACHED.field(context, v, 11) > 16
 }
 
 // What a cached number earns: no key at all, or one that is right.
@@ -30,7 +29,7 @@ fn too_many_captures(context: &[u32], v: usize) -> bool
 fn cached_class(context: &[u32], v: usize, identifiers: u32, functions: u32) -> Verdict
     ensures { class_of result ≡ cached_class identifiers functions context.now v }
 {
-    if v == 0 || field(CACHED, context, v, 0) == 0 {
+    if v == 0 || CACHED.field(context, v, 0) == 0 {
         return no_key_class(context, v);
     }
     if too_many_captures(context, v) {

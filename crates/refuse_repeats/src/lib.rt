@@ -11,7 +11,6 @@ ghost use Rattle.refuse_repeats.specs.Repeats.{diagnostic_twice};
 use def_effects::Diagnostic;
 use lent_diagnostics::{diagnostic_in, is_instance, larger, same_identity};
 use lent_layout::DIAGNOSTICS;
-use lent_tables::field;
 
 // How many identities the first n diagnostics have: one more than the highest.
 // Any words are read, so the number is as wide as one more than a word needs.
@@ -20,7 +19,7 @@ fn identities_before(context: &[u32], n: u32) -> u64
 {
     let mut most: u64 = 0;
     for k in 0..n {
-        let identity = field(DIAGNOSTICS, context, k as usize, 0);
+        let identity = DIAGNOSTICS.field(context, k as usize, 0);
         most = larger(identity as u64 + 1, most);
     }
     most

@@ -10,7 +10,6 @@ ghost use Rattle.refuse_tables.specs.TableClasses.{identifier_limit, identifier_
 
 use def_refusals::{Refusal, Verdict};
 use lent_layout::{CONTEXTS, DIAGNOSTICS, FUNCTIONS, IDENTIFIERS, LINKS};
-use lent_tables::field;
 use refuse_class::lower;
 use refuse_words::{ANY, earns, record_class, run_limit, used_if};
 
@@ -35,7 +34,7 @@ fn identifier_limit(flags: u32, w: usize) -> Option<u64>
 pub fn identifier_class(context: &[u32], i: usize) -> Verdict
     ensures { class_of result ≡ identifier_class context.now i }
 {
-    let flags = field(IDENTIFIERS, context, i, 0);
+    let flags = IDENTIFIERS.field(context, i, 0);
     record_class(IDENTIFIERS, context, i, |w| identifier_limit(flags, w))
 }
 
@@ -77,9 +76,9 @@ fn places_class(n: u32, inside: u32) -> Verdict
 pub fn function_class(context: &[u32], f: usize, identifiers: u32) -> Verdict
     ensures { class_of result ≡ function_class identifiers context.now f }
 {
-    let flags = field(FUNCTIONS, context, f, 0);
-    let n = field(FUNCTIONS, context, f, 1);
-    let inside = field(FUNCTIONS, context, f, 2);
+    let flags = FUNCTIONS.field(context, f, 0);
+    let n = FUNCTIONS.field(context, f, 1);
+    let inside = FUNCTIONS.field(context, f, 2);
     let words = record_class(
         FUNCTIONS,
         context,
@@ -114,7 +113,7 @@ fn link_limit(functions: u32, v: usize, flag: u32, w: usize) -> Option<u64>
 pub fn link_class(context: &[u32], v: usize, functions: u32) -> Verdict
     ensures { class_of result ≡ link_class functions context.now v }
 {
-    let flag = field(LINKS, context, v, 0);
+    let flag = LINKS.field(context, v, 0);
     record_class(LINKS, context, v, |w| link_limit(functions, v, flag, w))
 }
 
@@ -152,9 +151,9 @@ fn label_class(case: u32, start: u32, end: u32) -> Verdict
 pub fn message_class(context: &[u32], k: usize, identifiers: u32) -> Verdict
     ensures { class_of result ≡ message_class identifiers context.now k }
 {
-    let case = field(DIAGNOSTICS, context, k, 2);
-    let start = field(DIAGNOSTICS, context, k, 5);
-    let end = field(DIAGNOSTICS, context, k, 6);
+    let case = DIAGNOSTICS.field(context, k, 2);
+    let start = DIAGNOSTICS.field(context, k, 5);
+    let end = DIAGNOSTICS.field(context, k, 6);
     let words = record_class(
         DIAGNOSTICS,
         context,

@@ -9,7 +9,7 @@ ghost use Rattle.refuse_words.specs.Classes as Classes;
 ghost use Rattle.refuse_words.specs.Classes.{lowest_below, record_class, word_class, used_if, place_limit, run_limit, stray_from, stray_after};
 
 use def_refusals::{Refusal, Verdict};
-use lent_tables::{Table, field};
+use lent_tables::Table;
 use refuse_class::lower;
 
 // The limit of a word that any number may stand in.
@@ -93,7 +93,7 @@ pub fn record_class<F: Fn(usize) -> Option<u64>>(
 {
     lowest(
         t.width as usize,
-        |w| word_class(limit(w), field(t, xs, i, w)),
+        |w| word_class(limit(w), t.field(xs, i, w)),
     )
 }
 
