@@ -30,7 +30,7 @@ use Rattle.lent_work.specs.Marks.{is_marked, marked}
 use Rattle.laws_monad.proofs.Laws.Answers.{bind_ok, if_true, if_false}
 use Rattle.lent_world.specs.World.{lent, world, put_listed}
 use Rattle.lent_work.specs.Access.{access_of}
-use Rattle.effect_parts.specs.Parts.{with_session, writes}
+use Rattle.effect_parts.specs.Parts.{with_session}
 use Rattle.state_ops.specs.Use.{after_use}
 use Rattle.lent_layout.specs.Layout.{one_run, output}
 
@@ -83,9 +83,9 @@ kind_is vs ss r i span a s u e g h cs os =
     go false true = refl
     go false false = refl
 
-pub kind_plain : (vs ss : List ℕ) (r : Run) (i : ℕ) (a : AbstractValue) (u : Run) → ((cs os : List ℕ) → State.kind_with_span i no_span (world vs ss cs os r) ≡ ok a (world vs ss cs os u)) → (cs os : List ℕ) → State.kind i (world vs ss cs os r) ≡ ok a (world vs ss cs os u)
+pub kind_plain : (w u : World lent) (i : ℕ) (a : AbstractValue) → State.kind_with_span i no_span w ≡ ok a u → State.kind i w ≡ ok a u
 unfolding State.kind
-kind_plain vs ss r i a u h = h
+kind_plain w u i a h = h
 
 -- ---- a place gets a value
 
@@ -97,44 +97,45 @@ create_is vs us ss ts p v n a m g h cs os r =
 
 -- ---- captured places that can be written
 
-pub written_not : (vs ss : List ℕ) (i : ℕ) (b : Bool) → b ≡ is_some (set_at ss i) → b ≡ false → false ≡ writes vs ss i
-unfolding writes
-written_not vs ss i b e h = sym (ap (λ (x : Bool). x && writable (kind_of (value_at vs) (set_at ss i)).kind) (sym e ∙ h))
+module _ (vs ss cs os : List ℕ) (r : Run) (p : Place) where
+  pub written_not : (b : Bool) → b ≡ is_some (set_at ss p.identifier) → b ≡ false → Step.is_written p (world vs ss cs os r) ≡ ok false (world vs ss cs os r)
+  unfolding Step.is_written State.set_of State.peek return ◌>>=◌ and_then
+  written_not b e h = ap (λ (x : Bool). ok (x && writable (kind_of (value_at vs) (set_at ss p.identifier)).kind) (world vs ss cs os r)) (sym e ∙ h)
 
-pub written_is : (vs ss : List ℕ) (i : ℕ) (b r : Bool) (a : AbstractValue) → b ≡ is_some (set_at ss i) → b ≡ true → a ≡ kind_of (value_at vs) (set_at ss i) → r ≡ writable a.kind → r ≡ writes vs ss i
-unfolding writes
-written_is vs ss i b r a e h g f = f ∙ ap (λ (x : AbstractValue). writable x.kind) g ∙ sym (ap (λ (x : Bool). x && writable (kind_of (value_at vs) (set_at ss i)).kind) (sym e ∙ h))
+  pub written_is : (b x : Bool) (a : AbstractValue) → b ≡ is_some (set_at ss p.identifier) → b ≡ true → a ≡ kind_of (value_at vs) (set_at ss p.identifier) → x ≡ writable a.kind → Step.is_written p (world vs ss cs os r) ≡ ok x (world vs ss cs os r)
+  unfolding Step.is_written State.set_of State.peek return ◌>>=◌ and_then
+  written_is b x a e h g f =
+      ap (λ (y : Bool). ok (y && writable (kind_of (value_at vs) (set_at ss p.identifier)).kind) (world vs ss cs os r)) (sym e ∙ h)
+      ∙ ap (λ (y : Bool). ok y (world vs ss cs os r)) (sym (f ∙ ap (λ (y : AbstractValue). writable y.kind) g))
 
 -- what a loop over the captures has still to ask
-pub record Asks (vs ss ws : List ℕ) (n k : ℕ) : Type 0 where
-  pub equal : (cs os : List ℕ) (r : Run) → Step.any_written (places_in one_run ws 0 1 0 (n - 0)) (world vs ss cs os r) ≡ Step.any_written (places_in one_run ws 0 1 k (n - k)) (world vs ss cs os r)
+pub record Asks (w : World lent) (ws : List ℕ) (n k : ℕ) : Type 0 where
+  pub equal : Step.any_written (places_in one_run ws 0 1 0 (n - 0)) w ≡ Step.any_written (places_in one_run ws 0 1 k (n - k)) w
 
-module _ (vs ss ws : List ℕ) (n k : ℕ) where
+module _ (w : World lent) (ws : List ℕ) (n k : ℕ) where
   whole : n ≡ field one_run ws 0 0 → places_in one_run ws 0 1 0 (n - 0) ≡ captures_of ws
   unfolding counted_places
   whole e = let z : n - 0 ≡ n = omega arith in ap (places_in one_run ws 0 1 0) (z ∙ e)
 
-  asked : (cs os : List ℕ) (r : Run) (p : Place) (ps : List Place) → Step.any_written (p ∷ ps) (world vs ss cs os r) ≡ (when writes vs ss p.identifier then return true else Step.any_written ps) (world vs ss cs os r)
-  unfolding Step.any_written Step.is_written State.set_of State.peek writes return ◌>>=◌ and_then
-  asked cs os r p ps = refl
+  pub asks_start : Asks w ws n 0
+  asks_start = record { equal = refl }
 
-  pub asks_start : Asks vs ss ws n 0
-  asks_start = record { equal = λ cs os r. refl }
+  module _ (a : Asks w ws n k) (p : Place) (b : Bool) (h : k < n) (g : p ≡ place_in one_run ws 0 (1 + k * 5)) (e : Step.is_written p w ≡ ok b w) where
+    -- one more of them is asked
+    asked : (x : Res (World lent) Bool) → (when b then return true else Step.any_written (places_in one_run ws 0 1 (k + 1) (n - (k + 1)))) w ≡ x → Step.any_written (places_in one_run ws 0 1 0 (n - 0)) w ≡ x
+    unfolding Step.any_written
+    asked x f =
+        a.equal ∙ ap (λ (l : List Place). Step.any_written l w) (places_more one_run ws 0 1 k n h)
+        ∙ bind_ok _ _ _ _ _ _ (ap (λ (q : Place). Step.is_written q w) (sym g) ∙ e) f
 
-  module _ (a : Asks vs ss ws n k) where
-    pub asks_yes : (p : Place) (b : Bool) → n ≡ field one_run ws 0 0 → k < n → p ≡ place_in one_run ws 0 (1 + k * 5) → b ≡ writes vs ss p.identifier → b ≡ true → (cs os : List ℕ) (r : Run) → Step.any_written (captures_of ws) (world vs ss cs os r) ≡ ok true (world vs ss cs os r)
+    pub asks_yes : n ≡ field one_run ws 0 0 → b ≡ true → Step.any_written (captures_of ws) w ≡ ok true w
     unfolding return
-    asks_yes p b e h g w t cs os r =
-        ap (λ (l : List Place). Step.any_written l (world vs ss cs os r)) (sym (whole e)) ∙ a.equal cs os r ∙ ap (λ (l : List Place). Step.any_written l (world vs ss cs os r)) (places_more one_run ws 0 1 k n h)
-        ∙ asked cs os r _ _ ∙ if_true _ _ _ _ _ (ap (λ (q : Place). writes vs ss q.identifier) (sym g) ∙ sym w ∙ t) refl
+    asks_yes z t = ap (λ (l : List Place). Step.any_written l w) (sym (whole z)) ∙ asked _ (if_true _ _ _ _ _ t refl)
 
-    pub asks_more : (p : Place) (b : Bool) → k < n → p ≡ place_in one_run ws 0 (1 + k * 5) → b ≡ writes vs ss p.identifier → b ≡ false → Asks vs ss ws n (k + 1)
-    asks_more p b h g w t = record {
-      equal = λ cs os r. a.equal cs os r ∙ ap (λ (l : List Place). Step.any_written l (world vs ss cs os r)) (places_more one_run ws 0 1 k n h)
-          ∙ asked cs os r _ _ ∙ if_false _ _ _ _ _ (ap (λ (q : Place). writes vs ss q.identifier) (sym g) ∙ sym w ∙ t) refl;
-    }
+    pub asks_more : b ≡ false → Asks w ws n (k + 1)
+    asks_more t = record { equal = asked _ (if_false _ _ _ _ _ t refl) }
 
-    pub asks_no : n ≡ field one_run ws 0 0 → n ≤ k → (cs os : List ℕ) (r : Run) → Step.any_written (captures_of ws) (world vs ss cs os r) ≡ ok false (world vs ss cs os r)
-    unfolding Step.any_written return
-    asks_no e h cs os r =
-        ap (λ (l : List Place). Step.any_written l (world vs ss cs os r)) (sym (whole e)) ∙ a.equal cs os r ∙ ap (λ (l : List Place). Step.any_written l (world vs ss cs os r)) (places_none one_run ws 0 1 k n h)
+  pub asks_no : Asks w ws n k → n ≡ field one_run ws 0 0 → n ≤ k → Step.any_written (captures_of ws) w ≡ ok false w
+  unfolding Step.any_written return
+  asks_no a e h =
+      ap (λ (l : List Place). Step.any_written l w) (sym (whole e)) ∙ a.equal ∙ ap (λ (l : List Place). Step.any_written l w) (places_none one_run ws 0 1 k n h)
