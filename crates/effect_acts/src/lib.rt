@@ -7,7 +7,14 @@ ghost use Rattle.effect_acts.specs.Acts.{act_of};
 
 use def_effects::{MutateVariant, Place};
 use lent_effects::AliasingEffect;
-use lent_work::Run;
+
+// The flows between two places: Capture, Alias, which asks that its destination was initialized, and MaybeAlias.
+#[derive(Clone, Copy)]
+pub enum FlowKind {
+    Capture,
+    Alias,
+    MaybeAlias,
+}
 
 // What an effect does, by its kind: a mutation, a flow between two places, what derives others, or none of these.
 #[derive(Clone, Copy)]
@@ -18,8 +25,7 @@ pub enum Act {
         place: Place,
     },
     Flowing {
-        alias: bool,
-        maybe: bool,
+        kind: FlowKind,
         from: Place,
         into: Place,
     },
@@ -46,15 +52,8 @@ pub enum Next {
     Derived(AliasingEffect),
 }
 
-// What a part of a step has come to: what the instruction has by value, and what comes next.
-#[derive(Clone, Copy)]
-pub struct Acted {
-    pub run: Run,
-    pub next: Next,
-}
-
 // What an effect does.
-// Capture and MaybeAlias go like Alias, which asks that its destination was initialized.
+// What lists only itself, or derives nothing, is plain.
 pub fn act_of(e: AliasingEffect) -> Act
     ensures { result ≡ act_of e }
 {
@@ -76,20 +75,17 @@ pub fn act_of(e: AliasingEffect) -> Act
             place,
         },
         AliasingEffect::Capture { from, into } => Act::Flowing {
-            alias: false,
-            maybe: false,
+            kind: FlowKind::Capture,
             from,
             into,
         },
         AliasingEffect::Alias { from, into } => Act::Flowing {
-            alias: true,
-            maybe: false,
+            kind: FlowKind::Alias,
             from,
             into,
         },
         AliasingEffect::MaybeAlias { from, into } => Act::Flowing {
-            alias: false,
-            maybe: true,
+            kind: FlowKind::MaybeAlias,
             from,
             into,
         },

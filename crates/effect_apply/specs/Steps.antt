@@ -15,7 +15,7 @@ use Rattle.effect_flow.specs.Flows.{flows}
 unfoldable pub does : (AliasingEffect → M (World lent) Done) → AliasingEffect → List Place → Act → M (World lent) Done
 does again e cs Plain = Step.act again e
 does again e cs (Mutating v p) = Step.mutating again v e p
-does again e cs (Flowing alias maybe from into) = flows again alias maybe e from into
+does again e cs (Flowing kind from into) = flows again kind e from into
 does again e cs (Assigning from into) = Step.assigning again from into
 does again e cs (CreatingFrom from into) = Step.creating_from again from into
 does again e cs (CreatingFunction f into) = Step.creating_function again cs f into
@@ -24,7 +24,7 @@ does again e cs (CreatingFunction f into) = Step.creating_function again cs f in
 abbrev pub creates : Act → Bool
 creates Plain = false
 creates (Mutating v p) = false
-creates (Flowing alias maybe from into) = false
+creates (Flowing kind from into) = false
 creates (Assigning from into) = false
 creates (CreatingFrom from into) = false
 creates (CreatingFunction f into) = true

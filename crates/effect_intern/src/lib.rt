@@ -2,15 +2,14 @@
 // get_or_create_value_id of the Rust. Each says by one equation what the definition does in the world of lent lists.
 #![tactic(auto)]
 
-ghost use Rattle.std.specs.Prelude.{◌≡◌, List, ℕ};
+ghost use Rattle.std.specs.Prelude.{◌≡◌, List};
 ghost use Rattle.def_effects.specs.declared.Place.{Place as APlace};
 ghost use Rattle.def_transfer.specs.Context as Context;
 ghost use Rattle.def_transfer.specs.Context.{diagnostic_of, refreshed};
 ghost use Rattle.def_transfer.specs.Monad.{ok};
 ghost use Rattle.laws_monad.specs.Answers.{answers};
-ghost use Rattle.lent_work.specs.declared.Run.{Run as ARun};
 ghost use Rattle.lent_effects.specs.Records.{effect_with, captures_of};
-ghost use Rattle.lent_world.specs.World.{world};
+ghost use Rattle.lent_world.specs.Promise.{seen, Kept};
 ghost use Rattle.effect_intern.specs.Interning.{chosen};
 
 use def_effects::AliasingDiagnostic;
@@ -24,6 +23,7 @@ use lent_links::interned_count;
 use lent_order::{insert, order_at};
 use lent_search::find_effect;
 use lent_slices::set;
+use lent_world::World;
 
 // The effect that stands for another from now on: its place in the table if it was there before, and the effect.
 // Its captures are those of the table's record where it was found, else those that were given.
@@ -71,18 +71,17 @@ fn refresh(e: AliasingEffect, x: AliasingEffect) -> AliasingEffect
 // The first effect under the key of an effect is used ever after; a new one is appended and takes its place in the order, and 8 refuses the 2,049th.
 // This is intern_effect of the Rust.
 pub fn intern_effect(
-    context: &mut [u32],
+    world: &mut World,
     e: AliasingEffect,
     captures: &[u32],
 ) -> Result<Interned, Refusal>
-    ensures { (vs ss os : List ℕ) (run : ARun)
-        → Context.intern_effect (effect_with e (captures_of captures.now))
-        (world vs ss context.old os run)
+    ensures kept { Kept world.old world.new }
+    ensures does { Context.intern_effect (effect_with e (captures_of captures.now)) (seen world.old)
         ≡ answers result
-        (λ a. ok (effect_with a.effect (chosen context.new a.found (captures_of captures.now)))
-        (world vs ss context.new os run))
-        (world vs ss context.new os run) }
+        (λ a. ok (effect_with a.effect (chosen world.new.context.now a.found (captures_of captures.now))) (seen world.new))
+        (seen world.new) }
 {
+    let context = &mut *world.context;
     match find_effect(context, key_of(e), captures) {
         Ok(j) => {
             let k = order_at(EFFECT_ORDER, context, j);

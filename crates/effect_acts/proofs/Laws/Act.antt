@@ -1,11 +1,11 @@
 -- A law for each variant: what an effect does. Assumes nothing.
-use Rattle.std.specs.Prelude.{ℕ, ◌≡◌, true, false}
+use Rattle.std.specs.Prelude.{ℕ, ◌≡◌}
 use Rattle.std.proofs.Math.Path.{refl, sym}
 use Rattle.std.proofs.Common.{ap}
 use Rattle.def_effects.specs.declared.Place.{Place}
 use Rattle.def_effects.specs.declared.MutateVariant.TheVariants as Variant
 use Rattle.lent_effects.specs.declared.AliasingEffect.{AliasingEffect as Head}
-use Rattle.lent_effects.specs.declared.AliasingEffect.TheVariants as Head
+use Rattle.effect_acts.specs.declared.FlowKind.TheVariants as Kind
 use Rattle.effect_acts.specs.declared.Act.TheVariants.{Plain, Mutating, Flowing, Assigning, CreatingFrom, CreatingFunction}
 use Rattle.effect_acts.specs.Acts.{act_of}
 
@@ -26,15 +26,15 @@ module _ (e : Head) where
   unfolding act_of
   act_mutate_transitive_conditionally p h = sym (ap act_of h)
 
-  pub act_capture : (f i : Place) → e ≡ Head.Capture f i → Flowing false false f i ≡ act_of e
+  pub act_capture : (f i : Place) → e ≡ Head.Capture f i → Flowing Kind.Capture f i ≡ act_of e
   unfolding act_of
   act_capture f i h = sym (ap act_of h)
 
-  pub act_alias : (f i : Place) → e ≡ Head.Alias f i → Flowing true false f i ≡ act_of e
+  pub act_alias : (f i : Place) → e ≡ Head.Alias f i → Flowing Kind.Alias f i ≡ act_of e
   unfolding act_of
   act_alias f i h = sym (ap act_of h)
 
-  pub act_maybe_alias : (f i : Place) → e ≡ Head.MaybeAlias f i → Flowing false true f i ≡ act_of e
+  pub act_maybe_alias : (f i : Place) → e ≡ Head.MaybeAlias f i → Flowing Kind.MaybeAlias f i ≡ act_of e
   unfolding act_of
   act_maybe_alias f i h = sym (ap act_of h)
 

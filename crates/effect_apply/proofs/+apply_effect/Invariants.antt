@@ -1,21 +1,17 @@
 use mathlib.Core.Path.{◌≡◌}
 use Prim.Native.Nat.{◌-◌, ◌+◌, ◌*◌}
-use lib.ListN.{length}
 use Rattle.def_transfer.specs.Monad.{each}
 use Rattle.def_transfer.specs.Step as Text
 use Rattle.def_effects.specs.Effects as Effects
 use Rattle.lent_tables.specs.Words.{places_in}
-use Rattle.lent_world.specs.World.{world}
+use Rattle.lent_world.specs.Promise.{seen, Kept}
 use Rattle.lent_layout.specs.Layout.{one_run}
 use Rattle.effect_apply.proofs.+apply_effect.Given as goal
 
 abbrev pub invariant-capture_all-loop-k : goal.invariant-capture_all-loop-k
 invariant-capture_all-loop-k l =
-    (length l.values ≡ length l.initial.values)
-    × (length l.sets ≡ length l.initial.sets)
-    × (length l.context ≡ length l.initial.context)
-    × (length l.output ≡ length l.initial.output)
-    × (each (places_in one_run l.captures 0 1 l.initial.k (l.n - l.initial.k)) (λ c. Text.apply_effect l.depth (Effects.Capture c l.into)) (world l.initial.values l.initial.sets l.initial.context l.initial.output l.initial.now) ≡ each (places_in one_run l.captures 0 1 l.k (l.n - l.k)) (λ c. Text.apply_effect l.depth (Effects.Capture c l.into)) (world l.values l.sets l.context l.output l.now))
+    Kept l.initial.world l.world
+    × (each (places_in one_run l.captures 0 1 l.initial.k (l.n - l.initial.k)) (λ c. Text.apply_effect l.depth (Effects.Capture c l.into)) (seen l.initial.world) ≡ each (places_in one_run l.captures 0 1 l.k (l.n - l.k)) (λ c. Text.apply_effect l.depth (Effects.Capture c l.into)) (seen l.world))
 
 abbrev pub decreases-capture_all-loop-k : goal.decreases-capture_all-loop-k
 decreases-capture_all-loop-k l = l.n - l.k

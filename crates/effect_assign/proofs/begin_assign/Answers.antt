@@ -3,9 +3,9 @@ use Rattle.laws_monad.proofs.Laws.Answers.{passes}
 use Rattle.effect_create.proofs.Laws.Creation.{assign_refused, assign_begun}
 use Rattle.effect_assign.proofs.begin_assign.Goals as goal
 
-pub returns-in_err-begun : goal.returns-in_err-begun
-returns-in_err-begun c = rw (passes _ _ c.from_residual.ensures.1) (λ again cs os. (c.args.run, assign_refused _ _ cs os _ _ _ again _ _ (c.in_err-begun.ensures _ _ _ _)))
+pub returns-in_err-begin-clause-does : goal.returns-in_err-begin-clause-does
+returns-in_err-begin-clause-does c = rw (passes _ _ c.from_residual.ensures.1) (λ again. assign_refused _ _ _ again _ _ c.in_err-begin.ensures.does)
 
-pub returns : goal.returns
-returns c =
-    λ again cs os. assign_begun _ _ cs os _ _ _ again _ (c.in_ok-begun.ensures _ _ _ _) _ _ (c.kind_with_span.ensures _ _)
+pub returns-clause-does : goal.returns-clause-does
+returns-clause-does c =
+    λ again. assign_begun _ _ _ again _ c.in_ok-begin.ensures.does _ _ c.kind_with_span.ensures.does

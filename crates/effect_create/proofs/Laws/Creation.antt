@@ -80,150 +80,146 @@ primary_none s n a l =
 
 -- ---- a Create
 
-module _ (vs ss cs os : List ℕ) (r : Run) (p : Place) (k : ValueKind) (q : ℕ) (again : AliasingEffect → M (World lent) Done) where
+module _ (w : World lent) (p : Place) (k : ValueKind) (q : ℕ) (again : AliasingEffect → M (World lent) Done) where
   -- the place already began
   -- "6 .. into a place already initialized"
-  pub creating_refused : (n : ℕ) (w : World lent) → begin p.identifier (world vs ss cs os r) ≡ refused n w → Step.creating again p k q (world vs ss cs os r) ≡ refused n w
+  pub creating_refused : (n : ℕ) (x : World lent) → begin p.identifier w ≡ refused n x → Step.creating again p k q w ≡ refused n x
   unfolding Step.creating
-  creating_refused n w e = then_fails _ _ _ _ _ e
+  creating_refused n x e = then_fails _ _ _ _ _ e
 
-  module _ (u : Run) (e : begin p.identifier (world vs ss cs os r) ≡ ok tt (world vs ss cs os u)) (key : Key) (ws : List ℕ)
+  module _ (u : World lent) (e : begin p.identifier w ≡ ok tt u) (key : Key) (ws : List ℕ)
       (z : (ps : List Place) → key_with key (identifiers ps) ≡ effect_key (effect_with (Head.Create p k q) ps)) where
     -- its number is that under the effect's key
-    create_number : (w : World lent) → get_or_create_value_id (effect_key (Create p k q)) w ≡ get_or_create_value_id (key_with key (identifiers (captures_of ws))) w
+    create_number : (x : World lent) → get_or_create_value_id (effect_key (Create p k q)) x ≡ get_or_create_value_id (key_with key (identifiers (captures_of ws))) x
     unfolding effect_with
-    create_number w = ap (λ (i : EffectKey). get_or_create_value_id i w) (sym (z (captures_of ws)))
+    create_number x = ap (λ (i : EffectKey). get_or_create_value_id i x) (sym (z (captures_of ws)))
 
     -- no number is left
     -- "9 a fresh number is needed at next 512"
-    pub creating_full : (n : ℕ) (w : World lent) → get_or_create_value_id (key_with key (identifiers (captures_of ws))) (world vs ss cs os u) ≡ refused n w → Step.creating again p k q (world vs ss cs os r) ≡ refused n w
+    pub creating_full : (n : ℕ) (x : World lent) → get_or_create_value_id (key_with key (identifiers (captures_of ws))) u ≡ refused n x → Step.creating again p k q w ≡ refused n x
     unfolding Step.creating
-    creating_full n w g = then_ok _ _ _ _ _ _ e (bind_fails _ _ _ _ _ (create_number _ ∙ g))
+    creating_full n x g = then_ok _ _ _ _ _ _ e (bind_fails _ _ _ _ _ (create_number _ ∙ g))
 
     -- the place gets its number, with the kind and that one reason
-    pub creating_done : (v : ℕ) (ds : List ℕ) (t : Run) → get_or_create_value_id (key_with key (identifiers (captures_of ws))) (world vs ss cs os u) ≡ ok v (world vs ss ds os t)
-        → (b : ℕ) (us ts is : List ℕ) (l : Run) → b ≡ single q → create p v (mk k b) (world vs ss ds os t) ≡ ok tt (world us ts ds os t)
-        → emit (effect_with (Head.Create p k q) (captures_of ws)) (world us ts ds os t) ≡ ok tt (world us ts ds is l)
-        → Step.creating again p k q (world vs ss cs os r) ≡ ok tt (world us ts ds is l)
+    pub creating_done : (v : ℕ) (x : World lent) → get_or_create_value_id (key_with key (identifiers (captures_of ws))) u ≡ ok v x → (b : ℕ) (y t : World lent) → b ≡ single q → create p v (mk k b) x ≡ ok tt y
+        → emit (effect_with (Head.Create p k q) (captures_of ws)) y ≡ ok tt t → Step.creating again p k q w ≡ ok tt t
     unfolding Step.creating effect_with
-    creating_done v ds t g b us ts is l s c w =
+    creating_done v x g b y t s c l =
         then_ok _ _ _ _ _ _ e (bind_ok _ _ _ _ _ _ (create_number _ ∙ g)
-        (then_ok _ _ _ _ _ _ (ap (λ (i : ℕ). create p v (mk k i) (world vs ss ds os t)) (sym s) ∙ c) w))
+        (then_ok _ _ _ _ _ _ (ap (λ (i : ℕ). create p v (mk k i) x) (sym s) ∙ c) l))
 
 -- ---- an ImmutableCapture
 
-module _ (vs ss cs os : List ℕ) (r u : Run) (from into : Place) (a : AbstractValue) (again : AliasingEffect → M (World lent) Done) (b : Bool)
-    (e : State.kind from.identifier (world vs ss cs os r) ≡ ok a (world vs ss cs os u)) (g : b ≡ copied a.kind) where
+module _ (w u : World lent) (from into : Place) (a : AbstractValue) (again : AliasingEffect → M (World lent) Done) (b : Bool)
+    (e : State.kind from.identifier w ≡ ok a u) (g : b ≡ copied a.kind) where
   -- its source is Primitive or Global
-  pub capturing_copied : b ≡ true → Step.capturing_immutably again from into (world vs ss cs os r) ≡ ok tt (world vs ss cs os u)
+  pub capturing_copied : b ≡ true → Step.capturing_immutably again from into w ≡ ok tt u
   unfolding Step.capturing_immutably
   capturing_copied h = bind_ok _ _ _ _ _ _ e (if_true _ _ _ _ _ (sym g ∙ h) (done_ok _))
 
   -- any other source
-  pub capturing_listed : (hs : List Place) (is : List ℕ) (l : Run) → b ≡ false → emit (effect_with (Head.ImmutableCapture from into) hs) (world vs ss cs os u) ≡ ok tt (world vs ss cs is l)
-      → Step.capturing_immutably again from into (world vs ss cs os r) ≡ ok tt (world vs ss cs is l)
+  pub capturing_listed : (hs : List Place) (t : World lent) → b ≡ false → emit (effect_with (Head.ImmutableCapture from into) hs) u ≡ ok tt t → Step.capturing_immutably again from into w ≡ ok tt t
   unfolding Step.capturing_immutably effect_with
-  capturing_listed hs is l h w = bind_ok _ _ _ _ _ _ e (if_false _ _ _ _ _ (sym g ∙ h) w)
+  capturing_listed hs t h l = bind_ok _ _ _ _ _ _ e (if_false _ _ _ _ _ (sym g ∙ h) l)
 
 -- ---- a place gets the number under a key of two places
 
-module _ (vs ss cs os : List ℕ) (r : Run) (code : ℕ) (from into : Place) (a : AbstractValue) (key : Key) (ks : List ℕ) (z : (is : List ℕ) → key_with key is ≡ two code from into) where
+module _ (w : World lent) (code : ℕ) (from into : Place) (a : AbstractValue) (key : Key) (ks : List ℕ) (z : (is : List ℕ) → key_with key is ≡ two code from into) where
   -- its number is that under the two places
-  two_number : (w : World lent) → get_or_create_value_id (two code from into) w ≡ get_or_create_value_id (key_with key ks) w
-  two_number w = ap (λ (i : EffectKey). get_or_create_value_id i w) (sym (z ks))
+  two_number : (x : World lent) → get_or_create_value_id (two code from into) x ≡ get_or_create_value_id (key_with key ks) x
+  two_number x = ap (λ (i : EffectKey). get_or_create_value_id i x) (sym (z ks))
 
   -- no number is left
   -- "9 a fresh number is needed at next 512"
-  pub numbered_full : (n : ℕ) (w : World lent) → get_or_create_value_id (key_with key ks) (world vs ss cs os r) ≡ refused n w → numbered code from into a (world vs ss cs os r) ≡ refused n w
+  pub numbered_full : (n : ℕ) (x : World lent) → get_or_create_value_id (key_with key ks) w ≡ refused n x → numbered code from into a w ≡ refused n x
   unfolding numbered
-  numbered_full n w g = bind_fails _ _ _ _ _ (two_number _ ∙ g)
+  numbered_full n x g = bind_fails _ _ _ _ _ (two_number _ ∙ g)
 
   -- the place gets it
-  pub numbered_done : (v : ℕ) (ds us ts : List ℕ) (t : Run) → get_or_create_value_id (key_with key ks) (world vs ss cs os r) ≡ ok v (world vs ss ds os t) → create into v a (world vs ss ds os t) ≡ ok tt (world us ts ds os t)
-      → numbered code from into a (world vs ss cs os r) ≡ ok tt (world us ts ds os t)
+  pub numbered_done : (v : ℕ) (x y : World lent) → get_or_create_value_id (key_with key ks) w ≡ ok v x → create into v a x ≡ ok tt y → numbered code from into a w ≡ ok tt y
   unfolding numbered
-  numbered_done v ds us ts t g c = bind_ok _ _ _ _ _ _ (two_number _ ∙ g) c
+  numbered_done v x y g c = bind_ok _ _ _ _ _ _ (two_number _ ∙ g) c
 
 -- ---- an Assign
 
 -- of what is not frozen
-module _ (vs ss cs os : List ℕ) (r : Run) (from into : Place) (a : AbstractValue) (b : Bool) (e : b ≡ copied a.kind) where
+module _ (w : World lent) (from into : Place) (a : AbstractValue) (b : Bool) (e : b ≡ copied a.kind) where
   -- it is copied
-  pub assigned_copied : b ≡ true → assigned from into a (world vs ss cs os r) ≡ numbered 19 from into a (world vs ss cs os r)
+  pub assigned_copied : b ≡ true → assigned from into a w ≡ numbered 19 from into a w
   unfolding assigned
   assigned_copied h = if_true _ _ _ _ _ (sym e ∙ h) refl
 
   -- it is not copied
   -- the place gets the source's set, and the effect is listed
-  pub assigned_listed : (us ts is : List ℕ) (hs : List Place) (l : Run) → b ≡ false → us ≡ assigned_values vs ss from.identifier → ts ≡ assigned_sets ss into.identifier from.identifier
-      → emit (effect_with (Head.Assign from into) hs) (world us ts cs os r) ≡ ok tt (world us ts cs is l) → assigned from into a (world vs ss cs os r) ≡ ok tt (world us ts cs is l)
+  pub assigned_listed : (x t : World lent) (hs : List Place) → b ≡ false → State.assign into.identifier from.identifier w ≡ ok tt x
+      → emit (effect_with (Head.Assign from into) hs) x ≡ ok tt t → assigned from into a w ≡ ok tt t
   unfolding assigned effect_with
-  assigned_listed us ts is hs l h g k w =
-      if_false _ _ _ _ _ (sym e ∙ h)
-      (then_ok _ _ _ _ _ _
-      (assign_lists lent r.flag (world vs ss cs os r).rest vs ss into.identifier from.identifier ∙ ap₂ (λ (m o : List ℕ). ok tt (world m o cs os r)) (sym g) (sym k))
-      w)
+  assigned_listed x t hs h k l = if_false _ _ _ _ _ (sym e ∙ h) (then_ok _ _ _ _ _ _ k l)
+
+-- the lists of an assignment are the definition's
+pub assign_is : (vs ss cs os : List ℕ) (r : Run) (into from : ℕ) (us ts : List ℕ) → us ≡ assigned_values vs ss from → ts ≡ assigned_sets ss into from → State.assign into from (world vs ss cs os r) ≡ ok tt (world us ts cs os r)
+assign_is vs ss cs os r into from us ts g k =
+    assign_lists lent r.flag (world vs ss cs os r).rest vs ss into from ∙ ap₂ (λ (m o : List ℕ). ok tt (world m o cs os r)) (sym g) (sym k)
 
 -- any Assign, as it begins
-module _ (vs ss cs os : List ℕ) (r : Run) (from into : Place) (again : AliasingEffect → M (World lent) Done) where
+module _ (w : World lent) (from into : Place) (again : AliasingEffect → M (World lent) Done) where
   -- the destination already began
-  pub assign_refused : (n : ℕ) (w : World lent) → begin into.identifier (world vs ss cs os r) ≡ refused n w → Step.assigning again from into (world vs ss cs os r) ≡ refused n w
+  pub assign_refused : (n : ℕ) (x : World lent) → begin into.identifier w ≡ refused n x → Step.assigning again from into w ≡ refused n x
   unfolding Step.assigning
-  assign_refused n w e = then_fails _ _ _ _ _ e
+  assign_refused n x e = then_fails _ _ _ _ _ e
 
   -- the source was looked at
   -- the definition's text is the same under names
-  pub assign_begun : (u : Run) → begin into.identifier (world vs ss cs os r) ≡ ok tt (world vs ss cs os u)
-      → (a : AbstractValue) (t : Run) → State.kind_with_span from.identifier from.span (world vs ss cs os u) ≡ ok a (world vs ss cs os t)
-      → Step.assigning again from into (world vs ss cs os r) ≡ assigning again from into a (world vs ss cs os t)
+  pub assign_begun : (u : World lent) → begin into.identifier w ≡ ok tt u → (a : AbstractValue) (t : World lent) → State.kind_with_span from.identifier from.span u ≡ ok a t
+      → Step.assigning again from into w ≡ assigning again from into a t
   unfolding Step.assigning assigning assigned numbered
   assign_begun u e a t k = then_ok _ _ _ _ _ _ e (bind_ok _ _ _ _ _ _ k refl)
 
 -- ---- what a CreateFrom lists
 
-module _ (vs ss cs os : List ℕ) (r : Run) (from into : Place) (a : AbstractValue) (again : AliasingEffect → M (World lent) Done) (ps : List Place) (b : Bool) (e : b ≡ copied a.kind) where
+module _ (w : World lent) (from into : Place) (a : AbstractValue) (again : AliasingEffect → M (World lent) Done) (b : Bool) (e : b ≡ copied a.kind) where
   -- the source is copied
-  pub listed_copied : (q : ℕ) (hs : List Place) (is : List ℕ) (l : Run) → b ≡ true → q ≡ primary_reason a.reason → emit (effect_with (Head.Create into a.kind q) hs) (world vs ss cs os r) ≡ ok tt (world vs ss cs is l)
-      → Step.list_created again from into a (world vs ss cs os r) ≡ follow again (CreateFrom from into) ps Next.Nothing (world vs ss cs is l)
+  pub listed_copied : (q : ℕ) (hs : List Place) (t : World lent) → b ≡ true → q ≡ primary_reason a.reason → emit (effect_with (Head.Create into a.kind q) hs) w ≡ ok tt t
+      → Step.list_created again from into a w ≡ follow again (CreateFrom from into) Next.Nothing t
   unfolding Step.list_created effect_with follow done return
-  listed_copied q hs is l h s w =
-      if_true _ _ _ _ _ (sym e ∙ h) (ap (λ (i : ℕ). emit (Create into a.kind i) (world vs ss cs os r)) (sym s) ∙ w)
+  listed_copied q hs t h s l =
+      if_true _ _ _ _ _ (sym e ∙ h) (ap (λ (i : ℕ). emit (Create into a.kind i) w) (sym s) ∙ l)
 
   module _ (h : b ≡ false) (d : Bool) (g : d ≡ is_frozen a.kind) where
     -- the source is frozen
     -- a Create is listed, and an ImmutableCapture derived
-    pub listed_frozen : (q : ℕ) (hs : List Place) (is : List ℕ) (l : Run) → d ≡ true → q ≡ primary_reason a.reason → emit (effect_with (Head.Create into a.kind q) hs) (world vs ss cs os r) ≡ ok tt (world vs ss cs is l)
-        → Step.list_created again from into a (world vs ss cs os r) ≡ follow again (CreateFrom from into) ps (Next.Derived (Head.ImmutableCapture from into)) (world vs ss cs is l)
+    pub listed_frozen : (q : ℕ) (hs : List Place) (t : World lent) → d ≡ true → q ≡ primary_reason a.reason → emit (effect_with (Head.Create into a.kind q) hs) w ≡ ok tt t
+        → Step.list_created again from into a w ≡ follow again (CreateFrom from into) (Next.Derived (Head.ImmutableCapture from into)) t
     unfolding Step.list_created effect_with follow
-    listed_frozen q hs is l k s w =
+    listed_frozen q hs t k s l =
         if_false _ _ _ _ _ (sym e ∙ h) (if_true _ _ _ _ _ (sym g ∙ k)
-        (then_ok _ _ _ _ _ _ (ap (λ (i : ℕ). emit (Create into a.kind i) (world vs ss cs os r)) (sym s) ∙ w) refl))
+        (then_ok _ _ _ _ _ _ (ap (λ (i : ℕ). emit (Create into a.kind i) w) (sym s) ∙ l) refl))
 
     -- any other source
-    pub listed_itself : d ≡ false → Step.list_created again from into a (world vs ss cs os r) ≡ follow again (CreateFrom from into) ps Next.Itself (world vs ss cs os r)
+    pub listed_itself : d ≡ false → Step.list_created again from into a w ≡ follow again (CreateFrom from into) Next.Itself w
     unfolding Step.list_created follow
     listed_itself k = if_false _ _ _ _ _ (sym e ∙ h) (if_false _ _ _ _ _ (sym g ∙ k) refl)
 
 -- ---- a CreateFrom
 
-module _ (vs ss cs os : List ℕ) (r : Run) (from into : Place) (again : AliasingEffect → M (World lent) Done) where
+module _ (w : World lent) (from into : Place) (again : AliasingEffect → M (World lent) Done) where
   -- the place already began
-  pub from_refused : (n : ℕ) (w : World lent) → begin into.identifier (world vs ss cs os r) ≡ refused n w → Step.creating_from again from into (world vs ss cs os r) ≡ refused n w
+  pub from_refused : (n : ℕ) (x : World lent) → begin into.identifier w ≡ refused n x → Step.creating_from again from into w ≡ refused n x
   unfolding Step.creating_from
-  from_refused n w e = then_fails _ _ _ _ _ e
+  from_refused n x e = then_fails _ _ _ _ _ e
 
-  module _ (u : Run) (e : begin into.identifier (world vs ss cs os r) ≡ ok tt (world vs ss cs os u)) (a : AbstractValue) (s : Run) (k : State.kind from.identifier (world vs ss cs os u) ≡ ok a (world vs ss cs os s))
+  module _ (u : World lent) (e : begin into.identifier w ≡ ok tt u) (a : AbstractValue) (s : World lent) (k : State.kind from.identifier u ≡ ok a s)
       (key : Key) (ks : List ℕ) (z : (is : List ℕ) → key_with key is ≡ two 10 from into) where
     -- no number is left
     -- "9 a fresh number is needed at next 512"
-    pub from_full : (n : ℕ) (w : World lent) → get_or_create_value_id (key_with key ks) (world vs ss cs os s) ≡ refused n w → Step.creating_from again from into (world vs ss cs os r) ≡ refused n w
+    pub from_full : (n : ℕ) (x : World lent) → get_or_create_value_id (key_with key ks) s ≡ refused n x → Step.creating_from again from into w ≡ refused n x
     unfolding Step.creating_from
-    from_full n w g = then_ok _ _ _ _ _ _ e (bind_ok _ _ _ _ _ _ k (bind_fails _ _ _ _ _ (two_number vs ss cs os s 10 from into a key ks z _ ∙ g)))
+    from_full n x g = then_ok _ _ _ _ _ _ e (bind_ok _ _ _ _ _ _ k (bind_fails _ _ _ _ _ (two_number s 10 from into a key ks z _ ∙ g)))
 
     -- the place gets its number, with the source's kind and reasons
-    pub from_listed : (v : ℕ) (ds us ts : List ℕ) (t : Run) (i : Res (World lent) Done) → get_or_create_value_id (key_with key ks) (world vs ss cs os s) ≡ ok v (world vs ss ds os t) → create into v a (world vs ss ds os t) ≡ ok tt (world us ts ds os t)
-        → Step.list_created again from into a (world us ts ds os t) ≡ i → Step.creating_from again from into (world vs ss cs os r) ≡ i
+    pub from_listed : (v : ℕ) (x y : World lent) (i : Res (World lent) Done) → get_or_create_value_id (key_with key ks) s ≡ ok v x → create into v a x ≡ ok tt y
+        → Step.list_created again from into a y ≡ i → Step.creating_from again from into w ≡ i
     unfolding Step.creating_from
-    from_listed v ds us ts t i g c w =
-        then_ok _ _ _ _ _ _ e (bind_ok _ _ _ _ _ _ k (bind_ok _ _ _ _ _ _ (two_number vs ss cs os s 10 from into a key ks z _ ∙ g)
-        (then_ok _ _ _ _ _ _ c w)))
+    from_listed v x y i g c l =
+        then_ok _ _ _ _ _ _ e (bind_ok _ _ _ _ _ _ k (bind_ok _ _ _ _ _ _ (two_number s 10 from into a key ks z _ ∙ g)
+        (then_ok _ _ _ _ _ _ c l)))

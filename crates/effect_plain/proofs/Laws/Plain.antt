@@ -21,7 +21,7 @@ use Rattle.effect_acts.specs.Acts.{act_of}
 is_plain : Act → Bool
 is_plain Plain = true
 is_plain (Mutating v p) = false
-is_plain (Flowing alias maybe from into) = false
+is_plain (Flowing kind from into) = false
 is_plain (Assigning from into) = false
 is_plain (CreatingFrom from into) = false
 is_plain (CreatingFunction f into) = false
@@ -44,21 +44,22 @@ module _ (e : Head) (cs : List Place) (w : World lent) where
   unfolding act effect_with
   plain_immutable_capture a b h again = ap (λ (x : Head). act again (effect_with x cs) w) h
 
-  pub plain_mutate_frozen : (p : Place) (d : AliasingDiagnostic) → e ≡ Head.MutateFrozen p d → (again : AliasingEffect → M (World lent) Done) → act again (effect_with e cs) w ≡ emit (effect_with e cs) w
+module _ (e : Head) (cs ds : List Place) (w : World lent) where
+  pub plain_mutate_frozen : (p : Place) (d : AliasingDiagnostic) → e ≡ Head.MutateFrozen p d → (again : AliasingEffect → M (World lent) Done) → act again (effect_with e cs) w ≡ emit (effect_with e ds) w
   unfolding act effect_with
-  plain_mutate_frozen p d h again = ap (λ (x : Head). act again (effect_with x cs) w) h ∙ sym (ap (λ (x : Head). emit (effect_with x cs) w) h)
+  plain_mutate_frozen p d h again = ap (λ (x : Head). act again (effect_with x cs) w) h ∙ sym (ap (λ (x : Head). emit (effect_with x ds) w) h)
 
-  pub plain_mutate_global : (p : Place) (d : AliasingDiagnostic) → e ≡ Head.MutateGlobal p d → (again : AliasingEffect → M (World lent) Done) → act again (effect_with e cs) w ≡ emit (effect_with e cs) w
+  pub plain_mutate_global : (p : Place) (d : AliasingDiagnostic) → e ≡ Head.MutateGlobal p d → (again : AliasingEffect → M (World lent) Done) → act again (effect_with e cs) w ≡ emit (effect_with e ds) w
   unfolding act effect_with
-  plain_mutate_global p d h again = ap (λ (x : Head). act again (effect_with x cs) w) h ∙ sym (ap (λ (x : Head). emit (effect_with x cs) w) h)
+  plain_mutate_global p d h again = ap (λ (x : Head). act again (effect_with x cs) w) h ∙ sym (ap (λ (x : Head). emit (effect_with x ds) w) h)
 
-  pub plain_impure : (p : Place) (d : AliasingDiagnostic) → e ≡ Head.Impure p d → (again : AliasingEffect → M (World lent) Done) → act again (effect_with e cs) w ≡ emit (effect_with e cs) w
+  pub plain_impure : (p : Place) (d : AliasingDiagnostic) → e ≡ Head.Impure p d → (again : AliasingEffect → M (World lent) Done) → act again (effect_with e cs) w ≡ emit (effect_with e ds) w
   unfolding act effect_with
-  plain_impure p d h again = ap (λ (x : Head). act again (effect_with x cs) w) h ∙ sym (ap (λ (x : Head). emit (effect_with x cs) w) h)
+  plain_impure p d h again = ap (λ (x : Head). act again (effect_with x cs) w) h ∙ sym (ap (λ (x : Head). emit (effect_with x ds) w) h)
 
-  pub plain_render : (p : Place) → e ≡ Head.Render p → (again : AliasingEffect → M (World lent) Done) → act again (effect_with e cs) w ≡ emit (effect_with e cs) w
+  pub plain_render : (p : Place) → e ≡ Head.Render p → (again : AliasingEffect → M (World lent) Done) → act again (effect_with e cs) w ≡ emit (effect_with e ds) w
   unfolding act effect_with
-  plain_render p h again = ap (λ (x : Head). act again (effect_with x cs) w) h ∙ sym (ap (λ (x : Head). emit (effect_with x cs) w) h)
+  plain_render p h again = ap (λ (x : Head). act again (effect_with x cs) w) h ∙ sym (ap (λ (x : Head). emit (effect_with x ds) w) h)
 
 -- no other effect is plain
 pub plain_only : (e : Head) → ((p : Place) (r : ℕ) → e ≡ Head.Freeze p r → ⊥) → ((a : Place) (k : ValueKind) (r : ℕ) → e ≡ Head.Create a k r → ⊥) → ((a b : Place) → e ≡ Head.ImmutableCapture a b → ⊥) → ((p : Place) (d : AliasingDiagnostic) → e ≡ Head.MutateFrozen p d → ⊥) → ((p : Place) (d : AliasingDiagnostic) → e ≡ Head.MutateGlobal p d → ⊥) → ((p : Place) (d : AliasingDiagnostic) → e ≡ Head.Impure p d → ⊥) → ((p : Place) → e ≡ Head.Render p → ⊥) → Plain ≡ act_of e → ⊥
