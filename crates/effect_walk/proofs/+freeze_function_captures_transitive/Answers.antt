@@ -3,7 +3,7 @@ use mathlib.Core.Path.{refl, ◌∙◌}
 use Prim.Native.Nat.{◌+◌}
 use Rattle.lent_sets.proofs.Laws.Row.{next_ge}
 use Rattle.laws_monad.proofs.Laws.Answers.{passes}
-use Rattle.effect_walk.proofs.Laws.Walk.{freezes_value, goes_start, enters_none, enters_plain, runs_shut, row_start, runs_open, row_next, row_refused, walk_ends, walk_fails}
+use Rattle.effect_walk.proofs.Laws.Walk.{goes_start, enters_none, enters_plain, runs_shut, runs_row, row_start, runs_open, enters, row_next, row_fails, walk_ends, walk_fails}
 use Rattle.effect_walk.proofs.+freeze_function_captures_transitive.Goals as goal
 use Rattle.effect_walk.proofs.+freeze_function_captures_transitive.Goals.{then-opens+else-loop-m-test, else-opens}
 
@@ -18,14 +18,14 @@ loop-k-init t c = ((refl, refl, refl, refl), goes_start _ _ _ _ _ refl)
 
 pub loop-m-init : goal.loop-m-init
 loop-m-init t c =
-    ((refl, refl, refl, refl), row_start _ _ _ _ _ _ _ _ c.loop-k.invariant.1 c.loop-k-test.true c.entered_place-i.ensures c.opens.ensures c.if-opens.true _ c.next_value-m.ensures)
+    ((refl, refl, refl, refl), row_start _ _ _ _ _ (runs_row _ _ _ _ _ _ _ _ c.loop-k.invariant.1 c.loop-k-test.true c.entered_place-i.ensures c.opens.ensures c.if-opens.true) c.next_value-m.ensures)
 
 pub freeze_function_captures_transitive-requires : goal.freeze_function_captures_transitive-requires
 freeze_function_captures_transitive-requires t c = (let x = c.loop-k.invariant.1.walked.grows in let y = c.loop-m.invariant.1.1.walked.grows in omega arith)
 
 pub returns-in_err-freeze_function_captures_transitive-clause-does : goal.returns-in_err-freeze_function_captures_transitive-clause-does
 returns-in_err-freeze_function_captures_transitive-clause-does t c =
-    rw (passes _ _ c.from_residual.ensures.1) (walk_fails c.args.world.now _ _ _ c.if-world-ge4096.false c.one_more-world.ensures _ c.link_of.ensures _ _ c.in-Some.is c.context_count-n.ensures _ _ c.loop-k.invariant.1 _ _ c.loop-k-test.true c.entered_place-i.ensures c.opens.ensures c.if-opens.true _ _ (row_refused _ _ _ _ _ _ _ c.loop-m.invariant.1 c.loop-m-test.true (record { sets = refl; context = refl; grows = omega arith }) c.freeze_function_captures_transitive.ensures.walked (freezes_value _ _ _ _ _ _ _ _ c.freeze_value.ensures) _ c.in_err-freeze_function_captures_transitive.ensures.does refl))
+    rw (passes _ _ c.from_residual.ensures.1) (walk_fails c.args.world.now _ _ _ c.if-world-ge4096.false c.one_more-world.ensures _ c.link_of.ensures _ _ c.in-Some.is c.context_count-n.ensures _ _ c.loop-k.invariant.1 _ _ c.loop-k-test.true c.entered_place-i.ensures c.opens.ensures c.if-opens.true _ _ (row_fails _ _ _ _ _ _ c.loop-m.invariant.1 _ _ c.loop-m-test.true (enters _ _ c.loop-m.world _ c.freeze_value.ensures _ c.in_err-freeze_function_captures_transitive.ensures.does)))
 
 pub loop-m-smaller : goal.loop-m-smaller
 loop-m-smaller t c =
@@ -33,7 +33,7 @@ loop-m-smaller t c =
 
 pub loop-m-preserved : goal.loop-m-preserved
 loop-m-preserved t c =
-    ((c.loop-m.invariant.0.0 ∙ c.freeze_function_captures_transitive.ensures.kept.0, c.loop-m.invariant.0.1 ∙ c.freeze_function_captures_transitive.ensures.kept.1, c.loop-m.invariant.0.2 ∙ c.freeze_function_captures_transitive.ensures.kept.2, c.loop-m.invariant.0.3 ∙ c.freeze_function_captures_transitive.ensures.kept.3), row_next _ _ _ _ _ _ _ c.loop-m.invariant.1 c.loop-m-test.true (record { sets = refl; context = refl; grows = omega arith }) c.freeze_function_captures_transitive.ensures.walked (freezes_value _ _ _ _ _ _ _ _ c.freeze_value.ensures) _ c.in_ok-freeze_function_captures_transitive.ensures.does refl c.next_value-m-in-loop-m.ensures)
+    ((c.loop-m.invariant.0.0 ∙ c.freeze_function_captures_transitive.ensures.kept.0, c.loop-m.invariant.0.1 ∙ c.freeze_function_captures_transitive.ensures.kept.1, c.loop-m.invariant.0.2 ∙ c.freeze_function_captures_transitive.ensures.kept.2, c.loop-m.invariant.0.3 ∙ c.freeze_function_captures_transitive.ensures.kept.3), row_next _ _ _ _ _ _ c.loop-m.invariant.1 _ _ c.loop-m-test.true (record { sets = c.freeze_function_captures_transitive.ensures.walked.sets; context = c.freeze_function_captures_transitive.ensures.walked.context; grows = c.freeze_function_captures_transitive.ensures.walked.grows }) (enters _ _ c.loop-m.world _ c.freeze_value.ensures _ c.in_ok-freeze_function_captures_transitive.ensures.does) c.next_value-m-in-loop-m.ensures)
 
 pub loop-k-preserved : goal.loop-k-preserved
 loop-k-preserved t c =

@@ -136,7 +136,7 @@ module _ (F : ℕ → M (World lent) Done) (reason : ℕ) where
   entered w u v x e h = then_ok _ _ _ _ _ _ e h
 
 -- the code freezes a value as the definition does
-pub freezes_value : (vs us ss cs os : List ℕ) (r : Run) (v reason : ℕ) → us ≡ frozen vs v reason → freeze_value reason v (world vs ss cs os r) ≡ ok tt (world us ss cs os r)
+freezes_value : (vs us ss cs os : List ℕ) (r : Run) (v reason : ℕ) → us ≡ frozen vs v reason → freeze_value reason v (world vs ss cs os r) ≡ ok tt (world us ss cs os r)
 unfolding freeze_value initialize frozen
 freezes_value vs us ss cs os r v reason e = ap (λ (l : List ℕ). ok tt (world l ss cs os r)) (sym e)
 
@@ -182,10 +182,36 @@ module _ {A : Type 0} (reason : ℕ) (f : (ℕ → M (World lent) Done) → A �
     pub goes_end : ys ≡ [] → (d : ℕ) → 4096 - v.run.freeze ≤ d → each xs (f (freeze_function_captures_transitive d reason)) (seen v) ≡ ok tt (seen w)
     goes_end c d l = a.equal d l ∙ each_done _ _ _ c
 
--- the loop over the values of a place, and that over the context of the value's function
-abbrev pub RunsRow : ℕ → Lent → Lent → ℕ → ℕ → Type 0
-RunsRow reason v w i m = At v.sets.now i m × Goes reason (λ F. freeze_and_enter F reason) v w (values_of (set_at v.sets.now i)) (left (bits_of (set_at v.sets.now i)) m)
+-- the loop over the values of a place
+module _ (reason : ℕ) (f : (ℕ → M (World lent) Done) → ℕ → M (World lent) Done) where
+  abbrev pub RunsRow : Lent → Lent → ℕ → ℕ → Type 0
+  RunsRow v w i m = At v.sets.now i m × Goes reason f v w (values_of (set_at v.sets.now i)) (left (bits_of (set_at v.sets.now i)) m)
 
+  -- it begins
+  pub row_start : (v : Lent) (i m : ℕ) → is_some (set_at v.sets.now i) ≡ true → m ≡ next_member v.sets.now i 1 → RunsRow v v i m
+  row_start v i m h e = ((walk_start v.sets.now i m h e).0, goes_start reason f v _ _ (values_start v.sets.now i m h e))
+
+  module _ (v w : Lent) (i m : ℕ) (r : RunsRow v w i m) where
+    -- one more value is done
+    pub row_next : (u : Lent) (n : ℕ) → m < 1024 → Walked w u → ((d : ℕ) → 4096 - w.run.freeze ≤ d → f (freeze_function_captures_transitive d reason) m (seen w) ≡ ok tt (seen u)) → n ≡ next_member u.sets.now i (m + 1) → RunsRow v u i n
+    row_next u n h p e t =
+        let z : u.sets.now ≡ v.sets.now = p.sets ∙ r.1.walked.sets in
+        let a : n ≡ next_member v.sets.now i (m + 1) = t ∙ ap (λ (l : List ℕ). next_member l i (m + 1)) z in (
+          (walk_step v.sets.now i _ m n r.0 h a).0,
+          goes_on reason f _ _ _ _ r.1 u m _ (walk_step v.sets.now i _ m n r.0 h a).2 p (λ d l. e d (let x = r.1.walked.grows in omega arith)),
+        )
+
+    -- a value was refused
+    pub row_fails : (u : World lent) (x : ℕ) → m < 1024 → ((d : ℕ) → 4096 - w.run.freeze ≤ d → f (freeze_function_captures_transitive d reason) m (seen w) ≡ refused x u)
+        → (d : ℕ) → 4096 - v.run.freeze ≤ d → each (values_of (set_at v.sets.now i)) (f (freeze_function_captures_transitive d reason)) (seen v) ≡ refused x u
+    row_fails u x h e =
+        goes_fails reason f _ _ _ _ r.1 u m _ x (walk_step v.sets.now i _ m (next_member v.sets.now i (m + 1)) r.0 h refl).2 (λ d l. e d (let z = r.1.walked.grows in omega arith))
+
+    -- no value is left
+    pub row_ends : 1024 ≤ m → (d : ℕ) → 4096 - v.run.freeze ≤ d → each (values_of (set_at v.sets.now i)) (f (freeze_function_captures_transitive d reason)) (seen v) ≡ ok tt (seen w)
+    row_ends g = goes_end reason f _ _ _ _ r.1 (walk_end v.sets.now i _ m r.0 g)
+
+-- the loop over the context of the value's function
 abbrev pub Runs : ℕ → Lent → Lent → ℕ → ℕ → ℕ → Type 0
 Runs reason v w f n k = Goes reason (λ F. enter_place F reason) v w (places_in Layout.contexts v.context.now f 0 0 (n - 0)) (places_in Layout.contexts v.context.now f 0 k (n - k))
 
@@ -224,16 +250,16 @@ module _ (reason : ℕ) (v w : Lent) (f n k i : ℕ) (b : Bool) (r : Runs reason
       (λ d q. place_shut (freeze_function_captures_transitive d reason) reason (seen w) _ i b named o z)
 
   module _ (z : b ≡ true) where
-    -- the loop over the values of a place begins
-    pub row_start : (m : ℕ) → m ≡ next_member w.sets.now i 1 → RunsRow reason w w i m
-    row_start m g = ((walk_start w.sets.now i m (opened w.values.now w.sets.now i b o z) g).0, goes_start _ _ w _ _ (values_start w.sets.now i m (opened w.values.now w.sets.now i b o z) g))
+    -- the place has values
+    pub runs_row : is_some (set_at w.sets.now i) ≡ true
+    runs_row = opened w.values.now w.sets.now i b o z
 
     -- its values are done, and the walk goes on with the next place
-    pub runs_open : (u : Lent) (m : ℕ) → RunsRow reason w u i m → 1024 ≤ m → Runs reason v u f n (k + 1)
+    pub runs_open : (u : Lent) (m : ℕ) → RunsRow reason (λ F. freeze_and_enter F reason) w u i m → 1024 ≤ m → Runs reason v u f n (k + 1)
     runs_open u m y g =
         goes_on _ _ _ _ _ _ r u _ _ (places_more Layout.contexts v.context.now f 0 k n h) y.1.walked
         (λ d q. place_opens (freeze_function_captures_transitive d reason) reason (seen w) _ i b named o z
-        ∙ goes_end _ _ _ _ _ _ y.1 (walk_end w.sets.now i _ m y.0 g) d (let x = r.walked.grows in omega arith))
+        ∙ row_ends reason (λ F. freeze_and_enter F reason) w u i m y g d (let x = r.walked.grows in omega arith))
 
     -- a value of the place was refused
     runs_refused : (u : World lent) (x : ℕ) → ((d : ℕ) → 4096 - w.run.freeze ≤ d → each (values_of (set_at w.sets.now i)) (freeze_and_enter (freeze_function_captures_transitive d reason) reason) (seen w) ≡ refused x u)
@@ -242,23 +268,11 @@ module _ (reason : ℕ) (v w : Lent) (f n k i : ℕ) (b : Bool) (r : Runs reason
         goes_fails _ _ _ _ _ _ r u _ _ x (places_more Layout.contexts v.context.now f 0 k n h)
         (λ d q. place_opens (freeze_function_captures_transitive d reason) reason (seen w) _ i b named o z ∙ y d (let p = r.walked.grows in omega arith))
 
--- the loop over the values of a place: a value is frozen, then entered
-module _ (reason : ℕ) (v w u y : Lent) (i m : ℕ) (r : RunsRow reason v w i m) (h : m < 1024) (p : Walked w u) (q : Walked u y) (e : freeze_value reason m (seen w) ≡ ok tt (seen u)) where
-  pub row_next : (n : ℕ) → ((d : ℕ) → 4096 - u.run.freeze ≤ d → freeze_function_captures_transitive d reason m (seen u) ≡ ok tt (seen y)) → u.run.freeze ≡ w.run.freeze → n ≡ next_member y.sets.now i (m + 1) → RunsRow reason v y i n
-  row_next n g s t =
-      let z : y.sets.now ≡ v.sets.now = q.sets ∙ p.sets ∙ r.1.walked.sets in
-      let a : n ≡ next_member v.sets.now i (m + 1) = t ∙ ap (λ (l : List ℕ). next_member l i (m + 1)) z in (
-        (walk_step v.sets.now i _ m n r.0 h a).0,
-        goes_on _ _ _ _ _ _ r.1 y m _ (walk_step v.sets.now i _ m n r.0 h a).2 (walked_then w u y p q)
-            (λ d l. entered (freeze_function_captures_transitive d reason) reason (seen w) (seen u) m _ e (g d (let x = r.1.walked.grows in omega arith))),
-      )
-
-  -- a value was refused
-  pub row_refused : (x : ℕ) → ((d : ℕ) → 4096 - u.run.freeze ≤ d → freeze_function_captures_transitive d reason m (seen u) ≡ refused x (seen y)) → u.run.freeze ≡ w.run.freeze
-      → (d : ℕ) → 4096 - v.run.freeze ≤ d → each (values_of (set_at v.sets.now i)) (freeze_and_enter (freeze_function_captures_transitive d reason) reason) (seen v) ≡ refused x (seen y)
-  row_refused x g s =
-      goes_fails _ _ _ _ _ _ r.1 (seen y) m _ x (walk_step v.sets.now i _ m (next_member v.sets.now i (m + 1)) r.0 h refl).2
-      (λ d l. entered (freeze_function_captures_transitive d reason) reason (seen w) (seen u) m _ e (g d (let z = r.1.walked.grows in omega arith)))
+-- a value is frozen, then entered
+pub enters : (reason m : ℕ) (w : Lent) (us : List ℕ) → us ≡ frozen w.values.now m reason → (x : Res (World lent) Done)
+    → ((d : ℕ) → 4096 - w.run.freeze ≤ d → freeze_function_captures_transitive d reason m (world us w.sets.now w.context.now w.output.now w.run) ≡ x)
+    → (d : ℕ) → 4096 - w.run.freeze ≤ d → freeze_and_enter (freeze_function_captures_transitive d reason) reason m (seen w) ≡ x
+enters reason m w us e x g d l = entered (freeze_function_captures_transitive d reason) reason (seen w) _ m x (freezes_value w.values.now us w.sets.now w.context.now w.output.now w.run m reason e) (g d l)
 
 -- the walk of a value with a function ends as its loop over the context does
 module _ (u : Lent) (a reason x : ℕ) (h : u.run.freeze < 4096) (g : a ≡ one_more u.run.entries) (o : Option ℕ) (l : o ≡ link_of u.context.now x) (f n : ℕ) (s : o ≡ Some f) (t : n ≡ field Layout.functions u.context.now f 1)
