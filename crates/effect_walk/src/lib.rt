@@ -1,34 +1,47 @@
 // The freeze walk over lent tables: it calls itself, and the entries still allowed fall. After freeze_function_captures_transitive of the Rust.
 #![tactic(auto)]
 
-ghost use Rattle.std.specs.Prelude.{◌≡◌};
+ghost use Rattle.std.specs.Prelude.{◌≡◌, ◌-◌, ◌*◌, ◌≤◌, ℕ};
+ghost use Rattle.def_transfer.specs.Walk as Walk;
+ghost use Rattle.lent_layout.specs.Layout as Layout;
+ghost use Rattle.lent_sets.specs.Rows as Rows;
+ghost use Rattle.lent_tables.specs.Words as Words;
+ghost use Rattle.lent_world.specs.Promise.{Kept, Does};
 ghost use Rattle.state_ops.specs.Lists.{freezes};
-ghost use Rattle.effect_walk.specs.Walks.{Entered};
+ghost use Rattle.effect_walk.specs.Walks.{Walked};
 
 use def_kinds::{AbstractValue, ValueKind, single};
-use def_refusals::Refusal;
+use def_refusals::{Refusal, Verdict};
 use lent_context::context_count;
 use lent_functions::context_identifier;
 use lent_links::{link_of, one_more};
 use lent_members::next_member;
 use lent_sets::is_defined;
 use lent_values::put_value;
+use lent_world::World;
 use state_ops::kind_of;
-
-// What a walk has come to: the entries of the Freeze under way, and those of all Freezes of the instruction.
-// It goes by value, so that the walk's frame stays small.
-#[derive(Clone, Copy)]
-pub struct Walked {
-    pub freeze: u32,
-    pub entries: u32,
-}
 
 // Whether a freeze acts on a place: it is defined, and Mutable, Context or MaybeFrozen.
 // The walk asks this anew at each context place.
-pub fn opens(values: &[u64], sets: &[u64], i: u32) -> bool
-    ensures { result ≡ freezes values.now sets.now i }
+pub fn opens(world: &World, i: u32) -> bool
+    ensures { result ≡ freezes world.now.values.now world.now.sets.now i }
 {
-    is_defined(sets, i) && kind_of(values, sets, i).kind.is_freezable()
+    is_defined(world.sets, i) && kind_of(world.values, world.sets, i).kind.is_freezable()
+}
+
+// The lowest value of a place from `from` on, or 1,024.
+// A walk lends the whole world to what it enters, so that no iterator can hold on to the sets meanwhile.
+pub fn next_value(world: &World, i: u32, from: u32) -> u32
+    ensures { result ≡ Rows.next_member world.now.sets.now i from }
+{
+    next_member(world.sets, i, from)
+}
+
+// The identifier of a context place of a function.
+fn entered_place(world: &World, f: u32, k: u32) -> u32
+    ensures { result ≡ Words.field Layout.contexts world.now.context.now f (k * 5) }
+{
+    context_identifier(world.context, f, k)
 }
 
 // A value becomes Frozen with one reason.
@@ -45,46 +58,34 @@ pub fn freeze_value(values: &mut [u64], v: u32, reason: u32)
 
 // Enters a value: counts the entry, then looks at the context of the value's function in order, and freezes and enters each value
 // of a place there that is defined and Mutable, Context or MaybeFrozen. No mark of what was visited: repeats count too.
-pub fn freeze_function_captures_transitive(
-    values: &mut [u64],
-    sets: &[u64],
-    context: &[u32],
-    reason: u32,
-    v: u32,
-    freeze: u32,
-    entries: u32,
-) -> Result<Walked, Refusal>
-    ensures { Entered values.old sets.now context.now reason v freeze entries values.new result }
+// At any depth from the entries still allowed on it is the definition's.
+pub fn freeze_function_captures_transitive(world: &mut World, reason: u32, v: u32) -> Verdict
+    ensures kept { Kept world.old world.new }
+    ensures walked { Walked world.old world.new }
+    ensures does { (d : ℕ)
+        → 4096 - world.old.run.freeze ≤ d
+        → Does (Walk.freeze_function_captures_transitive d reason v) world.old world.new result }
 {
-    if freeze >= 4096 {
+    if world.run.freeze >= 4096 {
         return Err(Refusal::Entries);
     }
-    let mut made = freeze + 1;
-    let mut all = one_more(entries);
+    world.run.freeze += 1;
+    world.run.entries = one_more(world.run.entries);
+    let context = &mut *world.context;
     let Some(f) = link_of(context, v) else {
-        return Ok(Walked {
-            freeze: made,
-            entries: all,
-        });
+        return Ok(());
     };
     let n = context_count(context, f);
     for k in 0..n {
-        let i = context_identifier(context, f, k);
-        if opens(values, sets, i) {
-            let mut m = next_member(sets, i, 1);
+        let i = entered_place(world, f, k);
+        if opens(world, i) {
+            let mut m = next_value(world, i, 1);
             while m < 1024 {
-                freeze_value(values, m, reason);
-                let w = freeze_function_captures_transitive(
-                    values, sets, context, reason, m, made, all,
-                )?;
-                made = w.freeze;
-                all = w.entries;
-                m = next_member(sets, i, m + 1);
+                freeze_value(world.values, m, reason);
+                freeze_function_captures_transitive(world, reason, m)?;
+                m = next_value(world, i, m + 1);
             }
         }
     }
-    Ok(Walked {
-        freeze: made,
-        entries: all,
-    })
+    Ok(())
 }

@@ -1,5 +1,5 @@
 -- Laws by which the code of a Freeze meets the definition. Assumes nothing.
-use Rattle.std.specs.Prelude.{ℕ, ◌+◌, ◌≤◌, ◌<◌, ◌≡◌, Bool, true, false, List}
+use Rattle.std.specs.Prelude.{ℕ, ◌-◌, ◌≤◌, ◌<◌, ◌≡◌, Bool, true, false, List}
 use Rattle.std.proofs.Common.{arith, sym, ap, ap₂, ◌∙◌}
 use Rattle.std.proofs.Math.Path.{refl}
 use Rattle.def_effects.specs.declared.Place.{Place}
@@ -7,77 +7,58 @@ use Rattle.def_effects.specs.Effects.{AliasingEffect}
 use Rattle.def_transfer.specs.Monad.{Res, ok, refused, M, Done, each}
 use Rattle.def_transfer.specs.Tables.{World}
 use Rattle.def_transfer.specs.State.{ask, change, set_of}
-use Rattle.base_sets.specs.Members.{values_of, bits_of}
+use Rattle.base_sets.specs.Members.{values_of}
 use Rattle.base_tests.specs.Tests.{is_some}
 use Rattle.def_transfer.specs.State as State
 use Rattle.def_transfer.specs.Context.{start_freeze, emit}
 use Rattle.def_transfer.specs.Walk.{freeze_function_captures_transitive, walk}
 use Rattle.def_transfer.specs.Step.{freezing}
-use Rattle.lent_sets.specs.Rows.{set_at, left, next_member}
-use Rattle.lent_sets.proofs.Laws.Row.{walk_start, walk_step, walk_end, none_of}
+use Rattle.lent_sets.specs.Rows.{set_at}
+use Rattle.lent_sets.proofs.Laws.Row.{none_of}
 use Rattle.state_ops.specs.Lists.{freezes, frozen_values}
-use Rattle.state_ops.proofs.Laws.List.{At, values_start}
 use Rattle.state_ops.proofs.Laws.Text.{freeze_lists}
 use Rattle.lent_context.specs.Lent.{is_transitive}
 use Rattle.lent_work.specs.declared.Run.{Run}
 use Rattle.lent_effects.specs.declared.AliasingEffect.TheVariants as Head
 use Rattle.lent_effects.specs.Records.{effect_with}
-use Rattle.laws_monad.proofs.Laws.Answers.{bind_ok, then_ok, if_true, if_false, answer_refused, done_ok}
-use Rattle.laws_monad.proofs.Laws.Each.{each_goes, each_fails, each_done}
+use Rattle.laws_monad.proofs.Laws.Answers.{bind_ok, then_ok, if_true, if_false, done_ok}
+use Rattle.laws_monad.proofs.Laws.Each.{each_done}
 use Rattle.lent_world.specs.World.{lent, world}
-use Rattle.effect_walk.specs.Walks.{Still, walking, Enters}
-use Rattle.effect_freeze.specs.Freezes.{with_entries}
+use Rattle.lent_world.specs.declared.World.{World as Lent}
+use Rattle.lent_world.specs.Promise.{seen}
+use Rattle.effect_walk.proofs.Laws.Walk.{RunsRow, row_fails, row_ends}
 
--- what a walk leaves of what is lent and goes by value
--- `world` cut as a walk sees it
-abbrev still : List ℕ → Run → Still
-still os r = record { flag = r.flag; session = r.session; marks = r.marks; listed = record { words = os; count = r.listed } }
+-- what is lent, with no entry made yet
+abbrev started : Lent → Lent
+started w = record {
+  values = w.values;
+  sets = w.sets;
+  context = w.context;
+  output = w.output;
+  run = record { session = w.run.session; flag = w.run.flag; marks = w.run.marks; listed = w.run.listed; freeze = 0; entries = w.run.entries };
+}
 
--- each Freeze starts from zero
-starts : (vs ss cs os : List ℕ) (r : Run) (i reason : ℕ) (x : Res (World lent) Done) → each (values_of (set_at ss i)) (freeze_function_captures_transitive 4097 reason) (walking vs ss cs (still os r) 0 r.entries) ≡ x → walk (values_of (set_at ss i)) reason (world vs ss cs os r) ≡ x
-unfolding walk start_freeze change
-starts vs ss cs os r i reason x h = then_ok _ _ _ _ _ _ refl h
+-- each Freeze starts from zero, and enters the values of its place
+abbrev pub Walks : ℕ → Lent → Lent → ℕ → ℕ → Type 0
+Walks reason v w i m = RunsRow reason (λ F. F) v w i m
 
--- a place that is not defined has no values
-pub walk_none : (vs ss cs : List ℕ) (r u : Run) (i reason : ℕ) (b : Bool) → b ≡ is_some (set_at ss i) → b ≡ false → u ≡ with_entries 0 r.entries r
-    → (os : List ℕ) → walk (values_of (set_at ss i)) reason (world vs ss cs os r) ≡ ok tt (world vs ss cs os u)
-walk_none vs ss cs r u i reason b e h g os =
-    starts vs ss cs os r i reason _ (each_done (freeze_function_captures_transitive 4097 reason) _ _ (ap values_of (none_of (set_at ss i) (sym e ∙ h))) ∙ ap (λ (w : Run). ok tt (world vs ss cs os w)) (sym g))
+module _ (u : Lent) (i reason : ℕ) where
+  starts : (x : Res (World lent) Done) → each (values_of (set_at u.sets.now i)) (freeze_function_captures_transitive 4097 reason) (seen (started u)) ≡ x → walk (values_of (set_at u.sets.now i)) reason (seen u) ≡ x
+  unfolding walk start_freeze change
+  starts x h = then_ok _ _ _ _ _ _ refl h
 
--- what a loop over the values of a place has still to enter
--- from the loop's own start
-pub record Walks (vs₀ ss cs : List ℕ) (i reason all₀ m : ℕ) (vs : List ℕ) (made all : ℕ) : Type 0 where
-  pub here : At ss i m
-  pub equal : (s : Still) → each (values_of (set_at ss i)) (freeze_function_captures_transitive 4097 reason) (walking vs₀ ss cs s 0 all₀) ≡ each (left (bits_of (set_at ss i)) m) (freeze_function_captures_transitive 4097 reason) (walking vs ss cs s made all)
+  -- a place that is not defined has no values
+  pub walk_none : (b : Bool) → b ≡ is_some (set_at u.sets.now i) → b ≡ false → walk (values_of (set_at u.sets.now i)) reason (seen u) ≡ ok tt (seen (started u))
+  walk_none b e h = starts _ (each_done (freeze_function_captures_transitive 4097 reason) _ _ (ap values_of (none_of (set_at u.sets.now i) (sym e ∙ h))))
 
-module _ (vs₀ ss cs : List ℕ) (i reason all₀ m : ℕ) where
-  pub walks_start : (b : Bool) → b ≡ is_some (set_at ss i) → b ≡ true → m ≡ next_member ss i 1 → Walks vs₀ ss cs i reason all₀ m vs₀ 0 all₀
-  walks_start b e h g = record {
-    here = (walk_start ss i m (sym e ∙ h) g).0;
-    equal = λ s. ap (λ (l : List ℕ). each l (freeze_function_captures_transitive 4097 reason) (walking vs₀ ss cs s 0 all₀)) (values_start ss i m (sym e ∙ h) g);
-  }
-
-  module _ (vs : List ℕ) (made all : ℕ) (a : Walks vs₀ ss cs i reason all₀ m vs made all) where
-    -- the next value is entered
-    pub walks_next : (us : List ℕ) (x made' all' n : ℕ) → m < 1024 → Enters vs ss cs reason m made all us x made' all' → x ≡ 0 → n ≡ next_member ss i (m + 1) → Walks vs₀ ss cs i reason all₀ n us made' all'
-    walks_next us x made' all' n h w z e = record {
-      here = (walk_step ss i _ m n a.here h e).0;
-      equal = λ s. a.equal s ∙ each_goes (freeze_function_captures_transitive 4097 reason) m _ _ x _ _ (walk_step ss i _ m n a.here h e).2 (w.equal s 4097 (omega arith)) z;
-    }
-
+  module _ (w : Lent) (m : ℕ) (a : Walks reason (started u) w i m) where
     -- an entry is refused
-    pub walks_refused : (us : List ℕ) (x made' all' : ℕ) (r : Run) → m < 1024 → Enters vs ss cs reason m made all us x made' all' → ¬ (x ≡ 0) → all₀ ≡ r.entries
-        → (os : List ℕ) → walk (values_of (set_at ss i)) reason (world vs₀ ss cs os r) ≡ refused x (world us ss cs os (with_entries made' all' r))
-    walks_refused us x made' all' r h w z q os =
-        starts vs₀ ss cs os r i reason _ (ap (λ (n : ℕ). each (values_of (set_at ss i)) (freeze_function_captures_transitive 4097 reason) (walking vs₀ ss cs (still os r) 0 n)) (sym q) ∙ a.equal (still os r)
-        ∙ each_fails (freeze_function_captures_transitive 4097 reason) m _ _ x _ _ (walk_step ss i _ m (next_member ss i (m + 1)) a.here h refl).2 (w.equal (still os r) 4097 (omega arith) ∙ answer_refused x tt _ z))
+    pub walk_fails : (z : World lent) (x : ℕ) → m < 1024 → ((d : ℕ) → 4096 - w.run.freeze ≤ d → freeze_function_captures_transitive d reason m (seen w) ≡ refused x z) → walk (values_of (set_at u.sets.now i)) reason (seen u) ≡ refused x z
+    walk_fails z x h e = starts _ (row_fails reason (λ F. F) (started u) w i m a z x h e 4097 (omega arith))
 
     -- all values are entered
-    pub walks_end : (r u : Run) → 1024 ≤ m → all₀ ≡ r.entries → u ≡ with_entries made all r → (os : List ℕ) → walk (values_of (set_at ss i)) reason (world vs₀ ss cs os r) ≡ ok tt (world vs ss cs os u)
-    walks_end r u h q g os =
-        starts vs₀ ss cs os r i reason _ (ap (λ (n : ℕ). each (values_of (set_at ss i)) (freeze_function_captures_transitive 4097 reason) (walking vs₀ ss cs (still os r) 0 n)) (sym q) ∙ a.equal (still os r)
-        ∙ each_done (freeze_function_captures_transitive 4097 reason) _ _ (walk_end ss i _ m a.here h)
-        ∙ ap (λ (y : Run). ok tt (world vs ss cs os y)) (sym g))
+    pub walk_ends : 1024 ≤ m → walk (values_of (set_at u.sets.now i)) reason (seen u) ≡ ok tt (seen w)
+    walk_ends h = starts _ (row_ends reason (λ F. F) (started u) w i m a h 4097 (omega arith))
 
 -- ---- the three ways through a Freeze
 
@@ -90,18 +71,18 @@ module _ (vs us ss cs os : List ℕ) (r : Run) (p : Place) (reason : ℕ) (b : B
   unfolding freezing
   freezing_not h = bind_ok _ _ _ _ _ _ frozen_to (if_false _ _ _ _ _ h (done_ok _))
 
-  module _ (hs : List Place) (ts : List ℕ) (u : Run) (t : Bool) (h : b ≡ true) (q : emit (effect_with (Head.Freeze p reason) hs) (world us ss cs os r) ≡ ok tt (world us ss cs ts u)) (w : t ≡ is_transitive cs) where
+  module _ (hs : List Place) (w : World lent) (t : Bool) (h : b ≡ true) (q : emit (effect_with (Head.Freeze p reason) hs) (world us ss cs os r) ≡ ok tt w) (o : t ≡ is_transitive w.rest.context) where
     -- it acts, and both options are off
-    pub freezing_plain : t ≡ false → freezing again p reason (world vs ss cs os r) ≡ ok tt (world us ss cs ts u)
+    pub freezing_plain : t ≡ false → freezing again p reason (world vs ss cs os r) ≡ ok tt w
     unfolding freezing ask effect_with
     freezing_plain z =
         bind_ok _ _ _ _ _ _ frozen_to (if_true _ _ _ _ _ h (then_ok _ _ _ _ _ _ q
-        (bind_ok _ _ _ _ _ _ (ap (λ (x : Bool). ok x (world us ss cs ts u)) (sym w)) (if_false _ _ _ _ _ z (done_ok _)))))
+        (bind_ok _ _ _ _ _ _ (ap (λ (x : Bool). ok x w) (sym o)) (if_false _ _ _ _ _ z (done_ok _)))))
 
     -- it acts, and its values are walked
     -- the walk decides what the whole comes to
-    pub freezing_walks : t ≡ true → freezing again p reason (world vs ss cs os r) ≡ walk (values_of (set_at ss p.identifier)) reason (world us ss cs ts u)
+    pub freezing_walks : t ≡ true → (x : Res (World lent) Done) → walk (values_of (set_at w.state.sets p.identifier)) reason w ≡ x → freezing again p reason (world vs ss cs os r) ≡ x
     unfolding freezing ask set_of effect_with
-    freezing_walks z =
+    freezing_walks z x k =
         bind_ok _ _ _ _ _ _ frozen_to (if_true _ _ _ _ _ h (then_ok _ _ _ _ _ _ q
-        (bind_ok _ _ _ _ _ _ (ap (λ (x : Bool). ok x (world us ss cs ts u)) (sym w)) (if_true _ _ _ _ _ z (bind_ok _ _ _ _ _ _ refl refl)))))
+        (bind_ok _ _ _ _ _ _ (ap (λ (y : Bool). ok y w) (sym o)) (if_true _ _ _ _ _ z (bind_ok _ _ _ _ _ _ refl k)))))

@@ -4,7 +4,7 @@ use native.Mathlib.Omega.{arith}
 use Rattle.std.proofs.Common.{add-one, ap₂, ◌∙◌}
 use Rattle.std.proofs.Math.Path.{refl, sym, ap}
 use Rattle.std.proofs.Math.Bool.{true, false}
-use mathlib.Core.List.{List, []}
+use mathlib.Core.List.{List, [], ◌∷◌}
 use Rattle.base_tests.specs.Tests.{ite, is_some}
 use Rattle.def_kinds.specs.declared.ValueKind.TheVariants.{Frozen}
 use Rattle.def_kinds.specs.declared.AbstractValue.{AbstractValue}
@@ -12,7 +12,7 @@ use Rattle.def_kinds.specs.Kinds.{freezable}
 use Rattle.def_kinds.specs.Reasons.{single}
 use Rattle.def_kinds.specs.Values.{mk}
 use Rattle.def_effects.specs.declared.Place.{Place}
-use Rattle.def_transfer.specs.Monad.{Res, ok, M, Done, and_then, ◌>>=◌, return, refuse, when◌then◌else◌, each}
+use Rattle.def_transfer.specs.Monad.{Res, ok, refused, M, Done, and_then, ◌>>=◌, return, refuse, when◌then◌else◌, each}
 use Rattle.def_transfer.specs.Tables.{World}
 use Rattle.def_transfer.specs.State.{kind_of, ask, change, set_of, peek, initialize, freeze_value, to_freeze}
 use Rattle.base_sets.specs.Members.{values_of, bits_of}
@@ -27,11 +27,13 @@ use Rattle.lent_tables.specs.Words.{field, place_in, places_in}
 use Rattle.lent_tables.proofs.Laws.Word.{places_more, places_none}
 use Rattle.lent_layout.specs.Layout as Layout
 use Rattle.lent_context.specs.Lent.{link_of, context_of}
-use Rattle.laws_monad.specs.Answers.{answer}
-use Rattle.laws_monad.proofs.Laws.Answers.{bind_ok, then_ok, then_refused, if_le, if_gt}
-use Rattle.laws_monad.proofs.Laws.Each.{each_goes, each_refused, each_ends}
-use Rattle.lent_world.specs.World.{lent, one_more}
-use Rattle.effect_walk.specs.Walks.{frozen, Still, walking, Enters}
+use Rattle.lent_work.specs.declared.Run.{Run}
+use Rattle.laws_monad.proofs.Laws.Answers.{bind_ok, then_ok, then_fails, if_le, if_gt}
+use Rattle.laws_monad.proofs.Laws.Each.{each_ok, each_fails, each_done}
+use Rattle.lent_world.specs.World.{lent, world, one_more}
+use Rattle.lent_world.specs.declared.World.{World as Lent}
+use Rattle.lent_world.specs.Promise.{seen}
+use Rattle.effect_walk.specs.Walks.{frozen, Walked}
 
 -- ---- the small functions
 
@@ -49,42 +51,94 @@ frozen_is vs us v i b reason e f g = g ∙ ap₂ (λ (x y : ℕ). put_value vs x
 
 -- ---- an entry is counted
 
-module _ (ss cs : List ℕ) (s : Still) where
-  count_full : (vs : List ℕ) (made all : ℕ) → 4096 ≤ made → count_entry (walking vs ss cs s made all) ≡ answer 11 tt (walking vs ss cs s made all)
-  unfolding count_entry ask refuse answer
-  count_full vs made all h = bind_ok _ _ _ _ _ _ refl (if_le 4096 made _ _ _ _ h refl)
+count_full : (w : World lent) → 4096 ≤ w.rest.work.freeze_entries → count_entry w ≡ refused 11 w
+unfolding count_entry ask refuse
+count_full w h = bind_ok _ _ _ _ _ _ refl (if_le 4096 w.rest.work.freeze_entries _ _ _ _ h refl)
 
-  count_one : (vs : List ℕ) (made all : ℕ) → made < 4096 → count_entry (walking vs ss cs s made all) ≡ ok tt (walking vs ss cs s (made + 1) (one_more all))
-  unfolding count_entry ask change
-  count_one vs made all h =
-      bind_ok _ _ _ _ _ _ refl (if_gt 4096 made _ _ _ _ h (ap (λ (n : ℕ). ok tt (walking vs ss cs s n (one_more all))) (sym (add-one made))))
+-- what is lent, with one entry more
+abbrev counted : Lent → ℕ → ℕ → Lent
+counted w n a = record {
+  values = w.values;
+  sets = w.sets;
+  context = w.context;
+  output = w.output;
+  run = record { session = w.run.session; flag = w.run.flag; marks = w.run.marks; listed = w.run.listed; freeze = n; entries = a };
+}
+
+count_one : (w : Lent) (a : ℕ) → w.run.freeze < 4096 → a ≡ one_more w.run.entries → count_entry (seen w) ≡ ok tt (seen (counted w (w.run.freeze + 1) a))
+unfolding count_entry ask change
+count_one w a h e = bind_ok _ _ _ _ _ _ refl (if_gt 4096 w.run.freeze _ _ _ _ h (ap₂ (λ (x y : ℕ). ok tt (seen (counted w x y))) (sym (add-one w.run.freeze)) (sym e)))
+
+-- ---- entering at any depth: refused when the entries are used up, else counted
+
+depth_none : (w : World lent) (reason v : ℕ) → 4096 ≤ w.rest.work.freeze_entries → (d : ℕ) → freeze_function_captures_transitive d reason v w ≡ refused 11 w
+unfolding freeze_function_captures_transitive refuse
+depth_none w reason v h zero = refl
+depth_none w reason v h (suc d) = then_fails _ _ _ _ _ (count_full w h)
+
+depth_more : (w u : World lent) (reason v d : ℕ) → count_entry w ≡ ok tt u → freeze_function_captures_transitive (suc d) reason v w ≡ enter_context (freeze_function_captures_transitive d reason) reason v u
+unfolding freeze_function_captures_transitive
+depth_more w u reason v d h = then_ok _ _ _ _ _ _ h refl
+
+-- a depth from the entries still allowed on is a successor while one is allowed
+deeper : (P : ℕ → Type 0) (made d : ℕ) → made < 4096 → 4096 - made ≤ d → ((n : ℕ) → 4096 - (made + 1) ≤ n → P (suc n)) → P d
+deeper P made zero h l k = absurd (omega arith)
+deeper P made (suc d) h l k = k d (omega arith)
+
+-- the last entry was made before
+-- "11 the walk of one Freeze would make its 4,097th entry"
+pub enters_none : (w : Lent) (reason v : ℕ) → 4096 ≤ w.run.freeze → (d : ℕ) → 4096 - w.run.freeze ≤ d → freeze_function_captures_transitive d reason v (seen w) ≡ refused 11 (seen w)
+enters_none w reason v h d l = depth_none (seen w) reason v h d
+
+module _ (F : ℕ → M (World lent) Done) (reason : ℕ) where
+  -- the context that is looked at
+  context_none : (w : World lent) (v : ℕ) → link_of w.rest.context v ≡ None → enter_context F reason v w ≡ ok tt w
+  unfolding enter_context ask linked_context
+  context_none w v e =
+      bind_ok _ _ _ _ _ _ refl
+      (each_done (enter_place F reason) _ w (ap (λ (o : Option ℕ). elim o as (λ x. List Place) [ None ↦ [] | Some f ↦ function_context f w.rest ]) e))
+
+  context_some : (w : World lent) (v f n : ℕ) → link_of w.rest.context v ≡ Some f → n ≡ field Layout.functions w.rest.context f 1
+      → enter_context F reason v w ≡ each (places_in Layout.contexts w.rest.context f 0 0 (n - 0)) (enter_place F reason) w
+  unfolding enter_context ask linked_context function_context context_of
+  context_some w v f n e g =
+      let z : n - 0 ≡ n = omega arith in
+      bind_ok _ _ _ _ _ _ refl
+      (ap (λ (o : Option ℕ). each (elim o as (λ x. List Place) [ None ↦ [] | Some f ↦ places_in Layout.contexts w.rest.context f 0 0 (field Layout.functions w.rest.context f 1) ]) (enter_place F reason) w) e
+      ∙ ap (λ (m : ℕ). each (places_in Layout.contexts w.rest.context f 0 0 m) (enter_place F reason) w) (sym g ∙ sym z))
 
   -- ---- a place of the context
 
-  module _ (F : ℕ → M (World lent) Done) (reason : ℕ) (vs : List ℕ) (made all : ℕ) where
-    to_freeze_is : (i : ℕ) (b : Bool) → b ≡ freezes vs ss i → to_freeze i (walking vs ss cs s made all) ≡ ok (ite b (set_at ss i) None) (walking vs ss cs s made all)
-    unfolding to_freeze set_of peek freezes return when◌then◌else◌ ◌>>=◌ and_then
-    to_freeze_is i b e = go (is_some (set_at ss i) && freezable (kind_of (value_at vs) (set_at ss i)).kind) ∙ ap (λ (x : Bool). ok (ite x (set_at ss i) None) (walking vs ss cs s made all)) (sym e)
-      where
-        go : (x : Bool) → (elim x as (λ y. Res (World lent) (Option ℕ)) [ true ↦ ok (set_at ss i) (walking vs ss cs s made all) | false ↦ ok None (walking vs ss cs s made all) ]) ≡ ok (ite x (set_at ss i) None) (walking vs ss cs s made all)
-        go true = refl
-        go false = refl
+  to_freeze_is : (w : World lent) (i : ℕ) (b : Bool) → b ≡ freezes w.state.values w.state.sets i → to_freeze i w ≡ ok (ite b (set_at w.state.sets i) None) w
+  unfolding to_freeze set_of peek freezes return when◌then◌else◌ ◌>>=◌ and_then
+  to_freeze_is w i b e = go (is_some (set_at w.state.sets i) && freezable (kind_of (value_at w.state.values) (set_at w.state.sets i)).kind) ∙ ap (λ (x : Bool). ok (ite x (set_at w.state.sets i) None) w) (sym e)
+    where
+      go : (x : Bool) → (elim x as (λ y. Res (World lent) (Option ℕ)) [ true ↦ ok (set_at w.state.sets i) w | false ↦ ok None w ]) ≡ ok (ite x (set_at w.state.sets i) None) w
+      go true = refl
+      go false = refl
 
-    place_shut : (p : Place) (i : ℕ) (b : Bool) → p.identifier ≡ i → b ≡ freezes vs ss i → b ≡ false → enter_place F reason p (walking vs ss cs s made all) ≡ answer 0 tt (walking vs ss cs s made all)
+  module _ (w : World lent) (p : Place) (i : ℕ) (b : Bool) (q : p.identifier ≡ i) (e : b ≡ freezes w.state.values w.state.sets i) where
+    asked : to_freeze p.identifier w ≡ ok (ite b (set_at w.state.sets i) None) w
+    asked = ap (λ (x : ℕ). to_freeze x w) q ∙ to_freeze_is w i b e
+
+    place_shut : b ≡ false → enter_place F reason p w ≡ ok tt w
     unfolding enter_place
-    place_shut p i b q e h =
-        bind_ok _ _ _ _ _ _ (ap (λ (x : ℕ). to_freeze x (walking vs ss cs s made all)) q ∙ to_freeze_is i b e ∙ ap (λ (x : Bool). ok (ite x (set_at ss i) None) (walking vs ss cs s made all)) h)
-        (each_ends (freeze_and_enter F reason) (values_of None) (walking vs ss cs s made all) refl)
+    place_shut h =
+        bind_ok _ _ _ _ _ _ (asked ∙ ap (λ (x : Bool). ok (ite x (set_at w.state.sets i) None) w) h) (each_done (freeze_and_enter F reason) (values_of None) w refl)
 
-    place_opens : (p : Place) (i : ℕ) (b : Bool) → p.identifier ≡ i → b ≡ freezes vs ss i → b ≡ true → enter_place F reason p (walking vs ss cs s made all) ≡ each (values_of (set_at ss i)) (freeze_and_enter F reason) (walking vs ss cs s made all)
+    place_opens : b ≡ true → enter_place F reason p w ≡ each (values_of (set_at w.state.sets i)) (freeze_and_enter F reason) w
     unfolding enter_place
-    place_opens p i b q e h =
-        bind_ok _ _ _ _ _ _ (ap (λ (x : ℕ). to_freeze x (walking vs ss cs s made all)) q ∙ to_freeze_is i b e ∙ ap (λ (x : Bool). ok (ite x (set_at ss i) None) (walking vs ss cs s made all)) h) refl
+    place_opens h = bind_ok _ _ _ _ _ _ (asked ∙ ap (λ (x : Bool). ok (ite x (set_at w.state.sets i) None) w) h) refl
 
-    -- a value is frozen, then entered
-    freezes_and_enters : (v : ℕ) (us : List ℕ) (x : Res (World lent) Done) → us ≡ frozen vs v reason → F v (walking us ss cs s made all) ≡ x → freeze_and_enter F reason v (walking vs ss cs s made all) ≡ x
-    unfolding freeze_and_enter freeze_value initialize frozen
-    freezes_and_enters v us x e h = then_ok _ _ _ _ _ _ refl (ap (λ (l : List ℕ). F v (walking l ss cs s made all)) (sym e) ∙ h)
+  -- a value is frozen, then entered
+  entered : (w u : World lent) (v : ℕ) (x : Res (World lent) Done) → freeze_value reason v w ≡ ok tt u → F v u ≡ x → freeze_and_enter F reason v w ≡ x
+  unfolding freeze_and_enter
+  entered w u v x e h = then_ok _ _ _ _ _ _ e h
+
+-- the code freezes a value as the definition does
+freezes_value : (vs us ss cs os : List ℕ) (r : Run) (v reason : ℕ) → us ≡ frozen vs v reason → freeze_value reason v (world vs ss cs os r) ≡ ok tt (world us ss cs os r)
+unfolding freeze_value initialize frozen
+freezes_value vs us ss cs os r v reason e = ap (λ (l : List ℕ). ok tt (world l ss cs os r)) (sym e)
 
 -- a freeze acts only on a place that is defined
 opened : (vs ss : List ℕ) (i : ℕ) (b : Bool) → b ≡ freezes vs ss i → b ≡ true → is_some (set_at ss i) ≡ true
@@ -95,144 +149,143 @@ opened vs ss i b e h = go (is_some (set_at ss i)) (freezable (kind_of (value_at 
     go true y q = refl
     go false y q = q
 
--- ---- the loop over the values of a place: what it has still to do, at any depth from the entries still allowed on
+-- ---- what a walk leaves
 
-pub record RunsRow (vs₀ ss cs : List ℕ) (reason i made₀ all₀ m : ℕ) (vs : List ℕ) (made all : ℕ) : Type 0 where
-  pub less : made₀ ≤ made
-  pub here : At ss i m
-  pub equal : (s : Still) (d : ℕ) → 4096 - made₀ ≤ d → each (values_of (set_at ss i)) (freeze_and_enter (freeze_function_captures_transitive d reason) reason) (walking vs₀ ss cs s made₀ all₀)
-      ≡ each (left (bits_of (set_at ss i)) m) (freeze_and_enter (freeze_function_captures_transitive d reason) reason) (walking vs ss cs s made all)
+pub walked_none : (w : Lent) → Walked w w
+walked_none w = record { sets = refl; context = refl; grows = omega arith }
 
--- ---- the loop over the context of the value's function: what it has still to do
+pub walked_then : (u v w : Lent) → Walked u v → Walked v w → Walked u w
+walked_then u v w a b = record { sets = b.sets ∙ a.sets; context = b.context ∙ a.context; grows = (let x = a.grows in let y = b.grows in omega arith) }
 
-pub record Runs (vs₀ ss cs : List ℕ) (reason v freeze entries f n k : ℕ) (vs : List ℕ) (made all : ℕ) : Type 0 where
-  pub less : freeze + 1 ≤ made
-  pub room : freeze < 4096
-  pub equal : (s : Still) (d : ℕ) → 4096 - (freeze + 1) ≤ d → freeze_function_captures_transitive (suc d) reason v (walking vs₀ ss cs s freeze entries)
-      ≡ each (places_in Layout.contexts cs f 0 k (n - k)) (enter_place (freeze_function_captures_transitive d reason) reason) (walking vs ss cs s made all)
+-- ---- a loop of the walk: what it has still to do, at any depth from the entries still allowed on
 
--- ---- entering at any depth: refused when the entries are used up, else counted
+module _ {A : Type 0} (reason : ℕ) (f : (ℕ → M (World lent) Done) → A → M (World lent) Done) where
+  -- of a list there is a rest to go through, from the loop's own start
+  pub record Goes (v w : Lent) (xs ys : List A) : Type 0 where
+    pub walked : Walked v w
+    pub equal : (d : ℕ) → 4096 - v.run.freeze ≤ d → each xs (f (freeze_function_captures_transitive d reason)) (seen v) ≡ each ys (f (freeze_function_captures_transitive d reason)) (seen w)
 
-depth_none : (ss cs : List ℕ) (s : Still) (vs : List ℕ) (reason v made all : ℕ) → 4096 ≤ made → (d : ℕ) → freeze_function_captures_transitive d reason v (walking vs ss cs s made all) ≡ answer 11 tt (walking vs ss cs s made all)
-unfolding freeze_function_captures_transitive refuse answer
-depth_none ss cs s vs reason v made all h zero = refl
-depth_none ss cs s vs reason v made all h (suc d) = then_refused _ _ 11 _ _ tt tt (count_full ss cs s vs made all h) (λ z. absurd (omega arith))
+  pub goes_start : (v : Lent) (xs ys : List A) → xs ≡ ys → Goes v v xs ys
+  goes_start v xs ys e = record { walked = walked_none v; equal = λ d l. ap (λ (zs : List A). each zs (f (freeze_function_captures_transitive d reason)) (seen v)) e }
 
-depth_more : (ss cs : List ℕ) (s : Still) (vs : List ℕ) (reason v made all d : ℕ) → made < 4096
-    → freeze_function_captures_transitive (suc d) reason v (walking vs ss cs s made all) ≡ enter_context (freeze_function_captures_transitive d reason) reason v (walking vs ss cs s (made + 1) (one_more all))
-unfolding freeze_function_captures_transitive
-depth_more ss cs s vs reason v made all d h = then_ok _ _ _ _ _ _ (count_one ss cs s vs made all h) refl
+  module _ (v w : Lent) (xs ys : List A) (a : Goes v w xs ys) where
+    pub goes_on : (u : Lent) (y : A) (zs : List A) → ys ≡ y ∷ zs → Walked w u → ((d : ℕ) → 4096 - v.run.freeze ≤ d → f (freeze_function_captures_transitive d reason) y (seen w) ≡ ok tt (seen u)) → Goes v u xs zs
+    goes_on u y zs c h e = record {
+      walked = walked_then v w u a.walked h;
+      equal = λ d l. a.equal d l ∙ each_ok _ _ _ _ _ _ c (e d l);
+    }
 
--- the context that is looked at
-context_none : (F : ℕ → M (World lent) Done) (ss cs : List ℕ) (s : Still) (vs : List ℕ) (reason v made all : ℕ) → link_of cs v ≡ None
-    → enter_context F reason v (walking vs ss cs s made all) ≡ answer 0 tt (walking vs ss cs s made all)
-unfolding enter_context ask linked_context
-context_none F ss cs s vs reason v made all e =
-    bind_ok _ _ _ _ _ _ refl
-    (ap (λ (o : Option ℕ). each (elim o as (λ x. List Place) [ None ↦ [] | Some f ↦ function_context f (walking vs ss cs s made all).rest ]) (enter_place F reason) (walking vs ss cs s made all)) e
-    ∙ each_ends (enter_place F reason) [] (walking vs ss cs s made all) refl)
+    pub goes_fails : (u : World lent) (y : A) (zs : List A) (n : ℕ) → ys ≡ y ∷ zs → ((d : ℕ) → 4096 - v.run.freeze ≤ d → f (freeze_function_captures_transitive d reason) y (seen w) ≡ refused n u)
+        → (d : ℕ) → 4096 - v.run.freeze ≤ d → each xs (f (freeze_function_captures_transitive d reason)) (seen v) ≡ refused n u
+    goes_fails u y zs n c e d l = a.equal d l ∙ each_fails _ _ _ _ _ _ _ c (e d l)
 
-context_some : (F : ℕ → M (World lent) Done) (ss cs : List ℕ) (s : Still) (vs : List ℕ) (reason v made all f n : ℕ) → link_of cs v ≡ Some f → n ≡ field Layout.functions cs f 1
-    → enter_context F reason v (walking vs ss cs s made all) ≡ each (places_in Layout.contexts cs f 0 0 (n - 0)) (enter_place F reason) (walking vs ss cs s made all)
-unfolding enter_context ask linked_context function_context context_of
-context_some F ss cs s vs reason v made all f n e g =
-    let z : n - 0 ≡ n = omega arith in
-    bind_ok _ _ _ _ _ _ refl
-    (ap (λ (o : Option ℕ). each (elim o as (λ x. List Place) [ None ↦ [] | Some f ↦ places_in Layout.contexts cs f 0 0 (field Layout.functions cs f 1) ]) (enter_place F reason) (walking vs ss cs s made all)) e
-    ∙ ap (λ (m : ℕ). each (places_in Layout.contexts cs f 0 0 m) (enter_place F reason) (walking vs ss cs s made all)) (sym g ∙ sym z))
+    pub goes_end : ys ≡ [] → (d : ℕ) → 4096 - v.run.freeze ≤ d → each xs (f (freeze_function_captures_transitive d reason)) (seen v) ≡ ok tt (seen w)
+    goes_end c d l = a.equal d l ∙ each_done _ _ _ c
 
--- a depth from the entries still allowed on is a successor while one is allowed
-deeper : (P : ℕ → Type 0) (made d : ℕ) → made < 4096 → 4096 - made ≤ d → ((n : ℕ) → 4096 - (made + 1) ≤ n → P (suc n)) → P d
-deeper P made zero h l k = absurd (omega arith)
-deeper P made (suc d) h l k = k d (omega arith)
+-- the loop over the values of a place
+module _ (reason : ℕ) (f : (ℕ → M (World lent) Done) → ℕ → M (World lent) Done) where
+  abbrev pub RunsRow : Lent → Lent → ℕ → ℕ → Type 0
+  RunsRow v w i m = At v.sets.now i m × Goes reason f v w (values_of (set_at v.sets.now i)) (left (bits_of (set_at v.sets.now i)) m)
 
-module _ (vs₀ ss cs : List ℕ) (reason v freeze entries : ℕ) where
-  -- the last entry was made before
-  -- "11 the walk of one Freeze would make its 4,097th entry"
-  pub enters_none : 4096 ≤ freeze → Enters vs₀ ss cs reason v freeze entries vs₀ 11 freeze entries
-  enters_none h = record { grows = omega arith; equal = λ s d l. depth_none ss cs s vs₀ reason v freeze entries h d }
+  -- it begins
+  pub row_start : (v : Lent) (i m : ℕ) → is_some (set_at v.sets.now i) ≡ true → m ≡ next_member v.sets.now i 1 → RunsRow v v i m
+  row_start v i m h e = ((walk_start v.sets.now i m h e).0, goes_start reason f v _ _ (values_start v.sets.now i m h e))
 
+  module _ (v w : Lent) (i m : ℕ) (r : RunsRow v w i m) where
+    -- one more value is done
+    pub row_next : (u : Lent) (n : ℕ) → m < 1024 → Walked w u → ((d : ℕ) → 4096 - w.run.freeze ≤ d → f (freeze_function_captures_transitive d reason) m (seen w) ≡ ok tt (seen u)) → n ≡ next_member u.sets.now i (m + 1) → RunsRow v u i n
+    row_next u n h p e t =
+        let z : u.sets.now ≡ v.sets.now = p.sets ∙ r.1.walked.sets in
+        let a : n ≡ next_member v.sets.now i (m + 1) = t ∙ ap (λ (l : List ℕ). next_member l i (m + 1)) z in (
+          (walk_step v.sets.now i _ m n r.0 h a).0,
+          goes_on reason f _ _ _ _ r.1 u m _ (walk_step v.sets.now i _ m n r.0 h a).2 p (λ d l. e d (let x = r.1.walked.grows in omega arith)),
+        )
+
+    -- a value was refused
+    pub row_fails : (u : World lent) (x : ℕ) → m < 1024 → ((d : ℕ) → 4096 - w.run.freeze ≤ d → f (freeze_function_captures_transitive d reason) m (seen w) ≡ refused x u)
+        → (d : ℕ) → 4096 - v.run.freeze ≤ d → each (values_of (set_at v.sets.now i)) (f (freeze_function_captures_transitive d reason)) (seen v) ≡ refused x u
+    row_fails u x h e =
+        goes_fails reason f _ _ _ _ r.1 u m _ x (walk_step v.sets.now i _ m (next_member v.sets.now i (m + 1)) r.0 h refl).2 (λ d l. e d (let z = r.1.walked.grows in omega arith))
+
+    -- no value is left
+    pub row_ends : 1024 ≤ m → (d : ℕ) → 4096 - v.run.freeze ≤ d → each (values_of (set_at v.sets.now i)) (f (freeze_function_captures_transitive d reason)) (seen v) ≡ ok tt (seen w)
+    row_ends g = goes_end reason f _ _ _ _ r.1 (walk_end v.sets.now i _ m r.0 g)
+
+-- the loop over the context of the value's function
+abbrev pub Runs : ℕ → Lent → Lent → ℕ → ℕ → ℕ → Type 0
+Runs reason v w f n k = Goes reason (λ F. enter_place F reason) v w (places_in Layout.contexts v.context.now f 0 0 (n - 0)) (places_in Layout.contexts v.context.now f 0 k (n - k))
+
+-- from the entry of a value to the end of its walk
+module _ (u : Lent) (a reason x : ℕ) (h : u.run.freeze < 4096) (g : a ≡ one_more u.run.entries) (o : Option ℕ) (l : o ≡ link_of u.context.now x) where
   -- a value without a function: only the entry is counted
   -- "Each entry is counted, repeats too"
-  pub enters_plain : (made all : ℕ) (o : Option ℕ) → freeze < 4096 → made ≡ freeze + 1 → all ≡ one_more entries → o ≡ link_of cs v → o ≡ None → Enters vs₀ ss cs reason v freeze entries vs₀ 0 made all
-  enters_plain made all o h m a l n = record {
-    grows = omega arith;
-    equal = λ s d q. deeper (λ x. freeze_function_captures_transitive x reason v (walking vs₀ ss cs s freeze entries) ≡ answer 0 tt (walking vs₀ ss cs s made all)) freeze d h q (λ e r.
-        depth_more ss cs s vs₀ reason v freeze entries e h ∙ context_none (freeze_function_captures_transitive e reason) ss cs s vs₀ reason v (freeze + 1) (one_more entries) (sym l ∙ n)
-        ∙ ap₂ (λ (x y : ℕ). answer 0 tt (walking vs₀ ss cs s x y)) (sym m) (sym a));
-  }
+  pub enters_plain : o ≡ None → (d : ℕ) → 4096 - u.run.freeze ≤ d → freeze_function_captures_transitive d reason x (seen u) ≡ ok tt (seen (counted u (u.run.freeze + 1) a))
+  enters_plain n d q = deeper (λ y. freeze_function_captures_transitive y reason x (seen u) ≡ ok tt (seen (counted u (u.run.freeze + 1) a))) u.run.freeze d h q (λ c r.
+      depth_more (seen u) (seen (counted u (u.run.freeze + 1) a)) reason x c (count_one u a h g) ∙ context_none (freeze_function_captures_transitive c reason) reason (seen (counted u (u.run.freeze + 1) a)) x (sym l ∙ n))
 
-  -- the loop over the context begins
-  pub runs_start : (made all f n : ℕ) (o : Option ℕ) → freeze < 4096 → made ≡ freeze + 1 → all ≡ one_more entries → o ≡ link_of cs v → o ≡ Some f → n ≡ field Layout.functions cs f 1 → Runs vs₀ ss cs reason v freeze entries f n 0 vs₀ made all
-  runs_start made all f n o h m a l e g = record {
-    less = omega arith;
-    room = h;
-    equal = λ s d q. depth_more ss cs s vs₀ reason v freeze entries d h ∙ context_some (freeze_function_captures_transitive d reason) ss cs s vs₀ reason v (freeze + 1) (one_more entries) f n (sym l ∙ e) g
-        ∙ ap₂ (λ (x y : ℕ). each (places_in Layout.contexts cs f 0 0 (n - 0)) (enter_place (freeze_function_captures_transitive d reason) reason) (walking vs₀ ss cs s x y)) (sym m) (sym a);
-  }
+  pub walked_counted : Walked u (counted u (u.run.freeze + 1) a)
+  walked_counted = record { sets = refl; context = refl; grows = omega arith }
 
-  -- the loop over the context ends
-  pub runs_end : (f n k : ℕ) (vs : List ℕ) (made all : ℕ) → Runs vs₀ ss cs reason v freeze entries f n k vs made all → n ≤ k → Enters vs₀ ss cs reason v freeze entries vs 0 made all
-  runs_end f n k vs made all r h = record {
-    grows = (let l = r.less in omega arith);
-    equal = λ s d q. deeper (λ x. freeze_function_captures_transitive x reason v (walking vs₀ ss cs s freeze entries) ≡ answer 0 tt (walking vs ss cs s made all)) freeze d r.room q (λ e p.
-        r.equal s e p ∙ each_ends _ _ _ (places_none Layout.contexts cs f 0 k n h));
-  }
+  module _ (f n : ℕ) (s : o ≡ Some f) (t : n ≡ field Layout.functions u.context.now f 1) where
+    -- one with a function comes to what the loop over its context comes to
+    enters_runs : (r : Res (World lent) Done)
+        → ((d : ℕ) → 4096 - (u.run.freeze + 1) ≤ d → each (places_in Layout.contexts u.context.now f 0 0 (n - 0)) (enter_place (freeze_function_captures_transitive d reason) reason) (seen (counted u (u.run.freeze + 1) a)) ≡ r)
+        → (d : ℕ) → 4096 - u.run.freeze ≤ d → freeze_function_captures_transitive d reason x (seen u) ≡ r
+    enters_runs r k d q = deeper (λ y. freeze_function_captures_transitive y reason x (seen u) ≡ r) u.run.freeze d h q (λ c p.
+        depth_more (seen u) (seen (counted u (u.run.freeze + 1) a)) reason x c (count_one u a h g)
+        ∙ context_some (freeze_function_captures_transitive c reason) reason (seen (counted u (u.run.freeze + 1) a)) x f n (sym l ∙ s) t ∙ k c p)
 
-  module _ (f n k i : ℕ) (vs : List ℕ) (made all : ℕ) (b : Bool) (r : Runs vs₀ ss cs reason v freeze entries f n k vs made all) (h : k < n) (e : i ≡ field Layout.contexts cs f (k * 5)) (o : b ≡ freezes vs ss i) where
-    named : (place_in Layout.contexts cs f (0 + k * 5)).identifier ≡ i
-    unfolding place_in
-    named = let z : 0 + k * 5 ≡ k * 5 = omega arith in ap (field Layout.contexts cs f) z ∙ sym e
+-- the loop over the context
+module _ (reason : ℕ) (v w : Lent) (f n k i : ℕ) (b : Bool) (r : Runs reason v w f n k) (h : k < n) (e : i ≡ field Layout.contexts w.context.now f (k * 5)) (o : b ≡ freezes w.values.now w.sets.now i) where
+  named : (place_in Layout.contexts v.context.now f (0 + k * 5)).identifier ≡ i
+  unfolding place_in
+  named =
+      let z : 0 + k * 5 ≡ k * 5 = omega arith in
+      ap (field Layout.contexts v.context.now f) z ∙ sym (e ∙ ap (λ (c : List ℕ). field Layout.contexts c f (k * 5)) r.walked.context)
 
-    -- a place that a freeze does not act on is passed
-    pub runs_shut : b ≡ false → Runs vs₀ ss cs reason v freeze entries f n (k + 1) vs made all
-    runs_shut z = record {
-      less = r.less;
-      room = r.room;
-      equal = λ s d q. r.equal s d q ∙ each_goes (enter_place (freeze_function_captures_transitive d reason) reason) _ _ _ 0 _ _ (places_more Layout.contexts cs f 0 k n h) (place_shut ss cs s (freeze_function_captures_transitive d reason) reason vs made all _ i b named o z) refl;
-    }
+  -- a place that a freeze does not act on is passed
+  pub runs_shut : b ≡ false → Runs reason v w f n (k + 1)
+  runs_shut z =
+      goes_on _ _ _ _ _ _ r w _ _ (places_more Layout.contexts v.context.now f 0 k n h) (walked_none w)
+      (λ d q. place_shut (freeze_function_captures_transitive d reason) reason (seen w) _ i b named o z)
 
-    -- the loop over the values of a place begins
-    pub row_start : (m : ℕ) → b ≡ true → m ≡ next_member ss i 1 → RunsRow vs ss cs reason i made all m vs made all
-    row_start m z g = record {
-      less = omega arith;
-      here = (walk_start ss i m (opened vs ss i b o z) g).0;
-      equal = λ s d q. ap (λ (l : List ℕ). each l (freeze_and_enter (freeze_function_captures_transitive d reason) reason) (walking vs ss cs s made all)) (values_start ss i m (opened vs ss i b o z) g);
-    }
+  module _ (z : b ≡ true) where
+    -- the place has values
+    pub runs_row : is_some (set_at w.sets.now i) ≡ true
+    runs_row = opened w.values.now w.sets.now i b o z
 
     -- its values are done, and the walk goes on with the next place
-    pub runs_open : (m : ℕ) (us : List ℕ) (made' all' : ℕ) → b ≡ true → RunsRow vs ss cs reason i made all m us made' all' → 1024 ≤ m → Runs vs₀ ss cs reason v freeze entries f n (k + 1) us made' all'
-    runs_open m us made' all' z w g = record {
-      less = (let x = r.less in let y = w.less in omega arith);
-      room = r.room;
-      equal = λ s d q. r.equal s d q ∙ each_goes (enter_place (freeze_function_captures_transitive d reason) reason) _ _ _ 0 _ _ (places_more Layout.contexts cs f 0 k n h)
-          (place_opens ss cs s (freeze_function_captures_transitive d reason) reason vs made all _ i b named o z ∙ w.equal s d (let x = r.less in omega arith) ∙ each_ends _ _ _ (walk_end ss i _ m w.here g)) refl;
-    }
+    pub runs_open : (u : Lent) (m : ℕ) → RunsRow reason (λ F. freeze_and_enter F reason) w u i m → 1024 ≤ m → Runs reason v u f n (k + 1)
+    runs_open u m y g =
+        goes_on _ _ _ _ _ _ r u _ _ (places_more Layout.contexts v.context.now f 0 k n h) y.1.walked
+        (λ d q. place_opens (freeze_function_captures_transitive d reason) reason (seen w) _ i b named o z
+        ∙ row_ends reason (λ F. freeze_and_enter F reason) w u i m y g d (let x = r.walked.grows in omega arith))
 
     -- a value of the place was refused
-    pub runs_refused : (us : List ℕ) (x made' all' : ℕ) → b ≡ true → ¬ (x ≡ 0) → made ≤ made'
-        → ((s : Still) (d : ℕ) → 4096 - made ≤ d → each (values_of (set_at ss i)) (freeze_and_enter (freeze_function_captures_transitive d reason) reason) (walking vs ss cs s made all) ≡ answer x tt (walking us ss cs s made' all'))
-        → Enters vs₀ ss cs reason v freeze entries us x made' all'
-    runs_refused us x made' all' z t g w = record {
-      grows = (let y = r.less in omega arith);
-      equal = λ s d q. deeper (λ y. freeze_function_captures_transitive y reason v (walking vs₀ ss cs s freeze entries) ≡ answer x tt (walking us ss cs s made' all')) freeze d r.room q (λ c p.
-          r.equal s c p ∙ each_refused (enter_place (freeze_function_captures_transitive c reason) reason) _ _ _ x _ _ (places_more Layout.contexts cs f 0 k n h)
-          (place_opens ss cs s (freeze_function_captures_transitive c reason) reason vs made all _ i b named o z ∙ w s c (let y = r.less in omega arith)) t);
-    }
+    runs_refused : (u : World lent) (x : ℕ) → ((d : ℕ) → 4096 - w.run.freeze ≤ d → each (values_of (set_at w.sets.now i)) (freeze_and_enter (freeze_function_captures_transitive d reason) reason) (seen w) ≡ refused x u)
+        → (d : ℕ) → 4096 - v.run.freeze ≤ d → each (places_in Layout.contexts v.context.now f 0 0 (n - 0)) (enter_place (freeze_function_captures_transitive d reason) reason) (seen v) ≡ refused x u
+    runs_refused u x y =
+        goes_fails _ _ _ _ _ _ r u _ _ x (places_more Layout.contexts v.context.now f 0 k n h)
+        (λ d q. place_opens (freeze_function_captures_transitive d reason) reason (seen w) _ i b named o z ∙ y d (let p = r.walked.grows in omega arith))
 
-module _ (vs₀ ss cs : List ℕ) (reason i made₀ all₀ m : ℕ) (vs us ws : List ℕ) (made all x made' all' : ℕ) (r : RunsRow vs₀ ss cs reason i made₀ all₀ m vs made all) (h : m < 1024) (g : us ≡ frozen vs m reason)
-    (w : Enters us ss cs reason m made all ws x made' all') where
-  entered : (s : Still) (d : ℕ) → 4096 - made₀ ≤ d → freeze_and_enter (freeze_function_captures_transitive d reason) reason m (walking vs ss cs s made all) ≡ answer x tt (walking ws ss cs s made' all')
-  entered s d q = freezes_and_enters ss cs s (freeze_function_captures_transitive d reason) reason vs made all m us _ g (w.equal s d (let y = r.less in omega arith))
+-- a value is frozen, then entered
+pub enters : (reason m : ℕ) (w : Lent) (us : List ℕ) → us ≡ frozen w.values.now m reason → (x : Res (World lent) Done)
+    → ((d : ℕ) → 4096 - w.run.freeze ≤ d → freeze_function_captures_transitive d reason m (world us w.sets.now w.context.now w.output.now w.run) ≡ x)
+    → (d : ℕ) → 4096 - w.run.freeze ≤ d → freeze_and_enter (freeze_function_captures_transitive d reason) reason m (seen w) ≡ x
+enters reason m w us e x g d l = entered (freeze_function_captures_transitive d reason) reason (seen w) _ m x (freezes_value w.values.now us w.sets.now w.context.now w.output.now w.run m reason e) (g d l)
 
-  -- the next value of the row
-  pub row_next : (u : ℕ) → x ≡ 0 → u ≡ next_member ss i (m + 1) → RunsRow vs₀ ss cs reason i made₀ all₀ u ws made' all'
-  row_next u z e = record {
-    less = (let y = r.less in let k = w.grows in omega arith);
-    here = (walk_step ss i _ m u r.here h e).0;
-    equal = λ s d q. r.equal s d q ∙ each_goes (freeze_and_enter (freeze_function_captures_transitive d reason) reason) m _ _ x _ _ (walk_step ss i _ m u r.here h e).2 (entered s d q) z;
-  }
+-- the walk of a value with a function ends as its loop over the context does
+module _ (u : Lent) (a reason x : ℕ) (h : u.run.freeze < 4096) (g : a ≡ one_more u.run.entries) (o : Option ℕ) (l : o ≡ link_of u.context.now x) (f n : ℕ) (s : o ≡ Some f) (t : n ≡ field Layout.functions u.context.now f 1)
+    (w : Lent) (k : ℕ) (r : Runs reason (counted u (u.run.freeze + 1) a) w f n k) where
+  pub walked_on : Walked u w
+  walked_on = walked_then u _ w (walked_counted u a reason x h g o l) r.walked
 
-  -- a value was refused
-  pub row_refused : ¬ (x ≡ 0) → (s : Still) (d : ℕ) → 4096 - made₀ ≤ d → each (values_of (set_at ss i)) (freeze_and_enter (freeze_function_captures_transitive d reason) reason) (walking vs₀ ss cs s made₀ all₀) ≡ answer x tt (walking ws ss cs s made' all')
-  row_refused z s d q = r.equal s d q ∙ each_refused (freeze_and_enter (freeze_function_captures_transitive d reason) reason) m _ _ x _ _ (walk_step ss i _ m (next_member ss i (m + 1)) r.here h refl).2 (entered s d q) z
+  -- no place is left
+  pub walk_ends : n ≤ k → (d : ℕ) → 4096 - u.run.freeze ≤ d → freeze_function_captures_transitive d reason x (seen u) ≡ ok tt (seen w)
+  walk_ends z = enters_runs u a reason x h g o l f n s t _ (goes_end _ _ _ _ _ _ r (places_none Layout.contexts u.context.now f 0 k n z))
+
+  -- a value of a place was refused
+  pub walk_fails : (i : ℕ) (b : Bool) → k < n → i ≡ field Layout.contexts w.context.now f (k * 5) → b ≡ freezes w.values.now w.sets.now i → b ≡ true → (z : World lent) (q : ℕ)
+      → ((d : ℕ) → 4096 - w.run.freeze ≤ d → each (values_of (set_at w.sets.now i)) (freeze_and_enter (freeze_function_captures_transitive d reason) reason) (seen w) ≡ refused q z)
+      → (d : ℕ) → 4096 - u.run.freeze ≤ d → freeze_function_captures_transitive d reason x (seen u) ≡ refused q z
+  walk_fails i b y e m p z q c = enters_runs u a reason x h g o l f n s t _ (runs_refused reason _ w f n k i b r y e m p z q c)
