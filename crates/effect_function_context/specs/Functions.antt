@@ -1,5 +1,12 @@
--- The context places of a function copied to a slice. Assumes nothing: these are definitions.
-use Rattle.std.specs.Prelude.{ℕ, zero, suc, ◌+◌, List, set}
+-- The context places of a function copied to a slice, and which of them become Read. Assumes nothing: these are definitions.
+use Rattle.std.specs.Prelude.{ℕ, zero, suc, ◌+◌, List, set, Bool, ◌&&◌, ◌||◌, eqb}
+use Rattle.base_tests.specs.Tests.{is_some}
+use Rattle.def_kinds.specs.Kinds.{copied, is_frozen}
+use Rattle.def_effects.specs.declared.Place.{Place}
+use Rattle.def_effects.specs.Places as Places
+use Rattle.def_transfer.specs.State.{kind_of}
+use Rattle.lent_values.specs.Cells.{value_at}
+use Rattle.lent_sets.specs.Rows.{set_at}
 use Rattle.lent_tables.specs.Words.{field}
 use Rattle.lent_layout.specs.Layout as Layout
 
@@ -12,3 +19,8 @@ copied_places c f k (suc n) ws = copied_places c f (suc k) n (set ws (1 + k) (fi
 -- the count, then all eighty words
 unfoldable pub copied_context : List ℕ → ℕ → List ℕ → List ℕ
 copied_context c f ws = copied_places c f 0 80 (set ws 0 (field Layout.functions c f 1))
+
+-- a Capture of a place that is defined and Primitive, Frozen or Global
+-- what the definition's `update_context` asks
+unfoldable pub becomes_read : List ℕ → List ℕ → Place → Bool
+becomes_read vs ss p = eqb p.effect Places.Capture && (is_some (set_at ss p.identifier) && (copied (kind_of (value_at vs) (set_at ss p.identifier)).kind || is_frozen (kind_of (value_at vs) (set_at ss p.identifier)).kind))

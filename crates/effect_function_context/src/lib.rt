@@ -1,14 +1,13 @@
 // What CreateFunction asks of its function's context places and does to them. After the arm for CreateFunction of the Rust.
 #![tactic(auto)]
 
-ghost use Rattle.std.specs.Prelude.{◌≡◌, List, ℕ};
+ghost use Rattle.std.specs.Prelude.{◌≡◌};
 ghost use Rattle.def_transfer.specs.Monad.{ok, each};
 ghost use Rattle.def_transfer.specs.Step as Step;
-ghost use Rattle.lent_work.specs.declared.Run.{Run as ARun};
 ghost use Rattle.lent_context.specs.Lent as Lent;
 ghost use Rattle.lent_effects.specs.Records.{captures_of};
-ghost use Rattle.lent_world.specs.World.{world};
-ghost use Rattle.effect_function_context.specs.Functions.{copied_context};
+ghost use Rattle.lent_world.specs.Promise.{seen, Kept};
+ghost use Rattle.effect_function_context.specs.Functions.{copied_context, becomes_read};
 
 use def_effects::Place;
 use lent_context::{context_count, is_ref, make_read};
@@ -16,17 +15,16 @@ use lent_functions::context_identifier;
 use lent_layout::{CONTEXTS, ONE_RUN, RUN_WORDS};
 use lent_sets::is_defined;
 use lent_slices::set;
+use lent_world::World;
 use state_ops::kind_of;
 
 // Whether any context place of a function is a ref.
-pub fn any_ref(context: &[u32], f: u32) -> bool
-    ensures { (vs ss os : List ℕ) (run : ARun)
-        → Step.any_ref (Lent.context_of context.now f) (world vs ss context.now os run).rest ≡ result }
+pub fn any_ref(world: &World, f: u32) -> bool
+    ensures { Step.any_ref (Lent.context_of world.now.context.now f) (seen world.now).rest ≡ result }
 {
-    let n = context_count(context, f);
+    let n = context_count(world.context, f);
     for k in 0..n {
-        let i = context_identifier(context, f, k);
-        if is_ref(context, i) {
+        if is_ref(world.context, context_identifier(world.context, f, k)) {
             return true;
         }
     }
@@ -44,54 +42,50 @@ pub fn copy_context(context: &[u32], f: u32, out: &mut [u32])
     }
 }
 
-// A Capture context place becomes Read if it is defined and Primitive, Frozen or Global.
-// In the function's own copy; no access is recorded.
-pub fn update_place(values: &[u64], sets: &[u64], context: &mut [u32], f: u32, p: Place)
-    ensures { (os : List ℕ) (run : ARun)
-        → Step.update_context f p (world values.now sets.now context.old os run)
-        ≡ ok tt (world values.now sets.now context.new os run) }
+// Whether a context place becomes Read: it is a Capture of a place that is defined and Primitive, Frozen or Global.
+// No access is recorded.
+fn becomes_read(world: &World, p: Place) -> bool
+    ensures { result ≡ becomes_read world.now.values.now world.now.sets.now p }
 {
-    if p.effect != 3 {
-        return;
+    if p.effect != 3 || !is_defined(world.sets, p.identifier) {
+        return false;
     }
-    if !is_defined(sets, p.identifier) {
-        return;
-    }
-    let a = kind_of(values, sets, p.identifier);
-    let k = a.kind;
-    if k.is_copied() {
-        make_read(context, f, p.identifier);
-        return;
-    }
-    if k.is_frozen() {
-        make_read(context, f, p.identifier);
+    let kind = kind_of(world.values, world.sets, p.identifier).kind;
+    kind.is_copied() || kind.is_frozen()
+}
+
+// A Capture context place becomes Read if it is defined and Primitive, Frozen or Global.
+// In the function's own copy.
+pub fn update_place(world: &mut World, f: u32, p: Place)
+    ensures kept { Kept world.old world.new }
+    ensures does { Step.update_context f p (seen world.old) ≡ ok tt (seen world.new) }
+{
+    if becomes_read(world, p) {
+        make_read(world.context, f, p.identifier);
     }
 }
 
 // So each of some places, in order; they stand in a slice of 81 words.
 // "Turns a Capture context place of its function into Read where that place is defined and Primitive, Frozen or Global."
-pub fn update_places(values: &[u64], sets: &[u64], context: &mut [u32], f: u32, places: &[u32])
-    ensures { (os : List ℕ) (run : ARun)
-        → each (captures_of places.now) (Step.update_context f)
-        (world values.now sets.now context.old os run)
-        ≡ ok tt (world values.now sets.now context.new os run) }
+pub fn update_places(world: &mut World, f: u32, places: &[u32])
+    ensures kept { Kept world.old world.new }
+    ensures does { each (captures_of places.now) (Step.update_context f) (seen world.old) ≡ ok tt (seen world.new) }
 {
     let n = ONE_RUN.field(places, 0, 0);
     for k in 0..n {
-        let p = ONE_RUN.place_in(places, 0, 1, k);
-        update_place(values, sets, context, f, p);
+        update_place(world, f, ONE_RUN.place_in(places, 0, 1, k));
     }
 }
 
 // The context places of a function that are Captures of places that are defined and Primitive, Frozen or Global become Read.
 // What is gone through are the places as they were before.
-pub fn update_context(values: &[u64], sets: &[u64], context: &mut [u32], f: u32)
-    ensures { (os : List ℕ) (run : ARun)
-        → each (Lent.context_of context.old f) (Step.update_context f)
-        (world values.now sets.now context.old os run)
-        ≡ ok tt (world values.now sets.now context.new os run) }
+pub fn update_context(world: &mut World, f: u32)
+    ensures kept { Kept world.old world.new }
+    ensures does { each (Lent.context_of world.old.context.now f) (Step.update_context f) (seen world.old)
+        ≡ ok tt (seen world.new) }
 {
     let mut places = [0u32; RUN_WORDS];
+    let context = &mut *world.context;
     copy_context(context, f, &mut places);
-    update_places(values, sets, context, f, &places);
+    update_places(world, f, &places);
 }

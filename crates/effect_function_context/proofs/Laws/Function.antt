@@ -9,7 +9,7 @@ use mathlib.Core.List.{List, ◌∷◌}
 use Rattle.std.proofs.Math.Dec.{eqb}
 use Rattle.std.proofs.Math.ListN.{length, get_or, length-set}
 use Rattle.std.proofs.Math.Seq.{get_or-set_same, get_or-set_other}
-use Rattle.base_tests.proofs.Laws.Bool.{and_true, and_false}
+use Rattle.base_tests.proofs.Laws.Bool.{and_false}
 use Rattle.def_kinds.specs.declared.AbstractValue.{AbstractValue}
 use Rattle.def_kinds.specs.Kinds.{copied, is_frozen}
 use Rattle.def_effects.specs.declared.Place.{Place}
@@ -28,58 +28,59 @@ use Rattle.lent_work.specs.declared.Run.{Run}
 use Rattle.lent_layout.specs.Layout as Layout
 use Rattle.lent_context.specs.Lent as Lent
 use Rattle.laws_monad.proofs.Laws.Answers.{if_true, if_false}
-use Rattle.laws_monad.proofs.Laws.Each.{each_ok}
-use Rattle.lent_world.specs.World.{world}
-use Rattle.effect_function_context.specs.Functions.{copied_places, copied_context}
+use Rattle.laws_monad.proofs.Laws.Each.{each_ok, each_done}
+use Rattle.def_transfer.specs.Tables.{World}
+use Rattle.lent_world.specs.World.{lent, world}
+use Rattle.effect_function_context.specs.Functions.{copied_places, copied_context, becomes_read}
 use Rattle.lent_layout.specs.Layout.{one_run}
 
 -- ---- context places that are refs
 
 -- what a loop over the context places has still to ask
-pub record Seeks (c : List ℕ) (f n k : ℕ) : Type 0 where
-  pub equal : (vs ss os : List ℕ) (r : Run) → Step.any_ref (places_in Layout.contexts c f 0 0 (n - 0)) (world vs ss c os r).rest ≡ Step.any_ref (places_in Layout.contexts c f 0 k (n - k)) (world vs ss c os r).rest
+pub record Seeks (w : World lent) (f n k : ℕ) : Type 0 where
+  pub equal : Step.any_ref (places_in Layout.contexts w.rest.context f 0 0 (n - 0)) w.rest ≡ Step.any_ref (places_in Layout.contexts w.rest.context f 0 k (n - k)) w.rest
 
 -- a function with n context places, of which k are asked
-module _ (c : List ℕ) (f n k : ℕ) where
+module _ (w : World lent) (f n k : ℕ) where
   -- all places of a function are its context
-  all_places : n ≡ field Layout.functions c f 1 → places_in Layout.contexts c f 0 0 (n - 0) ≡ Lent.context_of c f
+  all_places : n ≡ field Layout.functions w.rest.context f 1 → places_in Layout.contexts w.rest.context f 0 0 (n - 0) ≡ Lent.context_of w.rest.context f
   unfolding Lent.context_of
-  all_places e = let z : n - 0 ≡ n = omega arith in ap (places_in Layout.contexts c f 0 0) (z ∙ e)
+  all_places e = let z : n - 0 ≡ n = omega arith in ap (places_in Layout.contexts w.rest.context f 0 0) (z ∙ e)
 
   -- a place asks for its own identifier, then for the rest
-  asks_ref : (vs ss os : List ℕ) (r : Run) (i : ℕ) (b : Bool) → k < n → i ≡ field Layout.contexts c f (k * 5) → b ≡ Lent.is_ref c i
-      → Step.any_ref (places_in Layout.contexts c f 0 k (n - k)) (world vs ss c os r).rest ≡ (b || Step.any_ref (places_in Layout.contexts c f 0 (k + 1) (n - (k + 1))) (world vs ss c os r).rest)
+  asks_ref : (i : ℕ) (b : Bool) → k < n → i ≡ field Layout.contexts w.rest.context f (k * 5) → b ≡ Lent.is_ref w.rest.context i
+      → Step.any_ref (places_in Layout.contexts w.rest.context f 0 k (n - k)) w.rest ≡ (b || Step.any_ref (places_in Layout.contexts w.rest.context f 0 (k + 1) (n - (k + 1))) w.rest)
   unfolding Step.any_ref place_in
-  asks_ref vs ss os r i b h g w =
+  asks_ref i b h g e =
       let z : k * 5 ≡ 0 + k * 5 = omega arith in
-      ap (λ (l : List Place). Step.any_ref l (world vs ss c os r).rest) (places_more Layout.contexts c f 0 k n h)
-      ∙ ap (λ (x : Bool). x || Step.any_ref (places_in Layout.contexts c f 0 (k + 1) (n - (k + 1))) (world vs ss c os r).rest) (sym (w ∙ ap (Lent.is_ref c) (g ∙ ap (field Layout.contexts c f) z)))
+      ap (λ (l : List Place). Step.any_ref l w.rest) (places_more Layout.contexts w.rest.context f 0 k n h)
+      ∙ ap (λ (x : Bool). x || Step.any_ref (places_in Layout.contexts w.rest.context f 0 (k + 1) (n - (k + 1))) w.rest) (sym (e ∙ ap (Lent.is_ref w.rest.context) (g ∙ ap (field Layout.contexts w.rest.context f) z)))
 
   -- nothing is asked yet
-  pub seeks_start : Seeks c f n 0
-  seeks_start = record { equal = λ vs ss os r. refl }
+  pub seeks_start : Seeks w f n 0
+  seeks_start = record { equal = refl }
 
   -- from what the loop holds
-  module _ (a : Seeks c f n k) where
+  module _ (a : Seeks w f n k) where
     -- a ref is found
-    pub seeks_yes : (i : ℕ) (b : Bool) → n ≡ field Layout.functions c f 1 → k < n → i ≡ field Layout.contexts c f (k * 5) → b ≡ Lent.is_ref c i → b ≡ true
-        → (vs ss os : List ℕ) (r : Run) → Step.any_ref (Lent.context_of c f) (world vs ss c os r).rest ≡ true
-    seeks_yes i b e h g w t vs ss os r =
-        ap (λ (l : List Place). Step.any_ref l (world vs ss c os r).rest) (sym (all_places e)) ∙ a.equal vs ss os r ∙ asks_ref vs ss os r i b h g w
-        ∙ ap (λ (x : Bool). x || Step.any_ref (places_in Layout.contexts c f 0 (k + 1) (n - (k + 1))) (world vs ss c os r).rest) t
+    pub seeks_yes : (i : ℕ) (b : Bool) → n ≡ field Layout.functions w.rest.context f 1 → k < n → i ≡ field Layout.contexts w.rest.context f (k * 5) → b ≡ Lent.is_ref w.rest.context i → b ≡ true
+        → Step.any_ref (Lent.context_of w.rest.context f) w.rest ≡ true
+    seeks_yes i b e h g q t =
+        ap (λ (l : List Place). Step.any_ref l w.rest) (sym (all_places e)) ∙ a.equal ∙ asks_ref i b h g q
+        ∙ ap (λ (x : Bool). x || Step.any_ref (places_in Layout.contexts w.rest.context f 0 (k + 1) (n - (k + 1))) w.rest) t
 
     -- a place is no ref
-    pub seeks_more : (i : ℕ) (b : Bool) → k < n → i ≡ field Layout.contexts c f (k * 5) → b ≡ Lent.is_ref c i → b ≡ false → Seeks c f n (k + 1)
-    seeks_more i b h g w t = record {
-      equal = λ vs ss os r. a.equal vs ss os r ∙ asks_ref vs ss os r i b h g w
-          ∙ ap (λ (x : Bool). x || Step.any_ref (places_in Layout.contexts c f 0 (k + 1) (n - (k + 1))) (world vs ss c os r).rest) t;
+    pub seeks_more : (i : ℕ) (b : Bool) → k < n → i ≡ field Layout.contexts w.rest.context f (k * 5) → b ≡ Lent.is_ref w.rest.context i → b ≡ false → Seeks w f n (k + 1)
+    seeks_more i b h g q t = record {
+      equal = a.equal ∙ asks_ref i b h g q
+          ∙ ap (λ (x : Bool). x || Step.any_ref (places_in Layout.contexts w.rest.context f 0 (k + 1) (n - (k + 1))) w.rest) t;
     }
 
     -- no place is left
-    pub seeks_no : n ≡ field Layout.functions c f 1 → n ≤ k → (vs ss os : List ℕ) (r : Run) → Step.any_ref (Lent.context_of c f) (world vs ss c os r).rest ≡ false
+    pub seeks_no : n ≡ field Layout.functions w.rest.context f 1 → n ≤ k → Step.any_ref (Lent.context_of w.rest.context f) w.rest ≡ false
     unfolding Step.any_ref
-    seeks_no e h vs ss os r =
-        ap (λ (l : List Place). Step.any_ref l (world vs ss c os r).rest) (sym (all_places e)) ∙ a.equal vs ss os r ∙ ap (λ (l : List Place). Step.any_ref l (world vs ss c os r).rest) (places_none Layout.contexts c f 0 k n h)
+    seeks_no e h =
+        ap (λ (l : List Place). Step.any_ref l w.rest) (sym (all_places e)) ∙ a.equal ∙ ap (λ (l : List Place). Step.any_ref l w.rest) (places_none Layout.contexts w.rest.context f 0 k n h)
 
 -- ---- context places are copied
 
@@ -192,92 +193,83 @@ module _ (c : List ℕ) (f : ℕ) where
 
 -- ---- a Capture context place becomes Read
 
--- one place of a function
+-- whether one does
 -- the definition tests all at once, the code one after the other
-module _ (vs ss c : List ℕ) (f : ℕ) (p : Place) where
-  -- the definition looks at the place and tests, and no more
-  update_tests : (os : List ℕ) (r : Run) (a : AbstractValue) → a ≡ kind_of (value_at vs) (set_at ss p.identifier)
-      → Step.update_context f p (world vs ss c os r) ≡ (when eqb p.effect 3 && (is_some (set_at ss p.identifier) && (copied a.kind || is_frozen a.kind)) then Context.make_read f p.identifier else done) (world vs ss c os r)
-  unfolding Step.update_context State.set_of State.peek ◌>>=◌ and_then
-  update_tests os r a e =
-      ap (λ (x : AbstractValue). (when eqb p.effect 3 && (is_some (set_at ss p.identifier) && (copied x.kind || is_frozen x.kind)) then Context.make_read f p.identifier else done) (world vs ss c os r)) (sym e)
-
-  -- a test failed
-  update_stays : (a : AbstractValue) → a ≡ kind_of (value_at vs) (set_at ss p.identifier) → (eqb p.effect 3 && (is_some (set_at ss p.identifier) && (copied a.kind || is_frozen a.kind))) ≡ false
-      → (os : List ℕ) (r : Run) → Step.update_context f p (world vs ss c os r) ≡ ok tt (world vs ss c os r)
-  unfolding done return
-  update_stays a e h os r = update_tests os r a e ∙ if_false _ _ _ _ _ h refl
-
-  -- all tests passed
-  update_reads : (a : AbstractValue) (d : List ℕ) → a ≡ kind_of (value_at vs) (set_at ss p.identifier) → (eqb p.effect 3 && (is_some (set_at ss p.identifier) && (copied a.kind || is_frozen a.kind))) ≡ true → d ≡ Lent.make_read c f p.identifier
-      → (os : List ℕ) (r : Run) → Step.update_context f p (world vs ss c os r) ≡ ok tt (world vs ss d os r)
-  unfolding Context.make_read change
-  update_reads a d e h g os r = update_tests os r a e ∙ if_true _ _ _ _ _ h (ap (λ (x : List ℕ). ok tt (world vs ss x os r)) (sym g))
-
+module _ (vs ss : List ℕ) (p : Place) where
   -- a place that is no Capture
-  pub update_other : (p.effect ≡ 3 → ⊥) → (os : List ℕ) (r : Run) → Step.update_context f p (world vs ss c os r) ≡ ok tt (world vs ss c os r)
-  update_other n = update_stays _ refl (ap (λ (x : Bool). x && (is_some (set_at ss p.identifier) && (copied (kind_of (value_at vs) (set_at ss p.identifier)).kind || is_frozen (kind_of (value_at vs) (set_at ss p.identifier)).kind))) (ne_eqb p.effect 3 n))
+  pub read_other : (p.effect ≡ 3 → ⊥) → false ≡ becomes_read vs ss p
+  unfolding becomes_read
+  read_other n = sym (ap (λ (x : Bool). x && (is_some (set_at ss p.identifier) && (copied (kind_of (value_at vs) (set_at ss p.identifier)).kind || is_frozen (kind_of (value_at vs) (set_at ss p.identifier)).kind))) (ne_eqb p.effect 3 n))
 
-  -- a Capture
+  -- a Capture of a place that is not defined, or of one that is
   module _ (e : p.effect ≡ 3) (b : Bool) (s : b ≡ is_some (set_at ss p.identifier)) where
-    -- an undefined place
-    pub update_undefined : b ≡ false → (os : List ℕ) (r : Run) → Step.update_context f p (world vs ss c os r) ≡ ok tt (world vs ss c os r)
-    update_undefined h =
-        update_stays _ refl (and_false (eqb p.effect 3) _
+    pub read_undefined : b ≡ false → false ≡ becomes_read vs ss p
+    unfolding becomes_read
+    read_undefined h =
+        sym (and_false (eqb p.effect 3) _
         (ap (λ (x : Bool). x && (copied (kind_of (value_at vs) (set_at ss p.identifier)).kind || is_frozen (kind_of (value_at vs) (set_at ss p.identifier)).kind)) (sym s ∙ h)))
 
-    -- that is defined
     module _ (h : b ≡ true) (a : AbstractValue) (g : a ≡ kind_of (value_at vs) (set_at ss p.identifier)) (x : Bool) (u : x ≡ copied a.kind) where
+      tested : (y : Bool) → y ≡ (copied a.kind || is_frozen a.kind) → y ≡ becomes_read vs ss p
+      unfolding becomes_read
+      tested y t =
+          t ∙ ap (λ (z : AbstractValue). copied z.kind || is_frozen z.kind) g
+          ∙ ap₂ (λ (z w : Bool). z && (w && (copied (kind_of (value_at vs) (set_at ss p.identifier)).kind || is_frozen (kind_of (value_at vs) (set_at ss p.identifier)).kind))) (sym (eq-eqb p.effect 3 e)) (sym h ∙ s)
+
       -- Primitive or Global
-      pub update_copied : (d : List ℕ) → x ≡ true → d ≡ Lent.make_read c f p.identifier → (os : List ℕ) (r : Run) → Step.update_context f p (world vs ss c os r) ≡ ok tt (world vs ss d os r)
-      update_copied d t m =
-          update_reads a d g (and_true (eqb p.effect 3) _ (eq-eqb p.effect 3 e) (and_true (is_some (set_at ss p.identifier)) _ (sym s ∙ h) (ap (λ (z : Bool). z || is_frozen a.kind) (sym u ∙ t)))) m
+      pub read_copied : x ≡ true → x ≡ becomes_read vs ss p
+      read_copied t = tested x (t ∙ ap (λ (z : Bool). z || is_frozen a.kind) (sym t ∙ u))
 
-      -- and neither Primitive nor Global
-      module _ (t : x ≡ false) (y : Bool) (v : y ≡ is_frozen a.kind) where
-        -- Frozen
-        pub update_frozen : (d : List ℕ) → y ≡ true → d ≡ Lent.make_read c f p.identifier → (os : List ℕ) (r : Run) → Step.update_context f p (world vs ss c os r) ≡ ok tt (world vs ss d os r)
-        update_frozen d q m =
-            update_reads a d g (and_true (eqb p.effect 3) _ (eq-eqb p.effect 3 e) (and_true (is_some (set_at ss p.identifier)) _ (sym s ∙ h) (ap₂ (λ (z w : Bool). z || w) (sym u ∙ t) (sym v ∙ q)))) m
+      -- and neither: Frozen, or any other kind
+      pub read_frozen : x ≡ false → (y : Bool) → y ≡ is_frozen a.kind → y ≡ becomes_read vs ss p
+      read_frozen t y q = tested y (q ∙ ap (λ (z : Bool). z || is_frozen a.kind) (sym t ∙ u))
 
-        -- any other kind
-        pub update_kept : y ≡ false → (os : List ℕ) (r : Run) → Step.update_context f p (world vs ss c os r) ≡ ok tt (world vs ss c os r)
-        update_kept q =
-            update_stays a g (and_false (eqb p.effect 3) _ (and_false (is_some (set_at ss p.identifier)) _ (ap₂ (λ (z w : Bool). z || w) (sym u ∙ t) (sym v ∙ q))))
+-- one place of a function
+module _ (vs ss c os : List ℕ) (r : Run) (f : ℕ) (p : Place) (b : Bool) (e : b ≡ becomes_read vs ss p) where
+  -- the definition looks at the place and tests, and no more
+  update_tests : Step.update_context f p (world vs ss c os r) ≡ (when b then Context.make_read f p.identifier else done) (world vs ss c os r)
+  unfolding Step.update_context State.set_of State.peek becomes_read ◌>>=◌ and_then
+  update_tests = ap (λ (x : Bool). (when x then Context.make_read f p.identifier else done) (world vs ss c os r)) (sym e)
+
+  -- a test failed
+  pub update_stays : b ≡ false → Step.update_context f p (world vs ss c os r) ≡ ok tt (world vs ss c os r)
+  unfolding done return
+  update_stays h = update_tests ∙ if_false _ _ _ _ _ h refl
+
+  -- all tests passed
+  pub update_reads : (d : List ℕ) → b ≡ true → d ≡ Lent.make_read c f p.identifier → Step.update_context f p (world vs ss c os r) ≡ ok tt (world vs ss d os r)
+  unfolding Context.make_read change
+  update_reads d h g = update_tests ∙ if_true _ _ _ _ _ h (ap (λ (x : List ℕ). ok tt (world vs ss x os r)) (sym g))
 
 -- ---- and so each of some places
 
 -- what a loop over the places has still to do
 -- from the loop's own start
-pub record Updates (vs ss c₀ : List ℕ) (f : ℕ) (ws : List ℕ) (n k : ℕ) (c : List ℕ) : Type 0 where
-  pub equal : (os : List ℕ) (r : Run) → each (places_in one_run ws 0 1 0 (n - 0)) (Step.update_context f) (world vs ss c₀ os r) ≡ each (places_in one_run ws 0 1 k (n - k)) (Step.update_context f) (world vs ss c os r)
+pub record Updates (w₀ w : World lent) (f : ℕ) (ws : List ℕ) (n k : ℕ) : Type 0 where
+  pub equal : each (places_in one_run ws 0 1 0 (n - 0)) (Step.update_context f) w₀ ≡ each (places_in one_run ws 0 1 k (n - k)) (Step.update_context f) w
 
 -- nothing is done yet
-pub updates_start : (vs ss c : List ℕ) (f : ℕ) (ws : List ℕ) (n : ℕ) → Updates vs ss c f ws n 0 c
-updates_start vs ss c f ws n = record { equal = λ os r. refl }
+pub updates_start : (w : World lent) (f : ℕ) (ws : List ℕ) (n : ℕ) → Updates w w f ws n 0
+updates_start w f ws n = record { equal = refl }
 
 -- from what the loop holds
-module _ (vs ss c₀ : List ℕ) (f : ℕ) (ws : List ℕ) (n k : ℕ) (c : List ℕ) (a : Updates vs ss c₀ f ws n k c) where
+module _ (w₀ w : World lent) (f : ℕ) (ws : List ℕ) (n k : ℕ) (a : Updates w₀ w f ws n k) where
   -- one place is done
-  pub updates_more : (p : Place) (d : List ℕ) → k < n → p ≡ place_in one_run ws 0 (1 + k * 5) → ((os : List ℕ) (r : Run) → Step.update_context f p (world vs ss c os r) ≡ ok tt (world vs ss d os r)) → Updates vs ss c₀ f ws n (k + 1) d
-  updates_more p d h g w = record {
-    equal = λ os r. a.equal os r
-        ∙ each_ok (Step.update_context f) p _ _ (world vs ss c os r) (world vs ss d os r) (places_more one_run ws 0 1 k n h ∙ ap (λ (q : Place). q ∷ places_in one_run ws 0 1 (k + 1) (n - (k + 1))) (sym g)) (w os r);
+  pub updates_more : (p : Place) (u : World lent) → k < n → p ≡ place_in one_run ws 0 (1 + k * 5) → Step.update_context f p w ≡ ok tt u → Updates w₀ u f ws n (k + 1)
+  updates_more p u h g e = record {
+    equal = a.equal ∙ each_ok (Step.update_context f) p _ _ w u (places_more one_run ws 0 1 k n h ∙ ap (λ (q : Place). q ∷ places_in one_run ws 0 1 (k + 1) (n - (k + 1))) (sym g)) e;
   }
 
   -- no place is left
   -- the loop's end is the whole
-  pub updates_end : n ≡ field one_run ws 0 0 → n ≤ k → (os : List ℕ) (r : Run) → each (captures_of ws) (Step.update_context f) (world vs ss c₀ os r) ≡ ok tt (world vs ss c os r)
-  unfolding counted_places each done return
-  updates_end e h os r =
+  pub updates_end : n ≡ field one_run ws 0 0 → n ≤ k → each (captures_of ws) (Step.update_context f) w₀ ≡ ok tt w
+  unfolding counted_places
+  updates_end e h =
       let z : n - 0 ≡ n = omega arith in
-      ap (λ (l : List Place). each l (Step.update_context f) (world vs ss c₀ os r)) (sym (ap (places_in one_run ws 0 1 0) (z ∙ e))) ∙ a.equal os r
-      ∙ ap (λ (l : List Place). each l (Step.update_context f) (world vs ss c os r)) (places_none one_run ws 0 1 k n h)
+      ap (λ (l : List Place). each l (Step.update_context f) w₀) (sym (ap (places_in one_run ws 0 1 0) (z ∙ e))) ∙ a.equal ∙ each_done (Step.update_context f) _ w (places_none one_run ws 0 1 k n h)
 
 -- the places of a copy are the context that was copied
 -- what is done for each of them is done for the context
-pub updates_context : (vs ss c d : List ℕ) (f : ℕ) (ws us : List ℕ) → length ws ≡ 81 → us ≡ copied_context c f ws
-    → ((os : List ℕ) (r : Run) → each (captures_of us) (Step.update_context f) (world vs ss c os r) ≡ ok tt (world vs ss d os r))
-    → (os : List ℕ) (r : Run) → each (Lent.context_of c f) (Step.update_context f) (world vs ss c os r) ≡ ok tt (world vs ss d os r)
-updates_context vs ss c d f ws us b e h os r =
-    ap (λ (l : List Place). each l (Step.update_context f) (world vs ss c os r)) (sym (ap captures_of e ∙ context_copied c f ws b)) ∙ h os r
+pub updates_context : (w u : World lent) (f : ℕ) (ws us : List ℕ) → length ws ≡ 81 → us ≡ copied_context w.rest.context f ws
+    → each (captures_of us) (Step.update_context f) w ≡ ok tt u → each (Lent.context_of w.rest.context f) (Step.update_context f) w ≡ ok tt u
+updates_context w u f ws us b e h = ap (λ (l : List Place). each l (Step.update_context f) w) (sym (ap captures_of e ∙ context_copied w.rest.context f ws b)) ∙ h
