@@ -1,7 +1,9 @@
 // The run of an instruction: what it may change is saved, and after a refusal put back.
 #![tactic(auto)]
 
-ghost use Rattle.std.specs.Prelude.{◌≡◌, length, ◌/◌};
+ghost use Rattle.std.specs.Prelude.{◌≡◌, Bool, length, ◌/◌};
+ghost use Rattle.def_effects.specs.declared.Session.{Session as ASession};
+ghost use Rattle.lent_world.specs.Promise.{Kept, Does};
 ghost use Rattle.def_transfer.specs.Instruction as Instruction;
 ghost use Rattle.laws_monad.specs.Answers.{answer};
 ghost use Rattle.call_parts.specs.Instructions.{instruction_of};
@@ -14,7 +16,7 @@ use call_run::run_instruction;
 use call_save::save;
 use call_undo::undo;
 use def_effects::{Place, Session};
-use def_refusals::Refusal;
+use def_refusals::{Refusal, Verdict};
 use lent_layout::EFFECT_WORDS;
 use lent_work::{Marks, Run};
 use lent_world::World;
@@ -56,6 +58,40 @@ fn start_run(session: Session, flag: bool) -> Run
 }
 
 // State and context are saved, the instruction runs, and if it is refused all is put back.
+fn run_or_undo(
+    world: &mut World,
+    candidates: &[u32],
+    lvalue: Place,
+    own: u32,
+    scratch64: &mut [u64],
+    scratch32: &mut [u32],
+) -> Verdict
+    ensures kept { Kept world.old world.new }
+    ensures does { (s : ASession) (flag : Bool)
+        → world.old.run ≡ start_run s flag
+        → Ready world.old.values.now world.old.sets.now world.old.context.now world.old.output.now candidates.now
+        scratch64.old scratch32.old
+        → Does (Instruction.apply_signature
+        (instruction_of candidates.now (candidate_count candidates.now) lvalue own)) world.old world.new result }
+{
+    let sets = &mut *world.sets;
+    let n = set_words(sets);
+    let values = &mut *world.values;
+    let context = &mut *world.context;
+    save(values, sets, n, context, scratch64, scratch32);
+    let start = world.run;
+    let count = candidate_count(candidates);
+    match run_instruction(world, candidates, count, lvalue, own) {
+        Ok(()) => Ok(()),
+        Err(refusal) => {
+            undo(world, n, scratch64, scratch32);
+            world.run = start;
+            Err(refusal)
+        }
+    }
+}
+
+// The same of what a host lends: the world is made of it, with nothing initialized, listed or entered yet.
 pub fn attempt(
     values: &mut [u64],
     sets: &mut [u64],
@@ -77,10 +113,7 @@ pub fn attempt(
         ≡ answer (class_of result) tt
         (world values.new sets.new context.new output.new (run_or (start_run session flag) result)) }
 {
-    let n = set_words(sets);
-    save(values, sets, n, context, scratch64, scratch32);
     let run = start_run(session, flag);
-    let count = candidate_count(candidates);
     let mut world = World {
         values,
         sets,
@@ -88,11 +121,8 @@ pub fn attempt(
         output,
         run,
     };
-    match run_instruction(&mut world, candidates, count, lvalue, own) {
+    match run_or_undo(&mut world, candidates, lvalue, own, scratch64, scratch32) {
         Ok(()) => Ok(world.run),
-        Err(refusal) => {
-            undo(&mut world, n, scratch64, scratch32);
-            Err(refusal)
-        }
+        Err(refusal) => Err(refusal),
     }
 }

@@ -1,5 +1,6 @@
 -- What a part of an instruction promises: what it does to the world that it is lent. Assumes nothing: these are definitions.
-use Rattle.std.specs.Prelude.{◌≡◌, Result, Ok, Err}
+use Rattle.std.specs.Prelude.{ℕ, ◌≡◌, List, length, Result, Ok, Err}
+use Rattle.std.specs.Borrow.{MutBor}
 use Rattle.def_transfer.specs.Monad.{Res, ok, refused, M}
 use Rattle.def_transfer.specs.Tables.{World}
 use Rattle.def_refusals.specs.declared.Refusal.{Refusal}
@@ -11,9 +12,13 @@ use Rattle.lent_world.specs.World.{lent, world}
 abbrev pub seen : Lent → World lent
 seen w = world w.values.now w.sets.now w.context.now w.output.now w.run
 
--- the slices are the same four: what is written into them the host finds there
+-- a slice is the same one, and as long as it was
+abbrev pub Same : MutBor (List ℕ) → MutBor (List ℕ) → Type 0
+Same r s = (r.ghost_name ≡ s.ghost_name) × (length r.now ≡ length s.now)
+
+-- the four slices are the same: what is written into them the host finds there
 abbrev pub Kept : Lent → Lent → Type 0
-Kept v w = (v.values.ghost_name ≡ w.values.ghost_name) × (v.sets.ghost_name ≡ w.sets.ghost_name) × (v.context.ghost_name ≡ w.context.ghost_name) × (v.output.ghost_name ≡ w.output.ghost_name)
+Kept v w = Same v.values w.values × Same v.sets w.sets × Same v.context w.context × Same v.output w.output
 
 -- what a part answers, as what a computation comes to: it goes on with the answer, or is refused with the same number, in the world as it is left
 abbrev pub comes : {A : Type 0} → Result A Refusal → World lent → Res (World lent) A
