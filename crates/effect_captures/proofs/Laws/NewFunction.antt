@@ -1,5 +1,5 @@
 -- Laws by which the code of new functions meets the definition. Assumes nothing.
-use Rattle.std.specs.Prelude.{ℕ, ◌+◌, ◌*◌, ◌≤◌, ◌<◌, ◌≡◌, Bool, true, false, ◌⊎◌, ltb, length, get_or, set, Option, None, Some}
+use Rattle.std.specs.Prelude.{ℕ, ◌+◌, ◌*◌, ◌≤◌, ◌<◌, ◌≡◌, Bool, true, false, ◌⊎◌, ltb, length, get_or, set, Option, None, Some, Result, Ok, Err}
 use Rattle.std.proofs.Common.{arith, ◌∙◌, inl, inr, ⊎_elim, length-set, get_or-set_same, get_or-set_other, ltb-true, ltb-false}
 use Rattle.std.proofs.Math.Path.{refl, sym, ap}
 use mathlib.Core.List.{List}
@@ -27,7 +27,10 @@ use Rattle.lent_layout.specs.Layout as Layout
 use Rattle.lent_context.specs.Lent as Lent
 use Rattle.lent_work.specs.declared.Run.{Run}
 use Rattle.laws_monad.proofs.Laws.Answers.{bind_ok, bind_fails, then_ok, then_fails}
+use Rattle.def_refusals.specs.declared.Refusal.{Refusal}
+use Rattle.laws_monad.specs.Answers.{answers}
 use Rattle.lent_world.specs.World.{lent, world}
+use Rattle.lent_world.specs.Promise.{comes}
 use Rattle.effect_intern.specs.Interning.{chosen}
 use Rattle.effect_captures.specs.NewFunctions.{function_kind, linked}
 use Rattle.lent_layout.specs.Layout.{one_run}
@@ -35,7 +38,7 @@ use Rattle.lent_layout.specs.Layout.{one_run}
 -- ---- a new function
 
 -- its number, its link and its place
-module _ (vs ss cs os : List ℕ) (r : Run) (f : ℕ) (into : Place) (k : ValueKind) (key : Key) (ws : List ℕ)
+module _ (f : ℕ) (into : Place) (k : ValueKind) (key : Key) (ws : List ℕ)
     (z : (ps : List Place) → key_with key (identifiers ps) ≡ effect_key (effect_with (Head.CreateFunction f into) ps)) where
   -- its number is that under the effect's key
   function_number : (w : World lent) → get_or_create_value_id (effect_key (CreateFunction (captures_of ws) f into)) w ≡ get_or_create_value_id (key_with key (identifiers (captures_of ws))) w
@@ -44,17 +47,16 @@ module _ (vs ss cs os : List ℕ) (r : Run) (f : ℕ) (into : Place) (k : ValueK
 
   -- no number is left
   -- "9 a fresh number is needed at next 512"
-  pub linked_full : (n : ℕ) (w : World lent) → get_or_create_value_id (key_with key (identifiers (captures_of ws))) (world vs ss cs os r) ≡ refused n w → linked (captures_of ws) f into k (world vs ss cs os r) ≡ refused n w
+  pub linked_full : (w u : World lent) (n : ℕ) → get_or_create_value_id (key_with key (identifiers (captures_of ws))) w ≡ refused n u → linked (captures_of ws) f into k w ≡ refused n u
   unfolding linked
-  linked_full n w g = bind_fails _ _ _ _ _ (function_number _ ∙ g)
+  linked_full w u n g = bind_fails _ _ _ _ _ (function_number _ ∙ g)
 
   -- the number is linked to the function
-  pub linked_done : (v : ℕ) (ds es us ts : List ℕ) (t : Run) → get_or_create_value_id (key_with key (identifiers (captures_of ws))) (world vs ss cs os r) ≡ ok v (world vs ss ds os t)
-      → es ≡ Lent.put_link ds v f → create into v (mk k 0) (world vs ss es os t) ≡ ok tt (world us ts es os t)
-      → linked (captures_of ws) f into k (world vs ss cs os r) ≡ ok tt (world us ts es os t)
+  pub linked_done : (w u : World lent) (vs ss ds es os : List ℕ) (r : Run) (v : ℕ) → get_or_create_value_id (key_with key (identifiers (captures_of ws))) w ≡ ok v (world vs ss ds os r)
+      → es ≡ Lent.put_link ds v f → create into v (mk k 0) (world vs ss es os r) ≡ ok tt u → linked (captures_of ws) f into k w ≡ ok tt u
   unfolding linked link_to change
-  linked_done v ds es us ts t g l c =
-      bind_ok _ _ _ _ _ _ (function_number _ ∙ g) (then_ok _ _ _ _ _ _ (ap (λ (i : List ℕ). ok tt (world vs ss i os t)) (sym l)) c)
+  linked_done w u vs ss ds es os r v g l c =
+      bind_ok _ _ _ _ _ _ (function_number _ ∙ g) (then_ok _ _ _ _ _ _ (ap (λ (i : List ℕ). ok tt (world vs ss i os r)) (sym l)) c)
 
 -- what comes after a link comes after the whole half
 links_then : (ps : List Place) (f : ℕ) (into : Place) (k : ValueKind) (m : M (World lent) Done) (w : World lent)
@@ -67,30 +69,38 @@ links_then ps f into k m w = by (get_or_create_value_id (effect_key (CreateFunct
     by (ok v u) = refl
     by (refused i u) = refl
 
+-- it comes after what the code of that half answers
+then_answers : (m : M (World lent) Done) (r : Result Done Refusal) (w : World lent) → and_then {A = Done} {B = Done} (comes r w) (λ _. m) ≡ answers r (λ _. m w) w
+unfolding and_then
+then_answers m (Ok a) w = refl
+then_answers m (Err e) w = refl
+
 -- a CreateFunction, before its captures are derived
-module _ (vs ss cs os : List ℕ) (r : Run) (ps : List Place) (f : ℕ) (into : Place) (again : AliasingEffect → M (World lent) Done) where
+module _ (ps : List Place) (f : ℕ) (into : Place) (again : AliasingEffect → M (World lent) Done) (w u : World lent) where
   -- the place already began
-  pub function_refused : (n : ℕ) (w : World lent) → begin into.identifier (world vs ss cs os r) ≡ refused n w → Step.creating_function again ps f into (world vs ss cs os r) ≡ refused n w
+  pub function_refused : (n : ℕ) → begin into.identifier w ≡ refused n u → Step.creating_function again ps f into w ≡ refused n u
   unfolding Step.creating_function
-  function_refused n w e = then_fails _ _ _ _ _ e
+  function_refused n e = then_fails _ _ _ _ _ e
 
   -- listed, its captures and context asked, its context places updated, its number linked
   -- what the kind goes by is asked before the context places change
-  pub function_made : (u : Run) → begin into.identifier (world vs ss cs os r) ≡ ok tt (world vs ss cs os u) → (is ds : List ℕ) (l : Run) (b t q : Bool) (k : ValueKind)
-      → emit (effect_with (Head.CreateFunction f into) ps) (world vs ss cs os u) ≡ ok tt (world vs ss cs is l)
-      → any_written ps (world vs ss cs is l) ≡ ok b (world vs ss cs is l)
-      → t ≡ Lent.has_tracked_side_effect cs f
-      → ((us ts ws : List ℕ) (d : Run) → any_ref (Lent.context_of cs f) (world us ts cs ws d).rest ≡ q)
+  pub function_made : begin into.identifier w ≡ ok tt u → (l d x : World lent) (b t q : Bool) (k : ValueKind) (r : Result Done Refusal)
+      → emit (effect_with (Head.CreateFunction f into) ps) u ≡ ok tt l
+      → any_written ps l ≡ ok b l
+      → t ≡ Lent.has_tracked_side_effect l.rest.context f
+      → any_ref (Lent.context_of l.rest.context f) l.rest ≡ q
       → k ≡ function_kind b t q
-      → each (Lent.context_of cs f) (update_context f) (world vs ss cs is l) ≡ ok tt (world vs ss ds is l)
-      → Step.creating_function again ps f into (world vs ss cs os r) ≡ and_then {A = Done} {B = Done} (linked ps f into k (world vs ss ds is l)) (λ _. each ps (λ c. again (Capture c into)))
+      → each (Lent.context_of l.rest.context f) (update_context f) l ≡ ok tt d
+      → linked ps f into k d ≡ comes r x
+      → Step.creating_function again ps f into w ≡ answers r (λ _. each ps (λ c. again (Capture c into)) x) x
   unfolding Step.creating_function effect_with ask function_context
-  function_made u e is ds l b t q k g n i j o p =
+  function_made e l d x b t q k r g n i j o p z =
       then_ok _ _ _ _ _ _ e (then_ok _ _ _ _ _ _ g (bind_ok _ _ _ _ _ _ n (bind_ok _ _ _ _ _ _ refl
-      (bind_ok _ _ _ _ _ _ (ap (λ (z : Bool). ok z (world vs ss cs is l)) (sym i)) (bind_ok _ _ _ _ _ _ (ap (λ (z : Bool). ok z (world vs ss cs is l)) (j vs ss is l))
+      (bind_ok _ _ _ _ _ _ (ap (λ (y : Bool). ok y l) (sym i)) (bind_ok _ _ _ _ _ _ (ap (λ (y : Bool). ok y l) j)
       (then_ok _ _ _ _ _ _ p
-      (links_then ps f into (function_kind b t q) (each ps (λ c. again (Capture c into))) (world vs ss ds is l)
-      ∙ ap (λ (z : ValueKind). and_then {A = Done} {B = Done} (linked ps f into z (world vs ss ds is l)) (λ _. each ps (λ c. again (Capture c into)))) (sym o))))))))
+      (links_then ps f into (function_kind b t q) (each ps (λ c. again (Capture c into))) d
+      ∙ ap (λ (y : Res (World lent) Done). and_then {A = Done} {B = Done} y (λ _. each ps (λ c. again (Capture c into)))) (ap (λ (y : ValueKind). linked ps f into y d) (sym o) ∙ z)
+      ∙ then_answers (each ps (λ c. again (Capture c into))) r x)))))))
 
 -- ---- the captures of the effect that stands for another
 
