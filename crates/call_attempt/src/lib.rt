@@ -8,14 +8,16 @@ ghost use Rattle.call_parts.specs.Instructions.{instruction_of};
 ghost use Rattle.call_outcome.specs.Calls.{candidate_count, start_run};
 ghost use Rattle.call_outcome.specs.Attempts.{at_most, run_or, Ready};
 ghost use Rattle.def_refusals.specs.Verdicts.{class_of};
-ghost use Rattle.lent_world.specs.Promise.{after, before};
+ghost use Rattle.lent_world.specs.World.{world};
 
 use call_run::run_instruction;
 use call_save::save;
 use call_undo::undo;
 use def_effects::{Place, Session};
+use def_refusals::Refusal;
 use lent_layout::EFFECT_WORDS;
-use lent_work::{Marks, Ran, Run};
+use lent_work::{Marks, Run};
+use lent_world::World;
 
 // How many words a list has, but no more than 8,192.
 #[tactic(auto, using(call_outcome::proofs::Laws::Class::most_past, call_outcome::proofs::Laws::Class::most_within))]
@@ -66,25 +68,30 @@ pub fn attempt(
     output: &mut [u32],
     scratch64: &mut [u64],
     scratch32: &mut [u32],
-) -> Ran
+) -> Result<Run, Refusal>
     ensures { Ready values.old sets.old context.old output.old candidates.now scratch64.old
         scratch32.old
         → Instruction.apply_signature
         (instruction_of candidates.now (candidate_count candidates.now) lvalue own)
-        (before values.old sets.old context.old output.old (start_run session flag))
+        (world values.old sets.old context.old output.old (start_run session flag))
         ≡ answer (class_of result) tt
-        (after values.new sets.new context.new output.new (run_or (start_run session flag) result)) }
+        (world values.new sets.new context.new output.new (run_or (start_run session flag) result)) }
 {
     let n = set_words(sets);
-    let start = start_run(session, flag);
     save(values, sets, n, context, scratch64, scratch32);
+    let run = start_run(session, flag);
     let count = candidate_count(candidates);
-    match run_instruction(
-        values, sets, context, output, start, candidates, count, lvalue, own,
-    ) {
-        Ok(run) => Ok(run),
+    let mut world = World {
+        values,
+        sets,
+        context,
+        output,
+        run,
+    };
+    match run_instruction(&mut world, candidates, count, lvalue, own) {
+        Ok(()) => Ok(world.run),
         Err(refusal) => {
-            undo(values, sets, n, context, output, scratch64, scratch32);
+            undo(&mut world, n, scratch64, scratch32);
             Err(refusal)
         }
     }

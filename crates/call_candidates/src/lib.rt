@@ -5,54 +5,38 @@ ghost use Rattle.def_transfer.specs.Monad.{each};
 ghost use Rattle.def_transfer.specs.Step as Step;
 ghost use Rattle.lent_context.specs.Lent as Lent;
 ghost use Rattle.lent_effects.specs.Records.{effect_in};
-ghost use Rattle.lent_world.specs.Promise.{after, before, Does};
+ghost use Rattle.lent_world.specs.Promise.{Kept, Does};
 ghost use Rattle.lent_layout.specs.Layout.{candidate_table};
 
+use def_refusals::Verdict;
 use effect_apply::apply_effect;
 use lent_effect_read::effect_in;
 use lent_effects::copy_captures;
 use lent_layout::{CANDIDATES, RUN_WORDS};
-use lent_work::{Ran, Run};
+use lent_world::World;
 
 // Candidate k goes through the step; its captures are copied to a slice first.
 // The depth of derivation is 4.
-pub fn candidate(
-    values: &mut [u64],
-    sets: &mut [u64],
-    context: &mut [u32],
-    output: &mut [u32],
-    run: Run,
-    candidates: &[u32],
-    k: u32,
-) -> Ran
-    ensures { Does (Step.apply_effect 4 (effect_in candidate_table candidates.now k))
-        (before values.old sets.old context.old output.old run)
-        (after values.new sets.new context.new output.new) result }
+pub fn candidate(world: &mut World, candidates: &[u32], k: u32) -> Verdict
+    ensures kept { Kept world.old world.new }
+    ensures does { Does (Step.apply_effect 4 (effect_in candidate_table candidates.now k)) world.old world.new
+        result }
 {
     let e = effect_in(CANDIDATES, candidates, k as usize);
     let mut captures = [0u32; RUN_WORDS];
     copy_captures(CANDIDATES, candidates, k as usize, &mut captures);
-    apply_effect(values, sets, context, output, run, 4, e, &captures)
+    apply_effect(world, 4, e, &captures)
 }
 
 // All candidates in order.
 // The first that is refused ends it.
-pub fn candidates_in_order(
-    values: &mut [u64],
-    sets: &mut [u64],
-    context: &mut [u32],
-    output: &mut [u32],
-    run: Run,
-    candidates: &[u32],
-    count: u32,
-) -> Ran
-    ensures { Does (each (Lent.effects_in candidate_table candidates.now 0 count) (Step.apply_effect 4))
-        (before values.old sets.old context.old output.old run)
-        (after values.new sets.new context.new output.new) result }
+pub fn candidates_in_order(world: &mut World, candidates: &[u32], count: u32) -> Verdict
+    ensures kept { Kept world.old world.new }
+    ensures does { Does (each (Lent.effects_in candidate_table candidates.now 0 count) (Step.apply_effect 4))
+        world.old world.new result }
 {
-    let mut now = run;
     for k in 0..count {
-        now = candidate(values, sets, context, output, now, candidates, k)?;
+        candidate(world, candidates, k)?;
     }
-    Ok(now)
+    Ok(())
 }

@@ -1,4 +1,4 @@
--- An instruction as it is lent, and what the code copies and keeps. Assumes nothing: these are definitions.
+-- An instruction as it is lent, and what the code copies. Assumes nothing: these are definitions.
 use Rattle.std.specs.Prelude.{ℕ, zero, suc, ◌+◌, List, set}
 use Rattle.def_effects.specs.declared.Place.{Place}
 use Rattle.def_transfer.specs.Instruction.{Instruction, own_of}
@@ -6,8 +6,6 @@ use Rattle.lent_tables.specs.Words.{field}
 use Rattle.lent_effects.specs.Records.{counted_places}
 use Rattle.lent_layout.specs.Layout as Layout
 use Rattle.lent_context.specs.Lent.{effects_in}
-use Rattle.lent_work.specs.declared.Run.{Run}
-use Rattle.effect_parts.specs.Parts.{with_session}
 use Rattle.lent_layout.specs.Layout.{candidate_table, inside_run}
 
 -- "An instruction is its candidates with their places and captures, its lvalue, and its own function if it has one."
@@ -29,8 +27,3 @@ copied_inside_from c f k (suc n) ws = copied_inside_from c f (suc k) n (set ws (
 -- a slice as the places of a run stand in
 unfoldable pub copied_inside : List ℕ → ℕ → List ℕ → List ℕ
 copied_inside c f ws = copied_inside_from c f 0 160 (set ws 0 (field Layout.functions c f 2))
-
--- the session with the entries of this instruction
--- "Its walk entries are those of the last instruction that wasn't refused, over all its Freezes."
-abbrev pub kept_entries : Run → Run
-kept_entries r = with_session (record { next = r.session.next; access = r.session.access; span = r.session.span; entries = r.entries }) r

@@ -2,18 +2,16 @@
 // The definition of an instruction from the lent candidates stands in specs/.
 #![tactic(auto)]
 
-ghost use Rattle.std.specs.Prelude.{◌≡◌, List, ℕ};
+ghost use Rattle.std.specs.Prelude.{◌≡◌};
 ghost use Rattle.def_effects.specs.Places.{identifiers};
 ghost use Rattle.def_transfer.specs.Instruction as Instruction;
 ghost use Rattle.def_transfer.specs.Monad.{ok};
+ghost use Rattle.def_transfer.specs.State as State;
 ghost use Rattle.lent_context.specs.Lent as Lent;
-ghost use Rattle.lent_work.specs.declared.Run.{Run as ARun};
-ghost use Rattle.lent_world.specs.World.{world};
-ghost use Rattle.call_parts.specs.Instructions.{copied_inside, kept_entries};
+ghost use Rattle.lent_world.specs.Promise.{seen, Kept};
+ghost use Rattle.call_parts.specs.Instructions.{copied_inside};
 
-use def_effects::Session;
 use def_kinds::{AbstractValue, ValueKind};
-use effect_parts::with_session;
 use lent_context::context_count;
 use lent_functions::{context_identifier, inside_count};
 use lent_layout::FUNCTIONS;
@@ -21,7 +19,7 @@ use lent_set_writes::define;
 use lent_sets::is_defined;
 use lent_slices::set;
 use lent_values::put_value;
-use lent_work::Run;
+use lent_world::World;
 
 // Whether an identifier is among the context places of a function.
 // A place that is mutated inside counts only if it comes from outside.
@@ -50,11 +48,11 @@ pub fn copy_inside(context: &[u32], f: u32, out: &mut [u32])
 
 // An lvalue that is not defined becomes defined as its own value, Mutable {Other}.
 // "Last, an undefined lvalue becomes defined as its own value." An entry that stands there is overwritten.
-pub fn define_lvalue(values: &mut [u64], sets: &mut [u64], i: u32)
-    ensures { (cs os : List ℕ) (run : ARun)
-        → Instruction.define_lvalue i (world values.old sets.old cs os run)
-        ≡ ok tt (world values.new sets.new cs os run) }
+pub fn define_lvalue(world: &mut World, i: u32)
+    ensures kept { Kept world.old world.new }
+    ensures does { Instruction.define_lvalue i (seen world.old) ≡ ok tt (seen world.new) }
 {
+    let sets = &mut *world.sets;
     if is_defined(sets, i) {
         return;
     }
@@ -62,22 +60,20 @@ pub fn define_lvalue(values: &mut [u64], sets: &mut [u64], i: u32)
         kind: ValueKind::Mutable,
         reason: 2048,
     };
-    put_value(values, 512 + (i as usize), value);
+    put_value(world.values, 512 + (i as usize), value);
     if i < 512 {
-        define(sets, i, 512 + i);
+        define(world.sets, i, 512 + i);
         return;
     }
-    define(sets, i, 1024);
+    define(world.sets, i, 1024);
 }
 
 // The session keeps the entries of all Freezes of this instruction.
 // "Its walk entries are those of the last instruction that wasn't refused."
-pub fn keep_entries(run: Run) -> Run
-    ensures { result ≡ kept_entries run }
+#[tactic(auto, unfolding(def_transfer::specs::State::change))]
+pub fn keep_entries(world: &mut World)
+    ensures kept { Kept world.old world.new }
+    ensures does { State.change Instruction.keep_entries (seen world.old) ≡ ok tt (seen world.new) }
 {
-    let after = Session {
-        entries: run.entries,
-        ..run.session
-    };
-    with_session(run, after)
+    world.run.session.entries = world.run.entries;
 }

@@ -4,35 +4,33 @@
 
 ghost use Rattle.def_transfer.specs.Instruction as Instruction;
 ghost use Rattle.call_parts.specs.Instructions.{instruction_of};
-ghost use Rattle.lent_world.specs.Promise.{after, before, Does};
+ghost use Rattle.lent_world.specs.Promise.{Kept, Does};
 
 use call_candidates::candidates_in_order;
 use call_early::early_errors;
 use call_parts::{define_lvalue, keep_entries};
 use def_effects::Place;
-use lent_work::{Ran, Run};
+use def_refusals::Verdict;
+use lent_world::World;
 
 // ---- the whole run
 
 // The run of an instruction: the early errors of its own function, its candidates in order, the lvalue, the entries kept.
 // Where it is refused the tables are as the refused step left them: the call, `call_apply::apply_signature`, puts them back.
 pub fn run_instruction(
-    values: &mut [u64],
-    sets: &mut [u64],
-    context: &mut [u32],
-    output: &mut [u32],
-    run: Run,
+    world: &mut World,
     candidates: &[u32],
     count: u32,
     lvalue: Place,
     own: u32,
-) -> Ran
-    ensures { Does (Instruction.run (instruction_of candidates.now count lvalue own))
-        (before values.old sets.old context.old output.old run)
-        (after values.new sets.new context.new output.new) result }
+) -> Verdict
+    ensures kept { Kept world.old world.new }
+    ensures does { Does (Instruction.run (instruction_of candidates.now count lvalue own)) world.old world.new
+        result }
 {
-    let early = early_errors(values, sets, context, output, run, own)?;
-    let ran = candidates_in_order(values, sets, context, output, early, candidates, count)?;
-    define_lvalue(values, sets, lvalue.identifier);
-    Ok(keep_entries(ran))
+    early_errors(world, own)?;
+    candidates_in_order(world, candidates, count)?;
+    define_lvalue(world, lvalue.identifier);
+    keep_entries(world);
+    Ok(())
 }

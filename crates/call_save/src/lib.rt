@@ -30,14 +30,11 @@ fn copy_saved(context: &[u32], scratch: &mut [u32])
 
 // The words of a context between its functions and its interned effects are copied to scratch.
 // The count of interned effects is the first of them.
+#[tactic(auto, unfolding(call_undo::specs::Saves::saved_context))]
 pub fn save_context(context: &[u32], scratch: &mut [u32])
     ensures { scratch.new ≡ saved_context context.now scratch.old }
 {
-    if context.len() < EFFECTS_FROM {
-        copy(context, SAVED_FROM, scratch, 0, SAVED, 0);
-        return;
-    }
-    if scratch.len() < SAVED_WORDS {
+    if context.len() < EFFECTS_FROM || scratch.len() < SAVED_WORDS {
         copy(context, SAVED_FROM, scratch, 0, SAVED, 0);
         return;
     }

@@ -6,11 +6,13 @@ ghost use Rattle.std.specs.Prelude.{◌≡◌};
 ghost use Rattle.lent_copies.specs.Copies.{copied};
 ghost use Rattle.call_undo.specs.Saves.{forgotten, restored_context};
 ghost use Rattle.lent_copies.specs.Cleared.{Cleared};
+ghost use Rattle.lent_world.specs.Promise.{Kept};
 
 use lent_copies::copy;
 use lent_layout::{EFFECT_WORDS, EFFECTS_FROM, SAVED, SAVED_FROM};
 use lent_links::interned_count;
 use lent_slices::{get_or, set};
+use lent_world::World;
 
 // Values and n words of sets are copied back.
 // "After a refusal state .. are as before."
@@ -53,21 +55,15 @@ pub fn restore_context(context: &mut [u32], scratch: &[u32])
 // State and context are put back, and the output list becomes zero.
 // After an instruction was refused.
 #[tactic(auto, unfolding(lent_copies::specs::Copies::zeros))]
-pub fn undo(
-    values: &mut [u64],
-    sets: &mut [u64],
-    n: u32,
-    context: &mut [u32],
-    output: &mut [u32],
-    scratch64: &[u64],
-    scratch32: &[u32],
-)
-    ensures { (values.new ≡ copied scratch64.now 0 0 1024 values.old)
-        × (sets.new ≡ copied scratch64.now 1024 0 n sets.old)
-        × (context.new ≡ restored_context scratch32.now context.old)
-        × Cleared output.old output.new }
+pub fn undo(world: &mut World, n: u32, scratch64: &[u64], scratch32: &[u32])
+    ensures kept { Kept world.old world.new }
+    ensures restores { (world.new.values.now ≡ copied scratch64.now 0 0 1024 world.old.values.now)
+        × (world.new.sets.now ≡ copied scratch64.now 1024 0 n world.old.sets.now)
+        × (world.new.context.now ≡ restored_context scratch32.now world.old.context.now)
+        × Cleared world.old.output.now world.new.output.now
+        × (world.new.run ≡ world.old.run) }
 {
-    restore_state(values, sets, n, scratch64);
-    restore_context(context, scratch32);
-    output.fill(0);
+    restore_state(world.values, world.sets, n, scratch64);
+    restore_context(world.context, scratch32);
+    world.output.fill(0);
 }

@@ -1,13 +1,10 @@
 // The numbers of a diagnostic: its identity and its instance, found or new. After intern_aliasing_diagnostic of the Rust.
 #![tactic(auto)]
 
-ghost use Rattle.std.specs.Prelude.{◌≡◌, List, ℕ};
+ghost use Rattle.std.specs.Prelude.{◌≡◌};
 ghost use Rattle.def_transfer.specs.Context as Context;
-ghost use Rattle.def_transfer.specs.Monad.{ok};
-ghost use Rattle.laws_monad.specs.Answers.{answers};
-ghost use Rattle.lent_work.specs.declared.Run.{Run as ARun};
 ghost use Rattle.lent_context.specs.Lent as Lent;
-ghost use Rattle.lent_world.specs.World.{world};
+ghost use Rattle.lent_world.specs.Promise.{seen, Kept, comes, Does};
 
 use def_effects::{AliasingDiagnostic, Diagnostic};
 use def_refusals::Refusal;
@@ -16,19 +13,18 @@ use lent_diagnostics::{
 };
 use lent_layout::DIAGNOSTIC_COUNT;
 use lent_slices::set;
+use lent_world::World;
 
 // The identity of an equal message, or the next one; 10 refuses the 257th.
 // Nothing is written: an identity stands in the records that have it.
-pub fn identity_for(context: &[u32], d: Diagnostic) -> Result<u32, Refusal>
-    ensures { (vs ss os : List ℕ) (run : ARun)
-        → Context.new_identity (Lent.find_identity context.now d) (world vs ss context.now os run)
-        ≡ answers result (λ n. ok n (world vs ss context.now os run))
-        (world vs ss context.now os run) }
+pub fn identity_for(world: &World, d: Diagnostic) -> Result<u32, Refusal>
+    ensures { Context.new_identity (Lent.find_identity world.now.context.now d) (seen world.now)
+        ≡ comes result (seen world.now) }
 {
-    if let Some(n) = find_identity(context, d) {
+    if let Some(n) = find_identity(world.context, d) {
         return Ok(n);
     }
-    let count = identity_count(context);
+    let count = identity_count(world.context);
     if count >= 256 {
         return Err(Refusal::Diagnostics);
     }
@@ -36,13 +32,13 @@ pub fn identity_for(context: &[u32], d: Diagnostic) -> Result<u32, Refusal>
 }
 
 // The place of an equal record, or of a new one; 10 refuses the 257th.
-pub fn instance_for(context: &mut [u32], identity: u32, d: Diagnostic) -> Result<u32, Refusal>
-    ensures { (vs ss os : List ℕ) (run : ARun)
-        → Context.new_instance identity d (Lent.find_instance context.old identity d)
-        (world vs ss context.old os run)
-        ≡ answers result (λ n. ok n (world vs ss context.new os run))
-        (world vs ss context.new os run) }
+pub fn instance_for(world: &mut World, identity: u32, d: Diagnostic) -> Result<u32, Refusal>
+    ensures kept { Kept world.old world.new }
+    ensures does { Does
+        (Context.new_instance identity d (Lent.find_instance world.old.context.now identity d))
+        world.old world.new result }
 {
+    let context = &mut *world.context;
     if let Some(n) = find_instance(context, identity, d) {
         return Ok(n);
     }
@@ -57,13 +53,11 @@ pub fn instance_for(context: &mut [u32], identity: u32, d: Diagnostic) -> Result
 
 // Both numbers of a diagnostic, found or new; 10 refuses a 257th diagnostic or instance.
 // This is intern_aliasing_diagnostic of the Rust.
-pub fn intern_diagnostic(context: &mut [u32], d: Diagnostic) -> Result<AliasingDiagnostic, Refusal>
-    ensures { (vs ss os : List ℕ) (run : ARun)
-        → Context.intern_diagnostic d (world vs ss context.old os run)
-        ≡ answers result (λ a. ok a (world vs ss context.new os run))
-        (world vs ss context.new os run) }
+pub fn intern_diagnostic(world: &mut World, d: Diagnostic) -> Result<AliasingDiagnostic, Refusal>
+    ensures kept { Kept world.old world.new }
+    ensures does { Does (Context.intern_diagnostic d) world.old world.new result }
 {
-    let identity = identity_for(context, d)?;
-    let instance = instance_for(context, identity, d)?;
+    let identity = identity_for(world, d)?;
+    let instance = instance_for(world, identity, d)?;
     Ok(AliasingDiagnostic { identity, instance })
 }

@@ -1,131 +1,97 @@
 // Mutations: what comes next, by the result of the mutation, with the diagnostic of one that is an error. After the arms for them of the Rust.
 #![tactic(auto)]
 
-ghost use Rattle.std.specs.Prelude.{◌≡◌, List, ℕ};
-ghost use Rattle.def_effects.specs.declared.Place.{Place as APlace};
+ghost use Rattle.std.specs.Prelude.{◌≡◌};
 ghost use Rattle.def_effects.specs.Effects.{AliasingEffect as Effect};
 ghost use Rattle.def_transfer.specs.Monad.{M, Done};
-ghost use Rattle.def_transfer.specs.Tables.{World};
-ghost use Rattle.def_transfer.specs.Step.{mutating, report, report_modified, report_hoisted};
-ghost use Rattle.lent_world.specs.World.{lent};
+ghost use Rattle.def_transfer.specs.Step as Step;
+ghost use Rattle.def_transfer.specs.Tables.{World as AWorld};
 ghost use Rattle.effect_acts.specs.Acts.{follow};
-ghost use Rattle.lent_world.specs.Promise.{after, before, Comes};
+ghost use Rattle.laws_monad.specs.Answers.{answers};
+ghost use Rattle.lent_world.specs.Promise.{seen, Kept};
+ghost use Rattle.lent_world.specs.World.{lent};
 
 use def_effects::{MutateVariant, MutationResult, Place, is_strict, result_of};
 use def_kinds::AbstractValue;
 use def_refusals::Refusal;
-use effect_acts::{Acted, Next};
+use effect_acts::Next;
 use effect_diagnostic::intern_diagnostic;
 use effect_parts::{kind, kind_with_span};
 use effect_reports::{hoisted_diagnostic, modified_diagnostic};
 use lent_context::{access_span, is_hoisted, is_ref, name_of};
 use lent_effects::AliasingEffect;
-use lent_work::Run;
+use lent_world::World;
 
 // A value that cannot be modified is reported: a MutateFrozen is derived where it is Frozen, else a MutateGlobal.
 // 10 refuses a 257th diagnostic or instance.
-pub fn report_modified(
-    context: &mut [u32],
-    run: Run,
-    p: Place,
-    a: AbstractValue,
-) -> Result<Acted, Refusal>
-    ensures { (again : Effect → M (World lent) Done) (e : Effect) (cs : List APlace) (vs ss os : List ℕ)
-        → Comes (report_modified again p a (before vs ss context.old os run))
-        (after vs ss context.new os)
-        (λ a. follow again e cs a.next (after vs ss context.new os a.run)) result }
+pub fn report_modified(world: &mut World, p: Place, a: AbstractValue) -> Result<Next, Refusal>
+    ensures kept { Kept world.old world.new }
+    ensures does { (again : Effect → M (AWorld lent) Done) (e : Effect)
+        → Step.report_modified again p a (seen world.old)
+        ≡ answers result (λ next. follow again e next (seen world.new)) (seen world.new) }
 {
+    let context = &mut *world.context;
     let name = name_of(context, p.identifier);
-    let error = intern_diagnostic(context, modified_diagnostic(p, name, a))?;
+    let error = intern_diagnostic(world, modified_diagnostic(p, name, a))?;
     if a.kind.is_frozen() {
-        return Ok(Acted {
-            run,
-            next: Next::Derived(AliasingEffect::MutateFrozen { place: p, error }),
-        });
+        return Ok(Next::Derived(AliasingEffect::MutateFrozen { place: p, error }));
     }
-    Ok(Acted {
-        run,
-        next: Next::Derived(AliasingEffect::MutateGlobal { place: p, error }),
-    })
+    Ok(Next::Derived(AliasingEffect::MutateGlobal { place: p, error }))
 }
 
 // An access before the declaration is reported: a MutateFrozen is derived.
 // 10 refuses a 257th diagnostic or instance.
-pub fn report_hoisted(context: &mut [u32], run: Run, p: Place) -> Result<Acted, Refusal>
-    ensures { (again : Effect → M (World lent) Done) (e : Effect) (cs : List APlace) (vs ss os : List ℕ)
-        → Comes (report_hoisted again p (before vs ss context.old os run))
-        (after vs ss context.new os)
-        (λ a. follow again e cs a.next (after vs ss context.new os a.run)) result }
+pub fn report_hoisted(world: &mut World, p: Place) -> Result<Next, Refusal>
+    ensures kept { Kept world.old world.new }
+    ensures does { (again : Effect → M (AWorld lent) Done) (e : Effect)
+        → Step.report_hoisted again p (seen world.old)
+        ≡ answers result (λ next. follow again e next (seen world.new)) (seen world.new) }
 {
+    let context = &mut *world.context;
     let name = name_of(context, p.identifier);
     let access = access_span(context, p.identifier);
-    let error = intern_diagnostic(context, hoisted_diagnostic(p, name, access))?;
-    Ok(Acted {
-        run,
-        next: Next::Derived(AliasingEffect::MutateFrozen { place: p, error }),
-    })
+    let error = intern_diagnostic(world, hoisted_diagnostic(p, name, access))?;
+    Ok(Next::Derived(AliasingEffect::MutateFrozen { place: p, error }))
 }
 
 // What a mutation lists, by its result.
 // Hoisted matters for Frozen and MaybeFrozen only.
-pub fn report_result(
-    values: &[u64],
-    sets: &[u64],
-    context: &mut [u32],
-    run: Run,
-    p: Place,
-    res: MutationResult,
-) -> Result<Acted, Refusal>
-    ensures { (again : Effect → M (World lent) Done) (e : Effect) (cs : List APlace) (os : List ℕ)
-        → Comes (report again e p res (before values.now sets.now context.old os run))
-        (after values.now sets.now context.new os)
-        (λ a. follow again e cs a.next (after values.now sets.now context.new os a.run)) result }
+pub fn report_result(world: &mut World, p: Place, res: MutationResult) -> Result<Next, Refusal>
+    ensures kept { Kept world.old world.new }
+    ensures does { (again : Effect → M (AWorld lent) Done) (e : Effect)
+        → Step.report again e p res (seen world.old)
+        ≡ answers result (λ next. follow again e next (seen world.new)) (seen world.new) }
 {
     match res {
-        MutationResult::None | MutationResult::MutateRef => Ok(Acted {
-            run,
-            next: Next::Nothing,
-        }),
-        MutationResult::Mutate => Ok(Acted {
-            run,
-            next: Next::Itself,
-        }),
+        MutationResult::None | MutationResult::MutateRef => Ok(Next::Nothing),
+        MutationResult::Mutate => Ok(Next::Itself),
         MutationResult::MutateGlobal => {
-            let seen = kind(values, sets, run, p.identifier);
-            report_modified(context, seen.run, p, seen.value)
+            let a = kind(world, p.identifier);
+            report_modified(world, p, a)
         }
         MutationResult::MutateFrozen => {
-            let seen = kind(values, sets, run, p.identifier);
+            let a = kind(world, p.identifier);
+            let context = &mut *world.context;
             if is_hoisted(context, p.identifier) {
-                return report_hoisted(context, seen.run, p);
+                return report_hoisted(world, p);
             }
-            report_modified(context, seen.run, p, seen.value)
+            report_modified(world, p, a)
         }
     }
 }
 
 // A mutation of a place: its result, and what it lists.
 // A ref is not looked at further, and no access is recorded for it.
-pub fn mutation(
-    values: &[u64],
-    sets: &[u64],
-    context: &mut [u32],
-    run: Run,
-    variant: MutateVariant,
-    p: Place,
-) -> Result<Acted, Refusal>
-    ensures { (again : Effect → M (World lent) Done) (e : Effect) (cs : List APlace) (os : List ℕ)
-        → Comes (mutating again variant e p (before values.now sets.now context.old os run))
-        (after values.now sets.now context.new os)
-        (λ a. follow again e cs a.next (after values.now sets.now context.new os a.run)) result }
+pub fn mutation(world: &mut World, variant: MutateVariant, p: Place) -> Result<Next, Refusal>
+    ensures kept { Kept world.old world.new }
+    ensures does { (again : Effect → M (AWorld lent) Done) (e : Effect)
+        → Step.mutating again variant e p (seen world.old)
+        ≡ answers result (λ next. follow again e next (seen world.new)) (seen world.new) }
 {
+    let context = &mut *world.context;
     if is_ref(context, p.identifier) {
-        return Ok(Acted {
-            run,
-            next: Next::Nothing,
-        });
+        return Ok(Next::Nothing);
     }
-    let seen = kind_with_span(values, sets, run, p.identifier, p.span);
-    let result = result_of(is_strict(variant), seen.value.kind);
-    report_result(values, sets, context, seen.run, p, result)
+    let a = kind_with_span(world, p.identifier, p.span);
+    report_result(world, p, result_of(is_strict(variant), a.kind))
 }

@@ -32,7 +32,6 @@ use Rattle.state_ops.specs.Lists.{own_sets}
 use Rattle.lent_tables.specs.Words.{index, field, place_in, places_in}
 use Rattle.lent_tables.proofs.Laws.Word.{within_yes, within_no_word, field_in, field_out, place_of_is, places_more, places_none}
 use Rattle.lent_effects.specs.declared.AliasingEffect.{AliasingEffect as Head}
-use Rattle.lent_effects.specs.declared.AliasingEffect.TheVariants as Head
 use Rattle.lent_effects.specs.Records.{effect_in, effect_with, head_in, captures_of, copied_captures, counted_places}
 use Rattle.lent_effects.proofs.Laws.Capture.{captures_copied}
 use Rattle.lent_work.specs.declared.Run.{Run}
@@ -43,7 +42,7 @@ use Rattle.lent_context.proofs.Laws.Search.{effects_more, effects_none}
 use Rattle.laws_monad.proofs.Laws.Answers.{bind_ok, bind_fails, then_ok, then_fails, if_true, if_false, done_ok}
 use Rattle.laws_monad.proofs.Laws.Each.{each_ok, each_fails, each_done}
 use Rattle.lent_world.specs.World.{lent, world}
-use Rattle.call_parts.specs.Instructions.{instruction_of, inside_places, copied_inside_from, copied_inside, kept_entries}
+use Rattle.call_parts.specs.Instructions.{instruction_of, inside_places, copied_inside_from, copied_inside}
 use Rattle.def_transfer.specs.Instruction.{own_of}
 use Rattle.lent_layout.specs.Layout.{candidate_table, inside_run}
 
@@ -88,62 +87,58 @@ module _ (c : List ℕ) (f i n k : ℕ) where
 
 -- one place in a world
 -- the definition tests all at once, the code one after the other
-module _ (vs ss c os : List ℕ) (r : Run) (p : Place) where
+module _ (w : World lent) (p : Place) where
   -- the definition looks at the place and its name, and tests
-  report_tests : (a : AbstractValue) (name : ℕ) → a ≡ kind_of (value_at vs) (set_at ss p.identifier) → name ≡ Lent.name_of c p.identifier
-      → Instruction.report_early p (world vs ss c os r) ≡ (when is_some (set_at ss p.identifier) && is_frozen a.kind then (Context.intern_diagnostic (Step.modified p name a) >>= λ d. Context.emit (MutateFrozen p d)) else done) (world vs ss c os r)
+  report_tests : (a : AbstractValue) (name : ℕ) → a ≡ kind_of (value_at w.state.values) (set_at w.state.sets p.identifier) → name ≡ Lent.name_of w.rest.context p.identifier
+      → Instruction.report_early p w ≡ (when is_some (set_at w.state.sets p.identifier) && is_frozen a.kind then (Context.intern_diagnostic (Step.modified p name a) >>= λ d. Context.emit (MutateFrozen p d)) else done) w
   unfolding Instruction.report_early State.set_of State.peek State.ask ◌>>=◌ and_then
   report_tests a name e g =
-      ap₂ (λ (x : AbstractValue) (y : ℕ). (when is_some (set_at ss p.identifier) && is_frozen x.kind then (Context.intern_diagnostic (Step.modified p y x) >>= λ d. Context.emit (MutateFrozen p d)) else done) (world vs ss c os r)) (sym e) (sym g)
+      ap₂ (λ (x : AbstractValue) (y : ℕ). (when is_some (set_at w.state.sets p.identifier) && is_frozen x.kind then (Context.intern_diagnostic (Step.modified p y x) >>= λ d. Context.emit (MutateFrozen p d)) else done) w) (sym e) (sym g)
 
   -- what the set of the place says
-  module _ (b : Bool) (s : b ≡ is_some (set_at ss p.identifier)) where
+  module _ (b : Bool) (s : b ≡ is_some (set_at w.state.sets p.identifier)) where
     -- an undefined place
-    pub report_undefined : b ≡ false → Instruction.report_early p (world vs ss c os r) ≡ ok tt (world vs ss c os r)
+    pub report_undefined : b ≡ false → Instruction.report_early p w ≡ ok tt w
     report_undefined h =
-        report_tests (kind_of (value_at vs) (set_at ss p.identifier)) (Lent.name_of c p.identifier) refl refl
-        ∙ if_false _ _ _ _ _ (ap (λ (x : Bool). x && is_frozen (kind_of (value_at vs) (set_at ss p.identifier)).kind) (sym s ∙ h)) (done_ok (world vs ss c os r))
+        report_tests (kind_of (value_at w.state.values) (set_at w.state.sets p.identifier)) (Lent.name_of w.rest.context p.identifier) refl refl
+        ∙ if_false _ _ _ _ _ (ap (λ (x : Bool). x && is_frozen (kind_of (value_at w.state.values) (set_at w.state.sets p.identifier)).kind) (sym s ∙ h)) (done_ok w)
 
     -- a defined place
-    module _ (h : b ≡ true) (a : AbstractValue) (g : a ≡ kind_of (value_at vs) (set_at ss p.identifier)) (y : Bool) (v : y ≡ is_frozen a.kind) where
+    module _ (h : b ≡ true) (a : AbstractValue) (g : a ≡ kind_of (value_at w.state.values) (set_at w.state.sets p.identifier)) (y : Bool) (v : y ≡ is_frozen a.kind) where
       -- a place that is not Frozen
-      pub report_other : y ≡ false → Instruction.report_early p (world vs ss c os r) ≡ ok tt (world vs ss c os r)
+      pub report_other : y ≡ false → Instruction.report_early p w ≡ ok tt w
       report_other q =
-          report_tests a (Lent.name_of c p.identifier) g refl
-          ∙ if_false _ _ _ _ _ (and_false (is_some (set_at ss p.identifier)) (is_frozen a.kind) (sym v ∙ q)) (done_ok (world vs ss c os r))
+          report_tests a (Lent.name_of w.rest.context p.identifier) g refl
+          ∙ if_false _ _ _ _ _ (and_false (is_some (set_at w.state.sets p.identifier)) (is_frozen a.kind) (sym v ∙ q)) (done_ok w)
 
       -- a Frozen place is reported
-      module _ (q : y ≡ true) (name : ℕ) (m : name ≡ Lent.name_of c p.identifier) (x : Diagnostic) (k : x ≡ Step.modified p name a) where
-        -- what the tests leave to do
-        report_rest : (t : Res (World lent) Done) → (Context.intern_diagnostic (Step.modified p name a) >>= λ d. Context.emit (MutateFrozen p d)) (world vs ss c os r) ≡ t → Instruction.report_early p (world vs ss c os r) ≡ t
+      module _ (q : y ≡ true) (name : ℕ) (m : name ≡ Lent.name_of w.rest.context p.identifier) (x : Diagnostic) (k : x ≡ Step.modified p name a) where
+        -- what the tests leave to do, with the diagnostic of this place
+        report_rest : (t : Res (World lent) Done) → (Context.intern_diagnostic x >>= λ d. Context.emit (MutateFrozen p d)) w ≡ t → Instruction.report_early p w ≡ t
         report_rest t j =
             report_tests a name g m
-            ∙ if_true _ _ _ _ _ (and_true (is_some (set_at ss p.identifier)) (is_frozen a.kind) (sym s ∙ h) (sym v ∙ q)) j
-
-        -- the diagnostic of this place
-        report_numbers : (w : World lent) → Context.intern_diagnostic (Step.modified p name a) w ≡ Context.intern_diagnostic x w
-        report_numbers w = ap (λ (y : Diagnostic). Context.intern_diagnostic y w) (sym k)
+            ∙ if_true _ _ _ _ _ (and_true (is_some (set_at w.state.sets p.identifier)) (is_frozen a.kind) (sym s ∙ h) (sym v ∙ q))
+            (ap (λ (z : Diagnostic). (Context.intern_diagnostic z >>= λ d. Context.emit (MutateFrozen p d)) w) (sym k) ∙ j)
 
         -- no number is left
-        pub report_refused : (z : ℕ) (u : World lent) → Context.intern_diagnostic x (world vs ss c os r) ≡ refused z u → Instruction.report_early p (world vs ss c os r) ≡ refused z u
-        report_refused z u w = report_rest _ (bind_fails _ _ z _ _ (report_numbers _ ∙ w))
+        pub report_refused : (z : ℕ) (u : World lent) → Context.intern_diagnostic x w ≡ refused z u → Instruction.report_early p w ≡ refused z u
+        report_refused z u j = report_rest _ (bind_fails _ _ z _ _ j)
 
         -- a MutateFrozen is listed
-        pub report_lists : (d : AliasingDiagnostic) (c₁ : List ℕ) → Context.intern_diagnostic x (world vs ss c os r) ≡ ok d (world vs ss c₁ os r)
-            → (cs : List Place) (os₁ : List ℕ) (r₁ : Run) → Context.emit (effect_with (Head.MutateFrozen p d) cs) (world vs ss c₁ os r) ≡ ok tt (world vs ss c₁ os₁ r₁)
-            → Instruction.report_early p (world vs ss c os r) ≡ ok tt (world vs ss c₁ os₁ r₁)
+        pub report_lists : (d : AliasingDiagnostic) (u : World lent) → Context.intern_diagnostic x w ≡ ok d u
+            → (cs : List Place) (t : World lent) → Context.emit (effect_with (Head.MutateFrozen p d) cs) u ≡ ok tt t → Instruction.report_early p w ≡ ok tt t
         unfolding effect_with
-        report_lists d c₁ w cs os₁ r₁ j = report_rest _ (bind_ok _ _ _ _ _ _ (report_numbers _ ∙ w) j)
+        report_lists d u j cs t i = report_rest _ (bind_ok _ _ _ _ _ _ j i)
 
   -- whether the place is of the own function's context
-  module _ (f : ℕ) (b : Bool) (e : b ≡ Instruction.has p.identifier (identifiers (Lent.context_of c f))) where
+  module _ (f : ℕ) (b : Bool) (e : b ≡ Instruction.has p.identifier (identifiers (Lent.context_of w.rest.context f))) where
     -- a place of the function itself
-    pub early_far : b ≡ false → Instruction.early_error f p (world vs ss c os r) ≡ ok tt (world vs ss c os r)
+    pub early_far : b ≡ false → Instruction.early_error f p w ≡ ok tt w
     unfolding Instruction.early_error State.ask Context.function_context
-    early_far h = bind_ok _ _ _ _ _ _ refl (if_false _ _ _ _ _ (sym e ∙ h) (done_ok (world vs ss c os r)))
+    early_far h = bind_ok _ _ _ _ _ _ refl (if_false _ _ _ _ _ (sym e ∙ h) (done_ok w))
 
     -- a place from outside
-    pub early_near : (y : Res (World lent) Done) → b ≡ true → Instruction.report_early p (world vs ss c os r) ≡ y → Instruction.early_error f p (world vs ss c os r) ≡ y
+    pub early_near : (y : Res (World lent) Done) → b ≡ true → Instruction.report_early p w ≡ y → Instruction.early_error f p w ≡ y
     unfolding Instruction.early_error State.ask Context.function_context
     early_near y h g = bind_ok _ _ _ _ _ _ refl (if_true _ _ _ _ _ (sym e ∙ h) g)
 
@@ -286,15 +281,15 @@ own_none (suc f) w h = absurd (omega arith)
 
 -- an own function
 -- the places of the copy are those that it mutates inside
-pub own_some : (own f : ℕ) (vs ss c os : List ℕ) (r : Run) (ws us : List ℕ) (y : Res (World lent) Done) → (own ≡ 0 → ⊥) → f ≡ own - 1 → length ws ≡ 161 → us ≡ copied_inside c f ws
-    → each (inside_places us) (Instruction.early_error f) (world vs ss c os r) ≡ y → Instruction.early_errors (own_of own) (world vs ss c os r) ≡ y
+pub own_some : (w : World lent) (own f : ℕ) (ws us : List ℕ) (y : Res (World lent) Done) → (own ≡ 0 → ⊥) → f ≡ own - 1 → length ws ≡ 161 → us ≡ copied_inside w.rest.context f ws
+    → each (inside_places us) (Instruction.early_error f) w ≡ y → Instruction.early_errors (own_of own) w ≡ y
 unfolding Instruction.early_errors State.ask
-own_some zero f vs ss c os r ws us y n m b e h = absurd (n refl)
-own_some (suc g) f vs ss c os r ws us y n m b e h =
+own_some w zero f ws us y n m b e h = absurd (n refl)
+own_some w (suc g) f ws us y n m b e h =
     let z : g ≡ f = omega arith in
     bind_ok _ _ _ _ _ _ refl
-    (ap (λ (x : ℕ). each (Lent.mutated_inside c x) (Instruction.early_error x) (world vs ss c os r)) z
-    ∙ ap (λ (l : List Place). each l (Instruction.early_error f) (world vs ss c os r)) (sym (ap inside_places e ∙ inside_copied c f ws b)) ∙ h)
+    (ap (λ (x : ℕ). each (Lent.mutated_inside w.rest.context x) (Instruction.early_error x) w) z
+    ∙ ap (λ (l : List Place). each l (Instruction.early_error f) w) (sym (ap inside_places e ∙ inside_copied w.rest.context f ws b)) ∙ h)
 
 -- ---- the candidates
 
@@ -333,17 +328,17 @@ module _ (act : AliasingEffect → M (World lent) Done) (xs : List ℕ) where
 -- ---- the lvalue
 
 -- what the set of the lvalue says
-module _ (vs ss : List ℕ) (i : ℕ) (b : Bool) (e : b ≡ is_some (set_at ss i)) where
+module _ (vs ss cs os : List ℕ) (r : Run) (i : ℕ) (b : Bool) (e : b ≡ is_some (set_at ss i)) where
   -- a defined lvalue
-  pub lvalue_stays : b ≡ true → (cs os : List ℕ) (r : Run) → Instruction.define_lvalue i (world vs ss cs os r) ≡ ok tt (world vs ss cs os r)
+  pub lvalue_stays : b ≡ true → Instruction.define_lvalue i (world vs ss cs os r) ≡ ok tt (world vs ss cs os r)
   unfolding Instruction.define_lvalue State.set_of
-  lvalue_stays h cs os r = bind_ok _ _ _ _ _ _ refl (if_true _ _ _ _ _ (sym e ∙ h) (done_ok (world vs ss cs os r)))
+  lvalue_stays h = bind_ok _ _ _ _ _ _ refl (if_true _ _ _ _ _ (sym e ∙ h) (done_ok (world vs ss cs os r)))
 
   -- an undefined lvalue gets its own value
   pub lvalue_own : (x : ℕ) (a : AbstractValue) (us ts : List ℕ) → b ≡ false → x ≡ i → a ≡ default → us ≡ put_value vs (512 + x) a → ts ≡ own_sets ss i i
-      → (cs os : List ℕ) (r : Run) → Instruction.define_lvalue i (world vs ss cs os r) ≡ ok tt (world us ts cs os r)
+      → Instruction.define_lvalue i (world vs ss cs os r) ≡ ok tt (world us ts cs os r)
   unfolding Instruction.define_lvalue State.set_of State.initialize State.define State.point own_sets ◌>>◌ ◌>>=◌ and_then
-  lvalue_own x a us ts h p d g t cs os r =
+  lvalue_own x a us ts h p d g t =
       if_false _ _ _ _ _ (sym e ∙ h)
       (ap₂ (λ (y z : List ℕ). ok tt (world y z cs os r)) (sym (g ∙ ap₂ (λ (n : ℕ) (v : AbstractValue). put_value vs (512 + n) v) p d)) (sym t))
 
@@ -369,9 +364,7 @@ module _ (xs : List ℕ) (n : ℕ) (p : Place) (own : ℕ) (w : World lent) wher
     run_stops m v g = then_ok _ _ _ _ _ _ e (then_fails _ _ _ _ _ g)
 
     -- the lvalue is defined and the entries are kept
-    pub run_ends : (vs ss cs os : List ℕ) (a : Run) → each (effects_in candidate_table xs 0 n) (Step.apply_effect 4) u ≡ ok tt (world vs ss cs os a)
-        → (us ts : List ℕ) (b : Run) → ((cs os : List ℕ) (r : Run) → Instruction.define_lvalue p.identifier (world vs ss cs os r) ≡ ok tt (world us ts cs os r)) → b ≡ kept_entries a
-        → Instruction.run (instruction_of xs n p own) w ≡ ok tt (world us ts cs os b)
-    unfolding Instruction.run instruction_of State.change
-    run_ends vs ss cs os a g us ts b d m =
-        then_ok _ _ _ _ _ _ e (then_ok _ _ _ _ _ _ g (then_ok _ _ _ _ _ _ (d cs os a) (ap (λ (x : Run). ok tt (world us ts cs os x)) (sym m))))
+    pub run_ends : (v x y : World lent) → each (effects_in candidate_table xs 0 n) (Step.apply_effect 4) u ≡ ok tt v → Instruction.define_lvalue p.identifier v ≡ ok tt x
+        → State.change Instruction.keep_entries x ≡ ok tt y → Instruction.run (instruction_of xs n p own) w ≡ ok tt y
+    unfolding Instruction.run instruction_of
+    run_ends v x y g d m = then_ok _ _ _ _ _ _ e (then_ok _ _ _ _ _ _ g (then_ok _ _ _ _ _ _ d m))

@@ -1,12 +1,12 @@
 use Rattle.effect_diagnostic.proofs.Laws.Reporting.{instance_found, instance_full, instance_next}
 use Rattle.effect_diagnostic.proofs.instance_for.Goals as goal
 
-pub returns-in-Some : goal.returns-in-Some
-returns-in-Some c = instance_found _ _ _ _ c.find_instance.ensures _ c.in-Some.is
+pub returns-in-Some-clause-does : goal.returns-in-Some-clause-does
+returns-in-Some-clause-does c = instance_found _ _ _ _ _ _ _ _ c.find_instance.ensures _ c.in-Some.is
 
-pub returns-then-n-ge256 : goal.returns-then-n-ge256
-returns-then-n-ge256 c = instance_full _ _ _ _ c.find_instance.ensures c.in_default.is _ c.instance_count-n.ensures c.if-n-ge256.true
+pub returns-then-n-ge256-clause-does : goal.returns-then-n-ge256-clause-does
+returns-then-n-ge256-clause-does c = instance_full _ _ _ _ _ _ _ _ c.find_instance.ensures c.in_default.is _ c.instance_count-n.ensures c.if-n-ge256.true
 
-pub returns : goal.returns
-returns c =
-    instance_next _ _ _ _ c.find_instance.ensures c.in_default.is _ c.instance_count-n.ensures _ _ c.if-n-ge256.false c.put_diagnostic.ensures c.set.ensures
+pub returns-clause-does : goal.returns-clause-does
+returns-clause-does c =
+    instance_next _ _ _ _ _ _ _ _ c.find_instance.ensures c.in_default.is _ c.instance_count-n.ensures _ _ c.if-n-ge256.false c.put_diagnostic.ensures c.set.ensures

@@ -1,9 +1,14 @@
-use Rattle.effect_flow.proofs.Laws.Flow.{flow_refused, flow_goes}
+use Rattle.effect_flow.proofs.Laws.Flow.{capture_goes, maybe_goes, alias_goes, alias_refused}
 use Rattle.effect_flow.proofs.flow.Goals as goal
 
-pub returns-then-refuses_flow : goal.returns-then-refuses_flow
-returns-then-refuses_flow c = λ again e cs xs os. (c.args.run, flow_refused again _ e _ _ _ _ xs os _ _ _ c.refuses_flow.ensures c.if-refuses_flow.true)
+pub returns-in-Capture-clause-does : goal.returns-in-Capture-clause-does
+returns-in-Capture-clause-does c = λ again e. capture_goes again e _ _ _ _ _ c.in-Capture.is (c.flowing.ensures.does again e)
 
-pub returns : goal.returns
-returns c =
-    λ again e cs xs os. flow_goes again _ e _ _ _ _ xs os _ _ _ c.refuses_flow.ensures _ _ _ _ _ c.if-refuses_flow.false c.kind_with_span-first.ensures c.kind_with_span-second.ensures c.flow_next-next.ensures cs
+pub returns-in-MaybeAlias-clause-does : goal.returns-in-MaybeAlias-clause-does
+returns-in-MaybeAlias-clause-does c = λ again e. maybe_goes again e _ _ _ _ _ c.in-MaybeAlias.is (c.flowing-in-MaybeAlias.ensures.does again e)
+
+pub returns-then-not-is_marked-clause-does : goal.returns-then-not-is_marked-clause-does
+returns-then-not-is_marked-clause-does c = λ again e. alias_refused again e _ _ _ _ c.in-Alias.is _ c.is_marked.ensures c.if-not-is_marked.true
+
+pub returns-else-not-is_marked-clause-does : goal.returns-else-not-is_marked-clause-does
+returns-else-not-is_marked-clause-does c = λ again e. alias_goes again e _ _ _ _ _ c.in-Alias.is _ c.is_marked.ensures c.if-not-is_marked.false (c.flowing-in-Alias.ensures.does again e)

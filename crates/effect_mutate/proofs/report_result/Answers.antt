@@ -1,22 +1,21 @@
-use Rattle.std.proofs.Common.{refl, ⊎_elim}
-use Rattle.lent_world.proofs.Laws.Promise.{comes_as}
+use Rattle.std.proofs.Common.{⊎_elim}
 use Rattle.effect_reports.proofs.Laws.Mutation.{result_none, result_ref, result_mutate, result_global, result_hoisted, result_frozen}
 use Rattle.effect_mutate.proofs.report_result.Goals as goal
 
-pub returns-then-is_hoisted : goal.returns-then-is_hoisted
-returns-then-is_hoisted c =
-    λ again e cs os. comes_as _ _ _ _ _ (result_hoisted _ _ _ _ _ _ again e cs os _ _ c.kind-seen-in-MutateFrozen.ensures _ _ c.is_hoisted.ensures c.in-MutateFrozen.is c.if-is_hoisted.true refl) (c.report_hoisted.ensures again e cs _ _ os)
+pub returns-then-is_hoisted-clause-does : goal.returns-then-is_hoisted-clause-does
+returns-then-is_hoisted-clause-does c =
+    λ again e. result_hoisted again e _ _ _ _ _ c.kind-a-in-MutateFrozen.ensures.does _ _ c.is_hoisted.ensures c.in-MutateFrozen.is c.if-is_hoisted.true (c.report_hoisted.ensures.does again e)
 
-pub returns-in-None : goal.returns-in-None
-returns-in-None c = λ again e cs os. ⊎_elim (result_none _ _ _ _ _ _ again e cs os) (result_ref _ _ _ _ _ _ again e cs os) c.in-None.is
+pub returns-in-None-clause-does : goal.returns-in-None-clause-does
+returns-in-None-clause-does c = λ again e. ⊎_elim (result_none again e _ _ _) (result_ref again e _ _ _) c.in-None.is
 
-pub returns-in-Mutate : goal.returns-in-Mutate
-returns-in-Mutate c = λ again e cs os. result_mutate _ _ _ _ _ _ again e cs os c.in-Mutate.is
+pub returns-in-Mutate-clause-does : goal.returns-in-Mutate-clause-does
+returns-in-Mutate-clause-does c = λ again e. result_mutate again e _ _ _ c.in-Mutate.is
 
-pub returns-in-MutateGlobal : goal.returns-in-MutateGlobal
-returns-in-MutateGlobal c =
-    λ again e cs os. comes_as _ _ _ _ _ (result_global _ _ _ _ _ _ again e cs os _ _ c.kind-seen.ensures _ c.in-MutateGlobal.is refl) (c.report_modified.ensures again e cs _ _ os)
+pub returns-in-MutateGlobal-clause-does : goal.returns-in-MutateGlobal-clause-does
+returns-in-MutateGlobal-clause-does c =
+    λ again e. result_global again e _ _ _ _ _ c.kind-a.ensures.does _ c.in-MutateGlobal.is (c.report_modified.ensures.does again e)
 
-pub returns-else-is_hoisted : goal.returns-else-is_hoisted
-returns-else-is_hoisted c =
-    λ again e cs os. comes_as _ _ _ _ _ (result_frozen _ _ _ _ _ _ again e cs os _ _ c.kind-seen-in-MutateFrozen.ensures _ _ c.is_hoisted.ensures c.in-MutateFrozen.is c.if-is_hoisted.false refl) (c.report_modified-in-MutateFrozen.ensures again e cs _ _ os)
+pub returns-else-is_hoisted-clause-does : goal.returns-else-is_hoisted-clause-does
+returns-else-is_hoisted-clause-does c =
+    λ again e. result_frozen again e _ _ _ _ _ c.kind-a-in-MutateFrozen.ensures.does _ _ c.is_hoisted.ensures c.in-MutateFrozen.is c.if-is_hoisted.false (c.report_modified-in-MutateFrozen.ensures.does again e)

@@ -19,18 +19,17 @@ use Rattle.def_effects.specs.declared.MutationResult.TheVariants as Result
 use Rattle.def_effects.specs.Places.{no_span}
 use Rattle.def_effects.specs.Mutation.{is_strict, result_of}
 use Rattle.def_effects.specs.Effects.{AliasingEffect, MutateFrozen, MutateGlobal}
-use Rattle.def_transfer.specs.Monad.{Res, ok, refused, M, Done, return}
+use Rattle.def_transfer.specs.Monad.{Res, ok, refused, M, Done, ◌>>=◌, return, when◌then◌else◌}
 use Rattle.def_transfer.specs.Tables.{World}
 use Rattle.def_transfer.specs.State.{ask, kind, kind_with_span}
 use Rattle.def_transfer.specs.Context.{intern_diagnostic}
 use Rattle.def_transfer.specs.Step.{modified, hoisted_access, mutate, report_modified, report_hoisted, report, mutating}
 use Rattle.lent_context.specs.Lent as Lent
 use Rattle.lent_diagnostics.proofs.Laws.Diagnostic.{span_differs, span_ends}
-use Rattle.lent_work.specs.declared.Run.{Run}
 use Rattle.lent_effects.specs.declared.AliasingEffect.TheVariants as Head
 use Rattle.lent_effects.specs.Records.{effect_with}
 use Rattle.laws_monad.proofs.Laws.Answers.{bind_ok, bind_fails, if_true, if_false}
-use Rattle.lent_world.specs.World.{lent, world}
+use Rattle.lent_world.specs.World.{lent}
 use Rattle.effect_acts.specs.declared.Next.TheVariants.{Nothing, Itself, Derived}
 use Rattle.effect_acts.specs.Acts.{follow}
 use Rattle.effect_reports.specs.Mutations.{access_label}
@@ -109,118 +108,104 @@ hoisted_is p name access label h = ap (λ (x : Span). record { identifier = p.id
 
 -- ---- a mutation that is an error is reported
 
--- what the code has of a report: the diagnostic's numbers, and the context after
-abbrev pub Numbered : List ℕ → List ℕ → Diagnostic → AliasingDiagnostic → Type 0
-Numbered cs us d x = (vs ss os : List ℕ) (r : Run) → intern_diagnostic d (world vs ss cs os r) ≡ ok x (world vs ss us os r)
-
--- or a refusal
-abbrev pub Unnumbered : List ℕ → List ℕ → Diagnostic → ℕ → Type 0
-Unnumbered cs us d n = (vs ss os : List ℕ) (r : Run) → intern_diagnostic d (world vs ss cs os r) ≡ refused n (world vs ss us os r)
-
-module _ (cs us : List ℕ) (r : Run) (p : Place) (name : ℕ) (d : Diagnostic) (w : name ≡ Lent.name_of cs p.identifier) where
+module _ (again : AliasingEffect → M (World lent) Done) (w : World lent) (p : Place) (name : ℕ) (d : Diagnostic) (m : name ≡ Lent.name_of w.rest.context p.identifier) where
   module _ (a : AbstractValue) (q : d ≡ modified p name a) where
     -- the diagnostic of the definition is the code's
-    same_modified : (v : World lent) → intern_diagnostic (modified p name a) v ≡ intern_diagnostic d v
-    same_modified v = ap (λ (y : Diagnostic). intern_diagnostic y v) (sym q)
+    -- what follows it is the rest of the report
+    modified_rest : (y : Res (World lent) Done) → (intern_diagnostic d >>= λ x. when is_frozen a.kind then again (MutateFrozen p x) else again (MutateGlobal p x)) w ≡ y → report_modified again p a w ≡ y
+    unfolding report_modified ask
+    modified_rest y g =
+        bind_ok _ _ _ _ _ _ (ap (λ (k : ℕ). ok k w) (sym m))
+        (ap (λ (x : Diagnostic). (intern_diagnostic x >>= λ z. when is_frozen a.kind then again (MutateFrozen p z) else again (MutateGlobal p z)) w) (sym q) ∙ g)
 
     -- a 257th diagnostic or instance
-    pub modified_refused : (n : ℕ) → Unnumbered cs us d n → (again : AliasingEffect → M (World lent) Done) (vs ss os : List ℕ)
-        → report_modified again p a (world vs ss cs os r) ≡ refused n (world vs ss us os r)
-    unfolding report_modified ask
-    modified_refused n g again vs ss os =
-        bind_ok _ _ _ _ _ _ (ap (λ (k : ℕ). ok k (world vs ss cs os r)) (sym w)) (bind_fails _ _ _ _ _ (same_modified (world vs ss cs os r) ∙ g vs ss os r))
+    pub modified_refused : (n : ℕ) (u : World lent) → intern_diagnostic d w ≡ refused n u → report_modified again p a w ≡ refused n u
+    modified_refused n u g = modified_rest _ (bind_fails _ _ _ _ _ g)
 
-    module _ (x : AliasingDiagnostic) (g : Numbered cs us d x) (b : Bool) (f : b ≡ is_frozen a.kind) where
+    module _ (x : AliasingDiagnostic) (u : World lent) (g : intern_diagnostic d w ≡ ok x u) (b : Bool) (f : b ≡ is_frozen a.kind) (e : AliasingEffect) where
       -- a value that is surely Frozen
-      pub modified_frozen : b ≡ true → (again : AliasingEffect → M (World lent) Done) (e : AliasingEffect) (ps : List Place) (vs ss os : List ℕ)
-          → report_modified again p a (world vs ss cs os r) ≡ follow again e ps (Derived (Head.MutateFrozen p x)) (world vs ss us os r)
-      unfolding report_modified ask follow effect_with
-      modified_frozen h again e ps vs ss os =
-          bind_ok _ _ _ _ _ _ (ap (λ (k : ℕ). ok k (world vs ss cs os r)) (sym w)) (bind_ok _ _ _ _ _ _ (same_modified (world vs ss cs os r) ∙ g vs ss os r) (if_true _ _ _ _ _ (sym f ∙ h) refl))
+      pub modified_frozen : b ≡ true → report_modified again p a w ≡ follow again e (Derived (Head.MutateFrozen p x)) u
+      unfolding follow effect_with
+      modified_frozen h = modified_rest _ (bind_ok _ _ _ _ _ _ g (if_true _ _ _ _ _ (sym f ∙ h) refl))
 
       -- any other
-      pub modified_global : b ≡ false → (again : AliasingEffect → M (World lent) Done) (e : AliasingEffect) (ps : List Place) (vs ss os : List ℕ)
-          → report_modified again p a (world vs ss cs os r) ≡ follow again e ps (Derived (Head.MutateGlobal p x)) (world vs ss us os r)
-      unfolding report_modified ask follow effect_with
-      modified_global h again e ps vs ss os =
-          bind_ok _ _ _ _ _ _ (ap (λ (k : ℕ). ok k (world vs ss cs os r)) (sym w)) (bind_ok _ _ _ _ _ _ (same_modified (world vs ss cs os r) ∙ g vs ss os r) (if_false _ _ _ _ _ (sym f ∙ h) refl))
+      pub modified_global : b ≡ false → report_modified again p a w ≡ follow again e (Derived (Head.MutateGlobal p x)) u
+      unfolding follow effect_with
+      modified_global h = modified_rest _ (bind_ok _ _ _ _ _ _ g (if_false _ _ _ _ _ (sym f ∙ h) refl))
 
-  module _ (access : Span) (v : access ≡ Lent.access_span cs p.identifier) (q : d ≡ hoisted_access p name access) where
+  module _ (access : Span) (v : access ≡ Lent.access_span w.rest.context p.identifier) (q : d ≡ hoisted_access p name access) where
     -- the diagnostic of the definition is the code's
-    same_hoisted : (v : World lent) → intern_diagnostic (hoisted_access p name access) v ≡ intern_diagnostic d v
-    same_hoisted v = ap (λ (y : Diagnostic). intern_diagnostic y v) (sym q)
+    -- what follows it is the rest of the report
+    hoisted_rest : (y : Res (World lent) Done) → (intern_diagnostic d >>= λ x. again (MutateFrozen p x)) w ≡ y → report_hoisted again p w ≡ y
+    unfolding report_hoisted ask
+    hoisted_rest y g =
+        bind_ok _ _ _ _ _ _ (ap (λ (k : ℕ). ok k w) (sym m)) (bind_ok _ _ _ _ _ _ (ap (λ (k : Span). ok k w) (sym v))
+        (ap (λ (x : Diagnostic). (intern_diagnostic x >>= λ z. again (MutateFrozen p z)) w) (sym q) ∙ g))
 
     -- a 257th diagnostic or instance
-    pub hoisted_refused : (n : ℕ) → Unnumbered cs us d n → (again : AliasingEffect → M (World lent) Done) (vs ss os : List ℕ)
-        → report_hoisted again p (world vs ss cs os r) ≡ refused n (world vs ss us os r)
-    unfolding report_hoisted ask
-    hoisted_refused n g again vs ss os =
-        bind_ok _ _ _ _ _ _ (ap (λ (k : ℕ). ok k (world vs ss cs os r)) (sym w))
-        (bind_ok _ _ _ _ _ _ (ap (λ (k : Span). ok k (world vs ss cs os r)) (sym v)) (bind_fails _ _ _ _ _ (same_hoisted (world vs ss cs os r) ∙ g vs ss os r)))
+    pub hoisted_refused : (n : ℕ) (u : World lent) → intern_diagnostic d w ≡ refused n u → report_hoisted again p w ≡ refused n u
+    hoisted_refused n u g = hoisted_rest _ (bind_fails _ _ _ _ _ g)
 
     -- an access before the declaration
-    pub hoisted_goes : (x : AliasingDiagnostic) → Numbered cs us d x → (again : AliasingEffect → M (World lent) Done) (e : AliasingEffect) (ps : List Place) (vs ss os : List ℕ)
-        → report_hoisted again p (world vs ss cs os r) ≡ follow again e ps (Derived (Head.MutateFrozen p x)) (world vs ss us os r)
-    unfolding report_hoisted ask follow effect_with
-    hoisted_goes x g again e ps vs ss os =
-        bind_ok _ _ _ _ _ _ (ap (λ (k : ℕ). ok k (world vs ss cs os r)) (sym w))
-        (bind_ok _ _ _ _ _ _ (ap (λ (k : Span). ok k (world vs ss cs os r)) (sym v)) (bind_ok _ _ _ _ _ _ (same_hoisted (world vs ss cs os r) ∙ g vs ss os r) refl))
+    pub hoisted_goes : (x : AliasingDiagnostic) (u : World lent) → intern_diagnostic d w ≡ ok x u → (e : AliasingEffect) → report_hoisted again p w ≡ follow again e (Derived (Head.MutateFrozen p x)) u
+    unfolding follow effect_with
+    hoisted_goes x u g e = hoisted_rest _ (bind_ok _ _ _ _ _ _ g refl)
 
 -- ---- what a mutation lists, by its result
 
-module _ (vs ss cs : List ℕ) (r : Run) (p : Place) (y : MutationResult) (again : AliasingEffect → M (World lent) Done) (e : AliasingEffect) (ps : List Place) (os : List ℕ) where
+module _ (again : AliasingEffect → M (World lent) Done) (e : AliasingEffect) (w : World lent) (p : Place) (y : MutationResult) where
   -- no mutation
-  pub result_none : y ≡ Result.None → report again e p y (world vs ss cs os r) ≡ follow again e ps Nothing (world vs ss cs os r)
+  pub result_none : y ≡ Result.None → report again e p y w ≡ follow again e Nothing w
   unfolding report follow
-  result_none h = ap (λ (k : MutationResult). report again e p k (world vs ss cs os r)) h
+  result_none h = ap (λ (k : MutationResult). report again e p k w) h
 
   -- a mutation of a ref
-  pub result_ref : y ≡ Result.MutateRef → report again e p y (world vs ss cs os r) ≡ follow again e ps Nothing (world vs ss cs os r)
+  pub result_ref : y ≡ Result.MutateRef → report again e p y w ≡ follow again e Nothing w
   unfolding report follow
-  result_ref h = ap (λ (k : MutationResult). report again e p k (world vs ss cs os r)) h
+  result_ref h = ap (λ (k : MutationResult). report again e p k w) h
 
   -- a mutation that may be
-  pub result_mutate : y ≡ Result.Mutate → report again e p y (world vs ss cs os r) ≡ follow again e ps Itself (world vs ss cs os r)
+  pub result_mutate : y ≡ Result.Mutate → report again e p y w ≡ follow again e Itself w
   unfolding report follow
-  result_mutate h = ap (λ (k : MutationResult). report again e p k (world vs ss cs os r)) h
+  result_mutate h = ap (λ (k : MutationResult). report again e p k w) h
 
-  module _ (a : AbstractValue) (u : Run) (k : (cs os : List ℕ) → kind p.identifier (world vs ss cs os r) ≡ ok a (world vs ss cs os u)) (m : Res (World lent) Done) where
+  module _ (a : AbstractValue) (u : World lent) (k : kind p.identifier w ≡ ok a u) (m : Res (World lent) Done) where
     -- a mutation of a Global
-    pub result_global : y ≡ Result.MutateGlobal → report_modified again p a (world vs ss cs os u) ≡ m → report again e p y (world vs ss cs os r) ≡ m
+    pub result_global : y ≡ Result.MutateGlobal → report_modified again p a u ≡ m → report again e p y w ≡ m
     unfolding report
-    result_global h g = ap (λ (x : MutationResult). report again e p x (world vs ss cs os r)) h ∙ bind_ok _ _ _ _ _ _ (k cs os) g
+    result_global h g = ap (λ (x : MutationResult). report again e p x w) h ∙ bind_ok _ _ _ _ _ _ k g
 
-    module _ (b : Bool) (q : b ≡ Lent.is_hoisted cs p.identifier) (h : y ≡ Result.MutateFrozen) where
+    module _ (b : Bool) (q : b ≡ Lent.is_hoisted u.rest.context p.identifier) (h : y ≡ Result.MutateFrozen) where
       -- a mutation of a frozen place that is hoisted
-      pub result_hoisted : b ≡ true → report_hoisted again p (world vs ss cs os u) ≡ m → report again e p y (world vs ss cs os r) ≡ m
+      pub result_hoisted : b ≡ true → report_hoisted again p u ≡ m → report again e p y w ≡ m
       unfolding report ask
       result_hoisted t g =
-          ap (λ (x : MutationResult). report again e p x (world vs ss cs os r)) h
-          ∙ bind_ok _ _ _ _ _ _ (k cs os) (bind_ok _ _ _ _ _ _ refl (if_true _ _ _ _ _ (sym q ∙ t) g))
+          ap (λ (x : MutationResult). report again e p x w) h
+          ∙ bind_ok _ _ _ _ _ _ k (bind_ok _ _ _ _ _ _ refl (if_true _ _ _ _ _ (sym q ∙ t) g))
 
       -- of one that is not
-      pub result_frozen : b ≡ false → report_modified again p a (world vs ss cs os u) ≡ m → report again e p y (world vs ss cs os r) ≡ m
+      pub result_frozen : b ≡ false → report_modified again p a u ≡ m → report again e p y w ≡ m
       unfolding report ask
       result_frozen t g =
-          ap (λ (x : MutationResult). report again e p x (world vs ss cs os r)) h
-          ∙ bind_ok _ _ _ _ _ _ (k cs os) (bind_ok _ _ _ _ _ _ refl (if_false _ _ _ _ _ (sym q ∙ t) g))
+          ap (λ (x : MutationResult). report again e p x w) h
+          ∙ bind_ok _ _ _ _ _ _ k (bind_ok _ _ _ _ _ _ refl (if_false _ _ _ _ _ (sym q ∙ t) g))
 
 -- ---- a mutation of a place
 
-module _ (vs ss cs : List ℕ) (r : Run) (variant : MutateVariant) (p : Place) (b : Bool) (q : b ≡ Lent.is_ref cs p.identifier) (again : AliasingEffect → M (World lent) Done) (e : AliasingEffect) (ps : List Place) (os : List ℕ) where
+module _ (again : AliasingEffect → M (World lent) Done) (e : AliasingEffect) (w : World lent) (variant : MutateVariant) (p : Place) (b : Bool) (q : b ≡ Lent.is_ref w.rest.context p.identifier) where
   -- a ref
-  pub mutation_ref : b ≡ true → mutating again variant e p (world vs ss cs os r) ≡ follow again e ps Nothing (world vs ss cs os r)
+  pub mutation_ref : b ≡ true → mutating again variant e p w ≡ follow again e Nothing w
   unfolding mutating mutate ask return report follow
   mutation_ref h =
       bind_ok _ _ _ _ _ _ (bind_ok _ _ _ _ _ _ refl (if_true _ _ _ _ _ (sym q ∙ h) refl)) refl
 
   -- any other place
-  pub mutation_goes : (a : AbstractValue) (u : Run) (s : Bool) (y : MutationResult) (m : Res (World lent) Done) → b ≡ false
-      → ((cs os : List ℕ) → kind_with_span p.identifier p.span (world vs ss cs os r) ≡ ok a (world vs ss cs os u))
-      → s ≡ is_strict variant → y ≡ result_of s a.kind → report again e p y (world vs ss cs os u) ≡ m
-      → mutating again variant e p (world vs ss cs os r) ≡ m
+  pub mutation_goes : (a : AbstractValue) (u : World lent) (s : Bool) (y : MutationResult) (m : Res (World lent) Done) → b ≡ false
+      → kind_with_span p.identifier p.span w ≡ ok a u
+      → s ≡ is_strict variant → y ≡ result_of s a.kind → report again e p y u ≡ m
+      → mutating again variant e p w ≡ m
   unfolding mutating mutate ask return
   mutation_goes a u s y m h k f z g =
       bind_ok _ _ _ _ _ _
-      (bind_ok _ _ _ _ _ _ refl (if_false _ _ _ _ _ (sym q ∙ h) (bind_ok _ _ _ _ _ _ (k cs os) refl)))
-      (ap (λ (x : MutationResult). report again e p x (world vs ss cs os u)) (ap (λ (t : Bool). result_of t a.kind) (sym f) ∙ sym z) ∙ g)
+      (bind_ok _ _ _ _ _ _ refl (if_false _ _ _ _ _ (sym q ∙ h) (bind_ok _ _ _ _ _ _ k refl)))
+      (ap (λ (x : MutationResult). report again e p x u) (ap (λ (t : Bool). result_of t a.kind) (sym f) ∙ sym z) ∙ g)
