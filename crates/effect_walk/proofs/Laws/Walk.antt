@@ -274,9 +274,6 @@ module _ (u : Lent) (a reason x : ℕ) (h : u.run.freeze < 4096) (g : a ≡ one_
   enters_plain n d q = deeper (λ y. freeze_function_captures_transitive y reason x (seen u) ≡ ok tt (seen (counted u (u.run.freeze + 1) a))) u.run.freeze d h q (λ c r.
       depth_more (seen u) (seen (counted u (u.run.freeze + 1) a)) reason x c (count_one u a h g) ∙ context_none (freeze_function_captures_transitive c reason) reason (seen (counted u (u.run.freeze + 1) a)) x (sym l ∙ n))
 
-  pub walked_counted : Walked u (counted u (u.run.freeze + 1) a)
-  walked_counted = record { sets = refl; context = refl; grows = omega arith }
-
   module _ (f n : ℕ) (s : o ≡ Some f) (t : n ≡ field Layout.functions u.context.now f 1) where
     -- one with a function comes to what the loop over its context comes to
     enters_runs : (r : Res (World lent) Done)
@@ -324,9 +321,6 @@ enters reason m w us e x g d l = entered (freeze_function_captures_transitive d 
 -- the walk of a value with a function ends as its loop over the context does
 module _ (u : Lent) (a reason x : ℕ) (h : u.run.freeze < 4096) (g : a ≡ one_more u.run.entries) (o : Option ℕ) (l : o ≡ link_of u.context.now x) (f n : ℕ) (s : o ≡ Some f) (t : n ≡ field Layout.functions u.context.now f 1)
     (w : Lent) (k : ℕ) (r : Runs reason (counted u (u.run.freeze + 1) a) w f n k) where
-  pub walked_on : Walked u w
-  walked_on = walked_then u _ w (walked_counted u a reason x h g o l) r.walked
-
   -- no place is left
   pub walk_ends : n ≤ k → (d : ℕ) → 4096 - u.run.freeze ≤ d → freeze_function_captures_transitive d reason x (seen u) ≡ ok tt (seen w)
   walk_ends z = enters_runs u a reason x h g o l f n s t _ (goes_end _ _ _ _ _ _ r (places_none Layout.contexts u.context.now f 0 k n z))
