@@ -9,40 +9,18 @@ ghost use Rattle.effect_reports.specs.Mutations.{access_label};
 use def_effects::{Diagnostic, Place, Span};
 use def_kinds::{AbstractValue, has_reason};
 
-// The number of the sentence that says why a value cannot be written: the first of the reasons that get_write_error_reason asks for; 10 for none.
+// The reasons that get_write_error_reason asks for, in turn.
 // Global, JsxCaptured, Context, KnownReturnSignature, ReactiveFunctionArgument, State, ReducerState, Effect, HookCaptured, HookReturn.
+const IN_SENTENCE_ORDER: [u32; 10] = [7, 8, 3, 0, 10, 1, 2, 4, 5, 6];
+
+// The number of the sentence that says why a value cannot be written: the first of these reasons that it has; 10 for none.
 pub fn get_write_error_reason(s: u32) -> u32
     ensures { result ≡ Reasons.get_write_error_reason s }
 {
-    if has_reason(s, 7) {
-        return 0;
-    }
-    if has_reason(s, 8) {
-        return 1;
-    }
-    if has_reason(s, 3) {
-        return 2;
-    }
-    if has_reason(s, 0) {
-        return 3;
-    }
-    if has_reason(s, 10) {
-        return 4;
-    }
-    if has_reason(s, 1) {
-        return 5;
-    }
-    if has_reason(s, 2) {
-        return 6;
-    }
-    if has_reason(s, 4) {
-        return 7;
-    }
-    if has_reason(s, 5) {
-        return 8;
-    }
-    if has_reason(s, 6) {
-        return 9;
+    for k in 0..10 {
+        if has_reason(s, IN_SENTENCE_ORDER[k as usize]) {
+            return k;
+        }
     }
     10
 }

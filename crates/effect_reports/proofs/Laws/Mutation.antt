@@ -1,11 +1,12 @@
 -- Laws by which the code of mutations meets the definition. Assumes nothing.
-use Prim.Native.Nat.{ℕ, suc, ◌+◌}
+use Prim.Native.Nat.{ℕ, suc, ◌+◌, ◌≤◌, ◌<◌}
 use native.Mathlib.Omega.{arith}
-use Rattle.std.specs.Prelude.{◌≡◌, Bool}
+use Rattle.std.specs.Prelude.{◌≡◌, Bool, drop, get_or}
 use Rattle.std.proofs.Math.Path.{refl, sym, ap}
 use Rattle.std.proofs.Common.{◌∙◌, eq-eqb, ne_eqb}
 use Rattle.std.proofs.Math.Bool.{true, false}
-use mathlib.Core.List.{List, [], ◌∷◌}
+use mathlib.Core.List.{List}
+use Rattle.std.proofs.lemmas.List.{at_drop_more}
 use Rattle.def_kinds.specs.declared.AbstractValue.{AbstractValue}
 use Rattle.def_kinds.specs.Kinds.{is_frozen}
 use Rattle.def_kinds.specs.Reasons.{has_reason, first_in, in_sentence_order, get_write_error_reason}
@@ -36,42 +37,42 @@ use Rattle.effect_reports.specs.Mutations.{access_label}
 
 -- ---- the sentence of a set of reasons
 
--- what is still to be asked once k reasons of the list were asked for
--- the sentence is k more than the place in the rest
-pub record Left (s k : ℕ) (rs : List ℕ) : Type 0 where
-  pub equal : get_write_error_reason s ≡ k + first_in rs s
-
+-- k reasons were asked for: the sentence is k more than the place in the rest
 module _ (s : ℕ) where
-  -- no reason was asked for yet
-  pub left_all : Left s 0 in_sentence_order
+  -- none was asked for yet
+  pub left_all : get_write_error_reason s ≡ 0 + first_in (drop 0 in_sentence_order) s
   unfolding get_write_error_reason
-  left_all = let g : get_write_error_reason s ≡ first_in in_sentence_order s = refl in record { equal = omega arith }
+  left_all = let z : get_write_error_reason s ≡ first_in in_sentence_order s = refl in omega arith
 
-  module _ (k r : ℕ) (rs : List ℕ) (l : Left s k (r ∷ rs)) (b : Bool) (e : b ≡ has_reason s r) where
-    -- the set has the reason that is asked for
-    pub left_here : b ≡ true → k ≡ get_write_error_reason s
+  module _ (k : ℕ) (l : get_write_error_reason s ≡ k + first_in (drop k in_sentence_order) s) where
+    module _ (h : k < 10) (b : Bool) (e : b ≡ has_reason s (get_or in_sentence_order k 0)) where
+      -- the reason that is asked for stands first in the rest
+      rest_is : first_in (drop k in_sentence_order) s ≡ elim b as (λ x. ℕ) [ true ↦ 0 | false ↦ suc (first_in (drop (k + 1) in_sentence_order) s) ]
+      unfolding first_in
+      rest_is =
+          at_drop_more (λ (rs : List ℕ). first_in rs s) in_sentence_order k 0 h
+          ∙ ap (λ (x : Bool). elim x as (λ y. ℕ) [ true ↦ 0 | false ↦ suc (first_in (drop (k + 1) in_sentence_order) s) ]) (sym e)
+
+      -- the set has the reason that is asked for
+      pub left_here : b ≡ true → k ≡ get_write_error_reason s
+      left_here t =
+          let z : first_in (drop k in_sentence_order) s ≡ 0 = rest_is ∙ ap (λ (x : Bool). elim x as (λ y. ℕ) [ true ↦ 0 | false ↦ suc (first_in (drop (k + 1) in_sentence_order) s) ]) t in
+          omega arith
+
+      -- it has not
+      pub left_next : b ≡ false → get_write_error_reason s ≡ (k + 1) + first_in (drop (k + 1) in_sentence_order) s
+      left_next t =
+          let z : first_in (drop k in_sentence_order) s ≡ suc (first_in (drop (k + 1) in_sentence_order) s) = rest_is ∙ ap (λ (x : Bool). elim x as (λ y. ℕ) [ true ↦ 0 | false ↦ suc (first_in (drop (k + 1) in_sentence_order) s) ]) t in
+          omega arith
+
+    -- the set has none of them
+    -- the sentence is the list's length
+    pub left_none : 10 ≤ k → k ≤ 10 → 10 ≡ get_write_error_reason s
     unfolding first_in
-    left_here h =
-        let z : first_in (r ∷ rs) s ≡ 0 = ap (λ (x : Bool). elim x as (λ y. ℕ) [ true ↦ 0 | false ↦ suc (first_in rs s) ]) (sym e ∙ h) in
-        let g : get_write_error_reason s ≡ k + first_in (r ∷ rs) s = l.equal in
+    left_none h g =
+        let e : k ≡ 10 = omega arith in
+        let z : first_in (drop k in_sentence_order) s ≡ 0 = ap (λ (x : ℕ). first_in (drop x in_sentence_order) s) e in
         omega arith
-
-    -- it has not
-    pub left_next : b ≡ false → Left s (suc k) rs
-    unfolding first_in
-    left_next h =
-        let z : first_in (r ∷ rs) s ≡ suc (first_in rs s) = ap (λ (x : Bool). elim x as (λ y. ℕ) [ true ↦ 0 | false ↦ suc (first_in rs s) ]) (sym e ∙ h) in
-        let g : get_write_error_reason s ≡ k + first_in (r ∷ rs) s = l.equal in
-        record { equal = omega arith }
-
-  -- the set has none of them
-  -- the sentence is the list's length
-  pub left_none : (k : ℕ) → Left s k [] → k ≡ get_write_error_reason s
-  unfolding first_in
-  left_none k l =
-      let z : first_in [] s ≡ 0 = refl in
-      let g : get_write_error_reason s ≡ k + first_in [] s = l.equal in
-      omega arith
 
 -- ---- the diagnostics
 
