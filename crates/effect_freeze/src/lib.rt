@@ -15,10 +15,9 @@ ghost use Rattle.lent_world.specs.Promise.{Kept, Does};
 use def_effects::Place;
 use def_refusals::Verdict;
 use effect_parts::emit;
-use effect_walk::{freeze_function_captures_transitive, next_value};
+use effect_walk::{freeze_function_captures_transitive, value_from};
 use lent_context::is_transitive;
 use lent_effects::AliasingEffect;
-use lent_sets::is_defined;
 use lent_world::World;
 use state_freeze::freeze;
 
@@ -29,14 +28,10 @@ pub fn walk(world: &mut World, i: u32, reason: u32) -> Verdict
     ensures does { Does (Walk.walk (values_of (set_at world.old.sets.now i)) reason) world.old world.new result }
 {
     world.run.freeze = 0;
-    let sets = &mut *world.sets;
-    if !is_defined(sets, i) {
-        return Ok(());
-    }
-    let mut m = next_value(world, i, 1);
-    while m < 1024 {
+    let mut from = 1;
+    while let Some(m) = value_from(world, i, from) {
         freeze_function_captures_transitive(world, reason, m)?;
-        m = next_value(world, i, m + 1);
+        from = m + 1;
     }
     Ok(())
 }

@@ -22,13 +22,10 @@ use state_ops::kind_of;
 pub fn any_ref(world: &World, f: u32) -> bool
     ensures { Step.any_ref (Lent.context_of world.now.context.now f) (seen world.now).rest ≡ result }
 {
-    let n = context_count(world.context, f);
-    for k in 0..n {
-        if is_ref(world.context, context_identifier(world.context, f, k)) {
-            return true;
-        }
-    }
-    false
+    (0..context_count(world.context, f)).any(|k| is_ref(
+        world.context,
+        context_identifier(world.context, f, k),
+    ))
 }
 
 // The context places of a function are copied to a slice of 81 words: the count, then the places.

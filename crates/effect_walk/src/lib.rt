@@ -4,11 +4,10 @@
 ghost use Rattle.std.specs.Prelude.{◌≡◌, ◌-◌, ◌*◌, ◌≤◌, ℕ};
 ghost use Rattle.def_transfer.specs.Walk as Walk;
 ghost use Rattle.lent_layout.specs.Layout as Layout;
-ghost use Rattle.lent_sets.specs.Rows as Rows;
 ghost use Rattle.lent_tables.specs.Words as Words;
 ghost use Rattle.lent_world.specs.Promise.{Kept, Does};
 ghost use Rattle.state_ops.specs.Lists.{freezes};
-ghost use Rattle.effect_walk.specs.Walks.{Walked};
+ghost use Rattle.effect_walk.specs.Walks.{value_from, Walked};
 
 use def_kinds::{AbstractValue, ValueKind, single};
 use def_refusals::{Refusal, Verdict};
@@ -29,12 +28,16 @@ pub fn opens(world: &World, i: u32) -> bool
     is_defined(world.sets, i) && kind_of(world.values, world.sets, i).kind.is_freezable()
 }
 
-// The lowest value of a place from `from` on, or 1,024.
+// The lowest value of a place from `from` on, if there is one.
 // A walk lends the whole world to what it enters, so that no iterator can hold on to the sets meanwhile.
-pub fn next_value(world: &World, i: u32, from: u32) -> u32
-    ensures { result ≡ Rows.next_member world.now.sets.now i from }
+pub fn value_from(world: &World, i: u32, from: u32) -> Option<u32>
+    ensures { result ≡ value_from world.now.sets.now i from }
 {
-    next_member(world.sets, i, from)
+    if !is_defined(world.sets, i) {
+        return None;
+    }
+    let m = next_member(world.sets, i, from);
+    if m < 1024 { Some(m) } else { None }
 }
 
 // The identifier of a context place of a function.
@@ -79,11 +82,11 @@ pub fn freeze_function_captures_transitive(world: &mut World, reason: u32, v: u3
     for k in 0..n {
         let i = entered_place(world, f, k);
         if opens(world, i) {
-            let mut m = next_value(world, i, 1);
-            while m < 1024 {
+            let mut from = 1;
+            while let Some(m) = value_from(world, i, from) {
                 freeze_value(world.values, m, reason);
                 freeze_function_captures_transitive(world, reason, m)?;
-                m = next_value(world, i, m + 1);
+                from = m + 1;
             }
         }
     }

@@ -1,5 +1,5 @@
 -- Laws by which the code of a Freeze meets the definition. Assumes nothing.
-use Rattle.std.specs.Prelude.{ℕ, ◌-◌, ◌≤◌, ◌<◌, ◌≡◌, Bool, true, false, List}
+use Rattle.std.specs.Prelude.{ℕ, ◌-◌, ◌≤◌, ◌≡◌, Bool, true, false, List, Option, None, Some}
 use Rattle.std.proofs.Common.{arith, sym, ap, ap₂, ◌∙◌}
 use Rattle.std.proofs.Math.Path.{refl}
 use Rattle.def_effects.specs.declared.Place.{Place}
@@ -8,13 +8,11 @@ use Rattle.def_transfer.specs.Monad.{Res, ok, refused, M, Done, each}
 use Rattle.def_transfer.specs.Tables.{World}
 use Rattle.def_transfer.specs.State.{ask, change, set_of}
 use Rattle.base_sets.specs.Members.{values_of}
-use Rattle.base_tests.specs.Tests.{is_some}
 use Rattle.def_transfer.specs.State as State
 use Rattle.def_transfer.specs.Context.{start_freeze, emit}
 use Rattle.def_transfer.specs.Walk.{freeze_function_captures_transitive, walk}
 use Rattle.def_transfer.specs.Step.{freezing}
 use Rattle.lent_sets.specs.Rows.{set_at}
-use Rattle.lent_sets.proofs.Laws.Row.{none_of}
 use Rattle.state_ops.specs.Lists.{freezes, frozen_values}
 use Rattle.state_ops.proofs.Laws.Text.{freeze_lists}
 use Rattle.lent_context.specs.Lent.{is_transitive}
@@ -22,10 +20,10 @@ use Rattle.lent_work.specs.declared.Run.{Run}
 use Rattle.lent_effects.specs.declared.AliasingEffect.TheVariants as Head
 use Rattle.lent_effects.specs.Records.{effect_with}
 use Rattle.laws_monad.proofs.Laws.Answers.{bind_ok, then_ok, if_true, if_false, done_ok}
-use Rattle.laws_monad.proofs.Laws.Each.{each_done}
 use Rattle.lent_world.specs.World.{lent, world}
 use Rattle.lent_world.specs.declared.World.{World as Lent}
 use Rattle.lent_world.specs.Promise.{seen}
+use Rattle.effect_walk.specs.Walks.{value_from}
 use Rattle.effect_walk.proofs.Laws.Walk.{RunsRow, row_fails, row_ends}
 
 -- what is lent, with no entry made yet
@@ -40,25 +38,21 @@ started w = record {
 
 -- each Freeze starts from zero, and enters the values of its place
 abbrev pub Walks : ℕ → Lent → Lent → ℕ → ℕ → Type 0
-Walks reason v w i m = RunsRow reason (λ F. F) v w i m
+Walks reason v w i from = RunsRow reason (λ F. F) v w i from
 
 module _ (u : Lent) (i reason : ℕ) where
   starts : (x : Res (World lent) Done) → each (values_of (set_at u.sets.now i)) (freeze_function_captures_transitive 4097 reason) (seen (started u)) ≡ x → walk (values_of (set_at u.sets.now i)) reason (seen u) ≡ x
   unfolding walk start_freeze change
   starts x h = then_ok _ _ _ _ _ _ refl h
 
-  -- a place that is not defined has no values
-  pub walk_none : (b : Bool) → b ≡ is_some (set_at u.sets.now i) → b ≡ false → walk (values_of (set_at u.sets.now i)) reason (seen u) ≡ ok tt (seen (started u))
-  walk_none b e h = starts _ (each_done (freeze_function_captures_transitive 4097 reason) _ _ (ap values_of (none_of (set_at u.sets.now i) (sym e ∙ h))))
-
-  module _ (w : Lent) (m : ℕ) (a : Walks reason (started u) w i m) where
+  module _ (w : Lent) (from : ℕ) (a : Walks reason (started u) w i from) (o : Option ℕ) (e : o ≡ value_from w.sets.now i from) where
     -- an entry is refused
-    pub walk_fails : (z : World lent) (x : ℕ) → m < 1024 → ((d : ℕ) → 4096 - w.run.freeze ≤ d → freeze_function_captures_transitive d reason m (seen w) ≡ refused x z) → walk (values_of (set_at u.sets.now i)) reason (seen u) ≡ refused x z
-    walk_fails z x h e = starts _ (row_fails reason (λ F. F) (started u) w i m a z x h e 4097 (omega arith))
+    pub walk_fails : (z : World lent) (x m : ℕ) → o ≡ Some m → ((d : ℕ) → 4096 - w.run.freeze ≤ d → freeze_function_captures_transitive d reason m (seen w) ≡ refused x z) → walk (values_of (set_at u.sets.now i)) reason (seen u) ≡ refused x z
+    walk_fails z x m h g = starts _ (row_fails reason (λ F. F) (started u) w i from a o e z x m h g 4097 (omega arith))
 
     -- all values are entered
-    pub walk_ends : 1024 ≤ m → walk (values_of (set_at u.sets.now i)) reason (seen u) ≡ ok tt (seen w)
-    walk_ends h = starts _ (row_ends reason (λ F. F) (started u) w i m a h 4097 (omega arith))
+    pub walk_ends : o ≡ None → walk (values_of (set_at u.sets.now i)) reason (seen u) ≡ ok tt (seen w)
+    walk_ends h = starts _ (row_ends reason (λ F. F) (started u) w i from a o e h 4097 (omega arith))
 
 -- ---- the three ways through a Freeze
 

@@ -9,6 +9,9 @@ use mathlib.Core.List.{List, ◌∷◌}
 use Rattle.std.proofs.Math.Dec.{eqb}
 use Rattle.std.proofs.Math.ListN.{length, get_or, length-set}
 use Rattle.std.proofs.Math.Seq.{get_or-set_same, get_or-set_other}
+use Rattle.std.specs.Bool.{MatchBool}
+use Rattle.std.specs.List.{range_with_len, AllWithin, HoldsAt}
+use Rattle.std.proofs.lemmas.List.FromFn.{length-range_with_len, get_or-range_with_len}
 use Rattle.base_tests.proofs.Laws.Bool.{and_false}
 use Rattle.def_kinds.specs.declared.AbstractValue.{AbstractValue}
 use Rattle.def_kinds.specs.Kinds.{copied, is_frozen}
@@ -36,51 +39,50 @@ use Rattle.lent_layout.specs.Layout.{one_run}
 
 -- ---- context places that are refs
 
--- what a loop over the context places has still to ask
-pub record Seeks (w : World lent) (f n k : ℕ) : Type 0 where
-  pub equal : Step.any_ref (places_in Layout.contexts w.rest.context f 0 0 (n - 0)) w.rest ≡ Step.any_ref (places_in Layout.contexts w.rest.context f 0 k (n - k)) w.rest
+-- from place k of a function on
+module _ (w : World lent) (f : ℕ) where
+  -- whether the place of a number is one
+  abbrev ref_at : ℕ → Bool
+  ref_at k = Lent.is_ref w.rest.context (field Layout.contexts w.rest.context f (k * 5))
 
--- a function with n context places, of which k are asked
-module _ (w : World lent) (f n k : ℕ) where
-  -- all places of a function are its context
-  all_places : n ≡ field Layout.functions w.rest.context f 1 → places_in Layout.contexts w.rest.context f 0 0 (n - 0) ≡ Lent.context_of w.rest.context f
+  ref_yes : (k n j : ℕ) → j < n → ref_at (k + j) ≡ true → Step.any_ref (places_in Layout.contexts w.rest.context f 0 k n) w.rest ≡ true
+  unfolding Step.any_ref place_in places_in
+  ref_yes k zero j h e = absurd (omega arith)
+  ref_yes k (suc n) zero h e =
+      let z : 0 + k * 5 ≡ (k + 0) * 5 = omega arith in
+      ap (λ (x : ℕ). Lent.is_ref w.rest.context (field Layout.contexts w.rest.context f x) || Step.any_ref (places_in Layout.contexts w.rest.context f 0 (suc k) n) w.rest) z
+      ∙ ap (λ (x : Bool). x || Step.any_ref (places_in Layout.contexts w.rest.context f 0 (suc k) n) w.rest) e
+  ref_yes k (suc n) (suc j) h e =
+      let z : suc k + j ≡ k + suc j = omega arith in
+      ap (λ (x : Bool). Lent.is_ref w.rest.context (field Layout.contexts w.rest.context f (0 + k * 5)) || x) (ref_yes (suc k) n j (omega arith) (ap ref_at z ∙ e))
+      ∙ or_yes (Lent.is_ref w.rest.context (field Layout.contexts w.rest.context f (0 + k * 5)))
+    where
+      or_yes : (b : Bool) → (b || true) ≡ true
+      or_yes true = refl
+      or_yes false = refl
+
+  ref_no : (k n : ℕ) → ((j : ℕ) → j < n → ref_at (k + j) ≡ false) → Step.any_ref (places_in Layout.contexts w.rest.context f 0 k n) w.rest ≡ false
+  unfolding Step.any_ref place_in places_in
+  ref_no k zero h = refl
+  ref_no k (suc n) h =
+      let z : 0 + k * 5 ≡ (k + 0) * 5 = omega arith in
+      ap (λ (x : ℕ). Lent.is_ref w.rest.context (field Layout.contexts w.rest.context f x) || Step.any_ref (places_in Layout.contexts w.rest.context f 0 (suc k) n) w.rest) z
+      ∙ ap₂ (λ (x y : Bool). x || y) (h 0 (omega arith)) (ref_no (suc k) n (λ j l. ap ref_at (let y : suc k + j ≡ k + suc j = omega arith in y) ∙ h (suc j) (omega arith)))
+
+  -- what the search of the places finds
+  pub ref_found : (n : ℕ) (r : Bool) → n ≡ field Layout.functions w.rest.context f 1
+      → MatchBool r ((k : ℕ) × (k < length (range_with_len 0 n)) × HoldsAt (λ x. ref_at x ≡ true) (range_with_len 0 n) k) (AllWithin (λ x. ref_at x ≡ false) (range_with_len 0 n) 0 (length (range_with_len 0 n)))
+      → Step.any_ref (Lent.context_of w.rest.context f) w.rest ≡ r
   unfolding Lent.context_of
-  all_places e = let z : n - 0 ≡ n = omega arith in ap (places_in Layout.contexts w.rest.context f 0 0) (z ∙ e)
+  ref_found n r e h = ap (λ (m : ℕ). Step.any_ref (places_in Layout.contexts w.rest.context f 0 0 m) w.rest) (sym e) ∙ found r h
+    where
+      at : (k : ℕ) → k < n → get_or (range_with_len 0 n) k 0 ≡ 0 + k
+      at k l = get_or-range_with_len 0 n k 0 l
 
-  -- a place asks for its own identifier, then for the rest
-  asks_ref : (i : ℕ) (b : Bool) → k < n → i ≡ field Layout.contexts w.rest.context f (k * 5) → b ≡ Lent.is_ref w.rest.context i
-      → Step.any_ref (places_in Layout.contexts w.rest.context f 0 k (n - k)) w.rest ≡ (b || Step.any_ref (places_in Layout.contexts w.rest.context f 0 (k + 1) (n - (k + 1))) w.rest)
-  unfolding Step.any_ref place_in
-  asks_ref i b h g e =
-      let z : k * 5 ≡ 0 + k * 5 = omega arith in
-      ap (λ (l : List Place). Step.any_ref l w.rest) (places_more Layout.contexts w.rest.context f 0 k n h)
-      ∙ ap (λ (x : Bool). x || Step.any_ref (places_in Layout.contexts w.rest.context f 0 (k + 1) (n - (k + 1))) w.rest) (sym (e ∙ ap (Lent.is_ref w.rest.context) (g ∙ ap (field Layout.contexts w.rest.context f) z)))
-
-  -- nothing is asked yet
-  pub seeks_start : Seeks w f n 0
-  seeks_start = record { equal = refl }
-
-  -- from what the loop holds
-  module _ (a : Seeks w f n k) where
-    -- a ref is found
-    pub seeks_yes : (i : ℕ) (b : Bool) → n ≡ field Layout.functions w.rest.context f 1 → k < n → i ≡ field Layout.contexts w.rest.context f (k * 5) → b ≡ Lent.is_ref w.rest.context i → b ≡ true
-        → Step.any_ref (Lent.context_of w.rest.context f) w.rest ≡ true
-    seeks_yes i b e h g q t =
-        ap (λ (l : List Place). Step.any_ref l w.rest) (sym (all_places e)) ∙ a.equal ∙ asks_ref i b h g q
-        ∙ ap (λ (x : Bool). x || Step.any_ref (places_in Layout.contexts w.rest.context f 0 (k + 1) (n - (k + 1))) w.rest) t
-
-    -- a place is no ref
-    pub seeks_more : (i : ℕ) (b : Bool) → k < n → i ≡ field Layout.contexts w.rest.context f (k * 5) → b ≡ Lent.is_ref w.rest.context i → b ≡ false → Seeks w f n (k + 1)
-    seeks_more i b h g q t = record {
-      equal = a.equal ∙ asks_ref i b h g q
-          ∙ ap (λ (x : Bool). x || Step.any_ref (places_in Layout.contexts w.rest.context f 0 (k + 1) (n - (k + 1))) w.rest) t;
-    }
-
-    -- no place is left
-    pub seeks_no : n ≡ field Layout.functions w.rest.context f 1 → n ≤ k → Step.any_ref (Lent.context_of w.rest.context f) w.rest ≡ false
-    unfolding Step.any_ref
-    seeks_no e h =
-        ap (λ (l : List Place). Step.any_ref l w.rest) (sym (all_places e)) ∙ a.equal ∙ ap (λ (l : List Place). Step.any_ref l w.rest) (places_none Layout.contexts w.rest.context f 0 k n h)
+      found : (x : Bool) → MatchBool x ((k : ℕ) × (k < length (range_with_len 0 n)) × HoldsAt (λ y. ref_at y ≡ true) (range_with_len 0 n) k) (AllWithin (λ y. ref_at y ≡ false) (range_with_len 0 n) 0 (length (range_with_len 0 n)))
+          → Step.any_ref (places_in Layout.contexts w.rest.context f 0 0 n) w.rest ≡ x
+      found true q = let z = length-range_with_len 0 n in let m = q.1 in let l : q.0 < n = omega arith in ref_yes 0 n q.0 l (sym (ap ref_at (at q.0 l)) ∙ q.2 0)
+      found false q = let z = length-range_with_len 0 n in ref_no 0 n (λ j l. sym (ap ref_at (at j l)) ∙ q j 0 (omega arith) (omega arith))
 
 -- ---- context places are copied
 

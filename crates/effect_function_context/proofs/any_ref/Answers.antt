@@ -1,16 +1,15 @@
-use Rattle.effect_function_context.proofs.Laws.Function.{seeks_start, seeks_yes, seeks_more, seeks_no}
+use native.Mathlib.Omega.{arith}
+use Rattle.std.specs.Prelude.{◌≡◌, ◌-◌, ◌*◌, refl, true, false}
+use Rattle.std.proofs.Common.{rules}
+use Rattle.std.proofs.lemmas.Iterator.{cases_from_any, YieldsList-from_range}
+use Rattle.lent_tables.specs.Words.{field}
+use Rattle.lent_layout.specs.Layout as Layout
+use Rattle.lent_context.specs.Lent.{is_ref}
+use Rattle.lent_world.specs.Promise.{seen}
+use Rattle.effect_function_context.proofs.Laws.Function.{ref_found}
 use Rattle.effect_function_context.proofs.any_ref.Goals as goal
 
-pub loop-k-init : goal.loop-k-init
-loop-k-init c = seeks_start _ _ _ 0
-
-pub returns-then-is_ref : goal.returns-then-is_ref
-returns-then-is_ref c =
-    seeks_yes _ _ _ _ c.loop-k.invariant _ _ c.context_count-n.ensures c.loop-k-test.true c.context_identifier.ensures c.is_ref.ensures c.if-is_ref.true
-
-pub loop-k-preserved : goal.loop-k-preserved
-loop-k-preserved c =
-    seeks_more _ _ _ _ c.loop-k.invariant _ _ c.loop-k-test.true c.context_identifier.ensures c.is_ref.ensures c.if-is_ref.false
-
 pub returns : goal.returns
-returns c = seeks_no _ _ _ _ c.loop-k.invariant c.context_count-n.ensures c.loop-k-test.false
+returns c = ref_found (seen c.args.world.now) _ _ _ c.context_count.ensures
+    (cases_from_any _ _ _ (λ k. is_ref c.args.world.now.context.now (field Layout.contexts c.args.world.now.context.now c.args.f (k * 5)) ≡ true) (λ k. is_ref c.args.world.now.context.now (field Layout.contexts c.args.world.now.context.now c.args.f (k * 5)) ≡ false) c.any.ensures.ran (YieldsList-from_range 0 c.context_count.result c.context_count.result refl (let z : c.context_count.result - 0 ≡ c.context_count.result = omega arith in z))
+    (λ x q k. search rules) (λ x q k. (search rules, search rules)))

@@ -1,7 +1,7 @@
 -- Laws by which the code of the walk meets the definition. Assumes nothing.
-use Rattle.std.specs.Prelude.{ℕ, zero, suc, ◌+◌, ◌-◌, ◌*◌, ◌≤◌, ◌<◌, ◌≡◌, Bool, ◌&&◌, Option, None, Some}
+use Rattle.std.specs.Prelude.{ℕ, zero, suc, ◌+◌, ◌-◌, ◌*◌, ◌≤◌, ◌<◌, ◌≡◌, Bool, ltb, ◌&&◌, Option, None, Some}
 use native.Mathlib.Omega.{arith}
-use Rattle.std.proofs.Common.{add-one, ap₂, ◌∙◌}
+use Rattle.std.proofs.Common.{add-one, ap₂, ◌∙◌, lt-ltb, le-ltb, ltb-true, ltb-false}
 use Rattle.std.proofs.Math.Path.{refl, sym, ap}
 use Rattle.std.proofs.Math.Bool.{true, false}
 use mathlib.Core.List.{List, [], ◌∷◌}
@@ -15,14 +15,14 @@ use Rattle.def_effects.specs.declared.Place.{Place}
 use Rattle.def_transfer.specs.Monad.{Res, ok, refused, M, Done, and_then, ◌>>=◌, return, refuse, when◌then◌else◌, each}
 use Rattle.def_transfer.specs.Tables.{World}
 use Rattle.def_transfer.specs.State.{kind_of, ask, change, set_of, peek, initialize, freeze_value, to_freeze}
-use Rattle.base_sets.specs.Members.{values_of, bits_of}
+use Rattle.base_sets.specs.Members.{values_of}
 use Rattle.def_transfer.specs.Context.{function_context, linked_context, count_entry}
 use Rattle.def_transfer.specs.Walk.{freeze_and_enter, enter_place, enter_context, freeze_function_captures_transitive}
 use Rattle.lent_values.specs.Cells.{value_at, put_value}
-use Rattle.lent_sets.specs.Rows.{set_at, left, next_member}
-use Rattle.lent_sets.proofs.Laws.Row.{walk_start, walk_step, walk_end}
+use Rattle.lent_sets.specs.Rows.{set_at, left, next_member, row_number}
+use Rattle.lent_sets.proofs.Laws.Row.{next_ge, none_of}
+use Rattle.lent_members.proofs.Laws.Members.{all_left, some_left, none_left}
 use Rattle.state_ops.specs.Lists.{freezes}
-use Rattle.state_ops.proofs.Laws.List.{At, values_start}
 use Rattle.lent_tables.specs.Words.{field, place_in, places_in}
 use Rattle.lent_tables.proofs.Laws.Word.{places_more, places_none}
 use Rattle.lent_layout.specs.Layout as Layout
@@ -33,7 +33,7 @@ use Rattle.laws_monad.proofs.Laws.Each.{each_ok, each_fails, each_done}
 use Rattle.lent_world.specs.World.{lent, world, one_more}
 use Rattle.lent_world.specs.declared.World.{World as Lent}
 use Rattle.lent_world.specs.Promise.{seen}
-use Rattle.effect_walk.specs.Walks.{frozen, Walked}
+use Rattle.effect_walk.specs.Walks.{frozen, value_from, Walked}
 
 -- ---- the small functions
 
@@ -140,15 +140,6 @@ freezes_value : (vs us ss cs os : List ℕ) (r : Run) (v reason : ℕ) → us �
 unfolding freeze_value initialize frozen
 freezes_value vs us ss cs os r v reason e = ap (λ (l : List ℕ). ok tt (world l ss cs os r)) (sym e)
 
--- a freeze acts only on a place that is defined
-opened : (vs ss : List ℕ) (i : ℕ) (b : Bool) → b ≡ freezes vs ss i → b ≡ true → is_some (set_at ss i) ≡ true
-unfolding freezes
-opened vs ss i b e h = go (is_some (set_at ss i)) (freezable (kind_of (value_at vs) (set_at ss i)).kind) (sym e ∙ h)
-  where
-    go : (x y : Bool) → (x && y) ≡ true → x ≡ true
-    go true y q = refl
-    go false y q = q
-
 -- ---- what a walk leaves
 
 pub walked_none : (w : Lent) → Walked w w
@@ -182,34 +173,94 @@ module _ {A : Type 0} (reason : ℕ) (f : (ℕ → M (World lent) Done) → A �
     pub goes_end : ys ≡ [] → (d : ℕ) → 4096 - v.run.freeze ≤ d → each xs (f (freeze_function_captures_transitive d reason)) (seen v) ≡ ok tt (seen w)
     goes_end c d l = a.equal d l ∙ each_done _ _ _ c
 
+-- ---- the values of a place, from a number on
+
+-- the lowest of them
+-- the code looks whether the place is defined, then for a member
+module _ (ss : List ℕ) (i from : ℕ) (b : Bool) (e : b ≡ is_some (set_at ss i)) where
+  pub from_none : b ≡ false → None ≡ value_from ss i from
+  unfolding value_from
+  from_none h = sym (ap (λ (x : Bool). ite (x && ltb (next_member ss i from) 1024) (Some (next_member ss i from)) None) (sym e ∙ h))
+
+  module _ (h : b ≡ true) (m : ℕ) (g : m ≡ next_member ss i from) where
+    told : (y : Bool) → ltb m 1024 ≡ y → ite y (Some m) None ≡ value_from ss i from
+    unfolding value_from
+    told y l =
+        sym (ap (λ (x : Bool). ite (x && ltb (next_member ss i from) 1024) (Some (next_member ss i from)) None) (sym e ∙ h)
+        ∙ ap (λ (k : ℕ). ite (ltb k 1024) (Some k) None) (sym g) ∙ ap (λ (x : Bool). ite x (Some m) None) l)
+
+    pub from_some : m < 1024 → Some m ≡ value_from ss i from
+    from_some l = told true (lt-ltb m 1024 l)
+
+    pub from_past : 1024 ≤ m → None ≡ value_from ss i from
+    from_past l = told false (le-ltb m 1024 l)
+
+-- what there is of them
+unfoldable pub values_from : List ℕ → ℕ → ℕ → List ℕ
+values_from ss i from = ite (is_some (set_at ss i)) (left (row_number ss i) from) []
+
+module _ (ss : List ℕ) (i : ℕ) where
+  -- from 1 on, all
+  pub values_all : values_of (set_at ss i) ≡ values_from ss i 1
+  unfolding values_from
+  values_all = go (is_some (set_at ss i)) refl
+    where
+      go : (b : Bool) → is_some (set_at ss i) ≡ b → values_of (set_at ss i) ≡ ite b (left (row_number ss i) 1) []
+      go true h = sym (all_left ss i h)
+      go false h = ap values_of (none_of (set_at ss i) h)
+
+  module _ (from : ℕ) (o : Option ℕ) (e : o ≡ value_from ss i from) where
+    -- the next of them, and those behind it
+    pub values_some : (m : ℕ) → o ≡ Some m → (values_from ss i from ≡ m ∷ values_from ss i (m + 1)) × (from ≤ m) × (m < 1024)
+    unfolding values_from value_from
+    values_some m h = go (is_some (set_at ss i)) (ltb (next_member ss i from) 1024) refl (sym e ∙ h)
+      where
+        go : (x y : Bool) → ltb (next_member ss i from) 1024 ≡ y → ite (x && y) (Some (next_member ss i from)) None ≡ Some m
+            → (ite x (left (row_number ss i) from) [] ≡ m ∷ ite x (left (row_number ss i) (m + 1)) []) × (from ≤ m) × (m < 1024)
+        go true true l q =
+            let n : m ≡ next_member ss i from = sym (ap (λ (z : Option ℕ). elim z [ None ↦ 0 | Some k ↦ k ]) q) in
+            let b : m < 1024 = rw n (ltb-true _ _ l) in
+            (some_left ss i from m n b, next_ge ss i from m n, b)
+        go true false l q = absurd (let z : false ≡ true = ap is_some q in let t : ◌≡◌ {A = ℕ} 0 1 = cc in omega arith)
+        go false y l q = absurd (let z : false ≡ true = ap is_some q in let t : ◌≡◌ {A = ℕ} 0 1 = cc in omega arith)
+
+    -- none is left
+    pub values_none : o ≡ None → values_from ss i from ≡ []
+    unfolding values_from value_from
+    values_none h = go (is_some (set_at ss i)) (ltb (next_member ss i from) 1024) refl (sym e ∙ h)
+      where
+        go : (x y : Bool) → ltb (next_member ss i from) 1024 ≡ y → ite (x && y) (Some (next_member ss i from)) None ≡ None → ite x (left (row_number ss i) from) [] ≡ []
+        go true true l q = absurd (let z : true ≡ false = ap is_some q in let t : ◌≡◌ {A = ℕ} 0 1 = cc in omega arith)
+        go true false l q = none_left ss i from _ refl (ltb-false _ _ l)
+        go false y l q = refl
+
 -- the loop over the values of a place
 module _ (reason : ℕ) (f : (ℕ → M (World lent) Done) → ℕ → M (World lent) Done) where
   abbrev pub RunsRow : Lent → Lent → ℕ → ℕ → Type 0
-  RunsRow v w i m = At v.sets.now i m × Goes reason f v w (values_of (set_at v.sets.now i)) (left (bits_of (set_at v.sets.now i)) m)
+  RunsRow v w i from = Goes reason f v w (values_of (set_at v.sets.now i)) (values_from v.sets.now i from)
 
   -- it begins
-  pub row_start : (v : Lent) (i m : ℕ) → is_some (set_at v.sets.now i) ≡ true → m ≡ next_member v.sets.now i 1 → RunsRow v v i m
-  row_start v i m h e = ((walk_start v.sets.now i m h e).0, goes_start reason f v _ _ (values_start v.sets.now i m h e))
+  pub row_start : (v : Lent) (i : ℕ) → RunsRow v v i 1
+  row_start v i = goes_start reason f v _ _ (values_all v.sets.now i)
 
-  module _ (v w : Lent) (i m : ℕ) (r : RunsRow v w i m) where
+  module _ (v w : Lent) (i from : ℕ) (r : RunsRow v w i from) (o : Option ℕ) (e : o ≡ value_from w.sets.now i from) where
+    still : o ≡ value_from v.sets.now i from
+    still = e ∙ ap (λ (l : List ℕ). value_from l i from) r.walked.sets
+
     -- one more value is done
-    pub row_next : (u : Lent) (n : ℕ) → m < 1024 → Walked w u → ((d : ℕ) → 4096 - w.run.freeze ≤ d → f (freeze_function_captures_transitive d reason) m (seen w) ≡ ok tt (seen u)) → n ≡ next_member u.sets.now i (m + 1) → RunsRow v u i n
-    row_next u n h p e t =
-        let z : u.sets.now ≡ v.sets.now = p.sets ∙ r.1.walked.sets in
-        let a : n ≡ next_member v.sets.now i (m + 1) = t ∙ ap (λ (l : List ℕ). next_member l i (m + 1)) z in (
-          (walk_step v.sets.now i _ m n r.0 h a).0,
-          goes_on reason f _ _ _ _ r.1 u m _ (walk_step v.sets.now i _ m n r.0 h a).2 p (λ d l. e d (let x = r.1.walked.grows in omega arith)),
-        )
+    pub row_next : (u : Lent) (m : ℕ) → o ≡ Some m → Walked w u → ((d : ℕ) → 4096 - w.run.freeze ≤ d → f (freeze_function_captures_transitive d reason) m (seen w) ≡ ok tt (seen u)) → RunsRow v u i (m + 1)
+    row_next u m h p g =
+        goes_on reason f _ _ _ _ r u m _ (values_some v.sets.now i from o still m h).0 p (λ d l. g d (let x = r.walked.grows in omega arith))
 
     -- a value was refused
-    pub row_fails : (u : World lent) (x : ℕ) → m < 1024 → ((d : ℕ) → 4096 - w.run.freeze ≤ d → f (freeze_function_captures_transitive d reason) m (seen w) ≡ refused x u)
+    pub row_fails : (u : World lent) (x m : ℕ) → o ≡ Some m → ((d : ℕ) → 4096 - w.run.freeze ≤ d → f (freeze_function_captures_transitive d reason) m (seen w) ≡ refused x u)
         → (d : ℕ) → 4096 - v.run.freeze ≤ d → each (values_of (set_at v.sets.now i)) (f (freeze_function_captures_transitive d reason)) (seen v) ≡ refused x u
-    row_fails u x h e =
-        goes_fails reason f _ _ _ _ r.1 u m _ x (walk_step v.sets.now i _ m (next_member v.sets.now i (m + 1)) r.0 h refl).2 (λ d l. e d (let z = r.1.walked.grows in omega arith))
+    row_fails u x m h g =
+        goes_fails reason f _ _ _ _ r u m _ x (values_some v.sets.now i from o still m h).0 (λ d l. g d (let z = r.walked.grows in omega arith))
 
     -- no value is left
-    pub row_ends : 1024 ≤ m → (d : ℕ) → 4096 - v.run.freeze ≤ d → each (values_of (set_at v.sets.now i)) (f (freeze_function_captures_transitive d reason)) (seen v) ≡ ok tt (seen w)
-    row_ends g = goes_end reason f _ _ _ _ r.1 (walk_end v.sets.now i _ m r.0 g)
+    pub row_ends : o ≡ None → (d : ℕ) → 4096 - v.run.freeze ≤ d → each (values_of (set_at v.sets.now i)) (f (freeze_function_captures_transitive d reason)) (seen v) ≡ ok tt (seen w)
+    row_ends h = goes_end reason f _ _ _ _ r (values_none v.sets.now i from o still h)
 
 -- the loop over the context of the value's function
 abbrev pub Runs : ℕ → Lent → Lent → ℕ → ℕ → ℕ → Type 0
@@ -222,9 +273,6 @@ module _ (u : Lent) (a reason x : ℕ) (h : u.run.freeze < 4096) (g : a ≡ one_
   pub enters_plain : o ≡ None → (d : ℕ) → 4096 - u.run.freeze ≤ d → freeze_function_captures_transitive d reason x (seen u) ≡ ok tt (seen (counted u (u.run.freeze + 1) a))
   enters_plain n d q = deeper (λ y. freeze_function_captures_transitive y reason x (seen u) ≡ ok tt (seen (counted u (u.run.freeze + 1) a))) u.run.freeze d h q (λ c r.
       depth_more (seen u) (seen (counted u (u.run.freeze + 1) a)) reason x c (count_one u a h g) ∙ context_none (freeze_function_captures_transitive c reason) reason (seen (counted u (u.run.freeze + 1) a)) x (sym l ∙ n))
-
-  pub walked_counted : Walked u (counted u (u.run.freeze + 1) a)
-  walked_counted = record { sets = refl; context = refl; grows = omega arith }
 
   module _ (f n : ℕ) (s : o ≡ Some f) (t : n ≡ field Layout.functions u.context.now f 1) where
     -- one with a function comes to what the loop over its context comes to
@@ -250,16 +298,12 @@ module _ (reason : ℕ) (v w : Lent) (f n k i : ℕ) (b : Bool) (r : Runs reason
       (λ d q. place_shut (freeze_function_captures_transitive d reason) reason (seen w) _ i b named o z)
 
   module _ (z : b ≡ true) where
-    -- the place has values
-    pub runs_row : is_some (set_at w.sets.now i) ≡ true
-    runs_row = opened w.values.now w.sets.now i b o z
-
     -- its values are done, and the walk goes on with the next place
-    pub runs_open : (u : Lent) (m : ℕ) → RunsRow reason (λ F. freeze_and_enter F reason) w u i m → 1024 ≤ m → Runs reason v u f n (k + 1)
-    runs_open u m y g =
-        goes_on _ _ _ _ _ _ r u _ _ (places_more Layout.contexts v.context.now f 0 k n h) y.1.walked
+    pub runs_open : (u : Lent) (from : ℕ) → RunsRow reason (λ F. freeze_and_enter F reason) w u i from → (s : Option ℕ) → s ≡ value_from u.sets.now i from → s ≡ None → Runs reason v u f n (k + 1)
+    runs_open u from y s t g =
+        goes_on _ _ _ _ _ _ r u _ _ (places_more Layout.contexts v.context.now f 0 k n h) y.walked
         (λ d q. place_opens (freeze_function_captures_transitive d reason) reason (seen w) _ i b named o z
-        ∙ row_ends reason (λ F. freeze_and_enter F reason) w u i m y g d (let x = r.walked.grows in omega arith))
+        ∙ row_ends reason (λ F. freeze_and_enter F reason) w u i from y s t g d (let x = r.walked.grows in omega arith))
 
     -- a value of the place was refused
     runs_refused : (u : World lent) (x : ℕ) → ((d : ℕ) → 4096 - w.run.freeze ≤ d → each (values_of (set_at w.sets.now i)) (freeze_and_enter (freeze_function_captures_transitive d reason) reason) (seen w) ≡ refused x u)
@@ -277,9 +321,6 @@ enters reason m w us e x g d l = entered (freeze_function_captures_transitive d 
 -- the walk of a value with a function ends as its loop over the context does
 module _ (u : Lent) (a reason x : ℕ) (h : u.run.freeze < 4096) (g : a ≡ one_more u.run.entries) (o : Option ℕ) (l : o ≡ link_of u.context.now x) (f n : ℕ) (s : o ≡ Some f) (t : n ≡ field Layout.functions u.context.now f 1)
     (w : Lent) (k : ℕ) (r : Runs reason (counted u (u.run.freeze + 1) a) w f n k) where
-  pub walked_on : Walked u w
-  walked_on = walked_then u _ w (walked_counted u a reason x h g o l) r.walked
-
   -- no place is left
   pub walk_ends : n ≤ k → (d : ℕ) → 4096 - u.run.freeze ≤ d → freeze_function_captures_transitive d reason x (seen u) ≡ ok tt (seen w)
   walk_ends z = enters_runs u a reason x h g o l f n s t _ (goes_end _ _ _ _ _ _ r (places_none Layout.contexts u.context.now f 0 k n z))
