@@ -1,4 +1,4 @@
-use Rattle.std.proofs.Common.{rules, search}
+use Rattle.std.proofs.Common.{rules}
 use mathlib.Core.Path.{refl, sym, ap, ◌∙◌}
 use Rattle.def_refusals.proofs.Laws.Verdicts.{number_some}
 use Rattle.laws_monad.proofs.Laws.Answers.{answer_ok, answer_refused}

@@ -2,11 +2,12 @@
 use mathlib.Core.Path.{refl, ◌∙◌}
 use Rattle.def_transfer.specs.Step as Text
 use Rattle.laws_monad.proofs.Laws.Answers.{passes}
+use Rattle.lent_world.proofs.Laws.Promise.{kept_then}
 use Rattle.call_parts.proofs.Laws.Instruction.{candidates_start, candidates_next, candidates_stop, candidates_end}
 use Rattle.call_candidates.proofs.candidates_in_order.Goals as goal
 
 pub loop-k-init : goal.loop-k-init
-loop-k-init c = ((refl, refl, refl, refl), refl)
+loop-k-init c = (((refl, refl), (refl, refl), (refl, refl), (refl, refl)), refl)
 
 pub returns-in_err-candidate-clause-does : goal.returns-in_err-candidate-clause-does
 returns-in_err-candidate-clause-does c =
@@ -14,9 +15,7 @@ returns-in_err-candidate-clause-does c =
 
 pub loop-k-preserved : goal.loop-k-preserved
 loop-k-preserved c =
-    let h : _ = c.loop-k.invariant.0 in
-    let g : _ = c.in_ok-candidate.ensures.kept in
-    ((h.0 ∙ g.0, h.1 ∙ g.1, h.2 ∙ g.2, h.3 ∙ g.3), c.loop-k.invariant.1 ∙ candidates_next (Text.apply_effect 4) _ _ _ _ c.loop-k-test.true _ c.in_ok-candidate.ensures.does)
+    (kept_then c.loop-k.initial.world c.loop-k.world c.candidate.new.world c.loop-k.invariant.0 c.in_ok-candidate.ensures.kept, c.loop-k.invariant.1 ∙ candidates_next (Text.apply_effect 4) _ _ _ _ c.loop-k-test.true _ c.in_ok-candidate.ensures.does)
 
 pub returns-clause-does : goal.returns-clause-does
 returns-clause-does c = candidates_start (Text.apply_effect 4) _ _ _ ∙ c.loop-k.invariant.1 ∙ candidates_end (Text.apply_effect 4) _ _ _ _ c.loop-k-test.false

@@ -2,6 +2,7 @@
 use mathlib.Core.Path.{◌∙◌}
 use Rattle.def_transfer.specs.Instruction.{early_error}
 use Rattle.laws_monad.proofs.Laws.Answers.{passes}
+use Rattle.lent_world.proofs.Laws.Promise.{kept_then}
 use Rattle.call_parts.proofs.Laws.Instruction.{places_start, places_next, places_stop, places_end}
 use Rattle.call_early.proofs.early_all.Goals as goal
 
@@ -11,9 +12,7 @@ returns-in_err-early_error-clause-does c =
 
 pub loop-k-preserved : goal.loop-k-preserved
 loop-k-preserved c =
-    let h : _ = c.loop-k.invariant.0 in
-    let k : _ = c.early_error.ensures.kept in
-    ((h.0 ∙ k.0, h.1 ∙ k.1, h.2 ∙ k.2, h.3 ∙ k.3), c.loop-k.invariant.1 ∙ places_next (early_error c.args.f) _ _ _ _ _ c.loop-k-test.true c.place_in.ensures _ c.in_ok-early_error.ensures.does)
+    (kept_then c.loop-k.initial.world c.loop-k.world c.early_error.new.world c.loop-k.invariant.0 c.early_error.ensures.kept, c.loop-k.invariant.1 ∙ places_next (early_error c.args.f) _ _ _ _ _ c.loop-k-test.true c.place_in.ensures _ c.in_ok-early_error.ensures.does)
 
 pub returns-clause-does : goal.returns-clause-does
 returns-clause-does c =

@@ -2,11 +2,12 @@ use native.Mathlib.Omega.{arith}
 use mathlib.Core.Path.{refl, ◌∙◌}
 use Rattle.laws_monad.proofs.Laws.Answers.{passes}
 use Rattle.effect_walk.proofs.Laws.Walk.{values_some, row_start, row_next}
+use Rattle.lent_world.proofs.Laws.Promise.{kept_then}
 use Rattle.effect_freeze.proofs.Laws.Freeze.{walk_fails, walk_ends}
 use Rattle.effect_freeze.proofs.walk.Goals as goal
 
 pub loop-m-init : goal.loop-m-init
-loop-m-init c = ((refl, refl, refl, refl), row_start _ _ _ _)
+loop-m-init c = (((refl, refl), (refl, refl), (refl, refl), (refl, refl)), row_start _ _ _ _)
 
 pub returns-in_err-freeze_function_captures_transitive-clause-does : goal.returns-in_err-freeze_function_captures_transitive-clause-does
 returns-in_err-freeze_function_captures_transitive-clause-does c =
@@ -20,7 +21,7 @@ loop-m-smaller c = let g = values_some _ _ _ _ c.value_from.ensures _ c.in-Some.
 
 pub loop-m-preserved : goal.loop-m-preserved
 loop-m-preserved c =
-    ((c.loop-m.invariant.0.0 ∙ c.freeze_function_captures_transitive.ensures.kept.0, c.loop-m.invariant.0.1 ∙ c.freeze_function_captures_transitive.ensures.kept.1, c.loop-m.invariant.0.2 ∙ c.freeze_function_captures_transitive.ensures.kept.2, c.loop-m.invariant.0.3 ∙ c.freeze_function_captures_transitive.ensures.kept.3), row_next _ _ _ _ _ _ c.loop-m.invariant.1 _ c.value_from.ensures _ _ c.in-Some.is c.freeze_function_captures_transitive.ensures.walked c.in_ok-freeze_function_captures_transitive.ensures.does)
+    (kept_then c.loop-m.initial.world c.loop-m.world c.freeze_function_captures_transitive.new.world c.loop-m.invariant.0 c.freeze_function_captures_transitive.ensures.kept, row_next _ _ _ _ _ _ c.loop-m.invariant.1 _ c.value_from.ensures _ _ c.in-Some.is c.freeze_function_captures_transitive.ensures.walked c.in_ok-freeze_function_captures_transitive.ensures.does)
 
 pub returns-clause-does : goal.returns-clause-does
 returns-clause-does c = walk_ends c.args.world.now _ _ _ _ c.loop-m.invariant.1 _ c.value_from.ensures c.in_default.is
