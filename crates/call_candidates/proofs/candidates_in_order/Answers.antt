@@ -15,7 +15,7 @@ returns-in_err-candidate-clause-does c =
 
 pub loop-k-preserved : goal.loop-k-preserved
 loop-k-preserved c =
-    (kept_then c.loop-k.initial.world c.loop-k.world c.candidate.new.world c.loop-k.invariant.0 c.in_ok-candidate.ensures.kept, c.loop-k.invariant.1 ∙ candidates_next (Text.apply_effect 4) _ _ _ _ c.loop-k-test.true _ c.in_ok-candidate.ensures.does)
+    (kept_then c.args.world.now c.loop-k.world c.candidate.new.world c.loop-k.invariant.0 c.in_ok-candidate.ensures.kept, c.loop-k.invariant.1 ∙ candidates_next (Text.apply_effect 4) _ _ _ _ c.loop-k-test.true _ c.in_ok-candidate.ensures.does)
 
 pub returns-clause-does : goal.returns-clause-does
 returns-clause-does c = candidates_start (Text.apply_effect 4) _ _ _ ∙ c.loop-k.invariant.1 ∙ candidates_end (Text.apply_effect 4) _ _ _ _ c.loop-k-test.false

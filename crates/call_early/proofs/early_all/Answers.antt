@@ -12,7 +12,7 @@ returns-in_err-early_error-clause-does c =
 
 pub loop-k-preserved : goal.loop-k-preserved
 loop-k-preserved c =
-    (kept_then c.loop-k.initial.world c.loop-k.world c.early_error.new.world c.loop-k.invariant.0 c.early_error.ensures.kept, c.loop-k.invariant.1 ∙ places_next (early_error c.args.f) _ _ _ _ _ c.loop-k-test.true c.place_in.ensures _ c.in_ok-early_error.ensures.does)
+    (kept_then c.args.world.now c.loop-k.world c.early_error.new.world c.loop-k.invariant.0 c.early_error.ensures.kept, c.loop-k.invariant.1 ∙ places_next (early_error c.args.f) _ _ _ _ _ c.loop-k-test.true c.place_in.ensures _ c.in_ok-early_error.ensures.does)
 
 pub returns-clause-does : goal.returns-clause-does
 returns-clause-does c =

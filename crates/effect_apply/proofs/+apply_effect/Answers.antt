@@ -30,7 +30,7 @@ capture_all-returns-in_err-apply_effect-clause-does t c =
 
 pub capture_all-loop-k-preserved : goal.capture_all-loop-k-preserved
 capture_all-loop-k-preserved t c =
-    (kept_then c.loop-k.initial.world c.loop-k.world c.apply_effect.new.world c.loop-k.invariant.0 c.in_ok-apply_effect.ensures.kept, c.loop-k.invariant.1 ∙ captures_next (Text.apply_effect c.args.depth) c.args.into _ _ _ _ _ _ c.loop-k-test.true c.place_in-from.ensures _ c.in_ok-apply_effect.ensures.does)
+    (kept_then c.args.world.now c.loop-k.world c.apply_effect.new.world c.loop-k.invariant.0 c.in_ok-apply_effect.ensures.kept, c.loop-k.invariant.1 ∙ captures_next (Text.apply_effect c.args.depth) c.args.into _ _ _ _ _ _ c.loop-k-test.true c.place_in-from.ensures _ c.in_ok-apply_effect.ensures.does)
 
 pub capture_all-returns-clause-does : goal.capture_all-returns-clause-does
 capture_all-returns-clause-does t c =

@@ -21,7 +21,7 @@ loop-m-smaller c = let g = values_some _ _ _ _ c.value_from.ensures _ c.in-Some.
 
 pub loop-m-preserved : goal.loop-m-preserved
 loop-m-preserved c =
-    (kept_then c.loop-m.initial.world c.loop-m.world c.freeze_function_captures_transitive.new.world c.loop-m.invariant.0 c.freeze_function_captures_transitive.ensures.kept, row_next _ _ _ _ _ _ c.loop-m.invariant.1 _ c.value_from.ensures _ _ c.in-Some.is c.freeze_function_captures_transitive.ensures.walked c.in_ok-freeze_function_captures_transitive.ensures.does)
+    (kept_then c.args.world.now c.loop-m.world c.freeze_function_captures_transitive.new.world c.loop-m.invariant.0 c.freeze_function_captures_transitive.ensures.kept, row_next _ _ _ _ _ _ c.loop-m.invariant.1 _ c.value_from.ensures _ _ c.in-Some.is c.freeze_function_captures_transitive.ensures.walked c.in_ok-freeze_function_captures_transitive.ensures.does)
 
 pub returns-clause-does : goal.returns-clause-does
 returns-clause-does c = walk_ends c.args.world.now _ _ _ _ c.loop-m.invariant.1 _ c.value_from.ensures c.in_default.is

@@ -8,7 +8,7 @@ loop-k-init c = (((refl, refl), (refl, refl), (refl, refl), (refl, refl)), updat
 
 pub loop-k-preserved : goal.loop-k-preserved
 loop-k-preserved c =
-    (kept_then c.loop-k.initial.world c.loop-k.world c.update_place.new.world c.loop-k.invariant.0 c.update_place.ensures.kept, updates_more _ _ _ _ _ _ c.loop-k.invariant.1 _ _ c.loop-k-test.true c.place_in.ensures c.update_place.ensures.does)
+    (kept_then c.args.world.now c.loop-k.world c.update_place.new.world c.loop-k.invariant.0 c.update_place.ensures.kept, updates_more _ _ _ _ _ _ c.loop-k.invariant.1 _ _ c.loop-k-test.true c.place_in.ensures c.update_place.ensures.does)
 
 pub returns-clause-does : goal.returns-clause-does
 returns-clause-does c = updates_end _ _ _ _ _ _ c.loop-k.invariant.1 c.field-n.ensures c.loop-k-test.false

@@ -1,7 +1,6 @@
 use native.Mathlib.Omega.{arith}
 use mathlib.Core.Path.{refl, sym, ◌∙◌}
 use Rattle.laws_monad.proofs.Laws.Answers.{passes}
-use Rattle.lent_world.proofs.Laws.Promise.{kept_then}
 use Rattle.effect_walk.proofs.Laws.Walk.{values_some, goes_start, enters_none, enters_plain, runs_shut, row_start, runs_open, enters, row_next, row_fails, walk_ends, walk_fails}
 use Rattle.effect_walk.proofs.+freeze_function_captures_transitive.Goals as goal
 use Rattle.effect_walk.proofs.+freeze_function_captures_transitive.Goals.{then-opens+in_default-value_from, else-opens}
@@ -33,12 +32,14 @@ loop-m-smaller t c = let g = values_some _ _ _ _ c.value_from.ensures _ c.in-Som
 
 pub loop-m-preserved : goal.loop-m-preserved
 loop-m-preserved t c =
-    (kept_then c.loop-m.initial.world _ c.freeze_function_captures_transitive.new.world (kept_then c.loop-m.initial.world c.loop-m.world _ c.loop-m.invariant.0 ((refl, sym c.freeze_value.auto.values), (refl, refl), (refl, refl), (refl, refl))) c.freeze_function_captures_transitive.ensures.kept, row_next _ _ _ _ _ _ c.loop-m.invariant.1 _ c.value_from.ensures _ _ c.in-Some-value_from.is (record { sets = c.freeze_function_captures_transitive.ensures.walked.sets; context = c.freeze_function_captures_transitive.ensures.walked.context; grows = c.freeze_function_captures_transitive.ensures.walked.grows }) (enters _ _ c.loop-m.world _ c.freeze_value.ensures _ c.in_ok-freeze_function_captures_transitive.ensures.does))
+    let h : _ = c.loop-m.invariant.0 in
+    let g : _ = c.freeze_function_captures_transitive.ensures.kept in
+    (((h.0.0 ∙ g.0.0, h.0.1 ∙ sym c.freeze_value.auto.values ∙ g.0.1), (h.1.0 ∙ g.1.0, h.1.1 ∙ g.1.1), (h.2.0 ∙ g.2.0, h.2.1 ∙ g.2.1), (h.3.0 ∙ g.3.0, h.3.1 ∙ g.3.1)), row_next _ _ _ _ _ _ c.loop-m.invariant.1 _ c.value_from.ensures _ _ c.in-Some-value_from.is (record { sets = c.freeze_function_captures_transitive.ensures.walked.sets; context = c.freeze_function_captures_transitive.ensures.walked.context; grows = c.freeze_function_captures_transitive.ensures.walked.grows }) (enters _ _ c.loop-m.world _ c.freeze_value.ensures _ c.in_ok-freeze_function_captures_transitive.ensures.does))
 
 pub loop-k-preserved : goal.loop-k-preserved
 loop-k-preserved t c =
     elim c.if-opens.branch [
-      | then-opens+in_default-value_from w ↦ rw w.world-is (kept_then c.loop-k.initial.world w.loop-m.initial.world w.loop-m.world c.loop-k.invariant.0 w.loop-m.invariant.0, runs_open _ _ _ _ _ _ _ _ c.loop-k.invariant.1 c.loop-k-test.true c.entered_place-i.ensures c.opens.ensures w.if-opens.true _ _ w.loop-m.invariant.1 _ w.value_from.ensures w.in_default-value_from.is)
+      | then-opens+in_default-value_from w ↦ rw w.world-is (((c.loop-k.invariant.0.0.0 ∙ w.loop-m.invariant.0.0.0, c.loop-k.invariant.0.0.1 ∙ w.loop-m.invariant.0.0.1), (c.loop-k.invariant.0.1.0 ∙ w.loop-m.invariant.0.1.0, c.loop-k.invariant.0.1.1 ∙ w.loop-m.invariant.0.1.1), (c.loop-k.invariant.0.2.0 ∙ w.loop-m.invariant.0.2.0, c.loop-k.invariant.0.2.1 ∙ w.loop-m.invariant.0.2.1), (c.loop-k.invariant.0.3.0 ∙ w.loop-m.invariant.0.3.0, c.loop-k.invariant.0.3.1 ∙ w.loop-m.invariant.0.3.1)), runs_open _ _ _ _ _ _ _ _ c.loop-k.invariant.1 c.loop-k-test.true c.entered_place-i.ensures c.opens.ensures w.if-opens.true _ _ w.loop-m.invariant.1 _ w.value_from.ensures w.in_default-value_from.is)
       | else-opens w ↦ rw w.world-is (c.loop-k.invariant.0, runs_shut _ _ _ _ _ _ _ _ c.loop-k.invariant.1 c.loop-k-test.true c.entered_place-i.ensures c.opens.ensures w.if-opens.false)
     ]
 
