@@ -1,7 +1,7 @@
 // The run of an instruction: what it may change is saved, and after a refusal put back.
 #![tactic(auto)]
 
-ghost use Rattle.std.specs.Prelude.{◌≡◌, Bool, length, ◌/◌};
+ghost use Rattle.std.specs.Prelude.{◌≡◌, Bool, OnErr, length, ◌/◌};
 ghost use Rattle.def_effects.specs.declared.Session.{Session as ASession};
 ghost use Rattle.lent_world.specs.Promise.{Kept, Does};
 ghost use Rattle.def_transfer.specs.Instruction as Instruction;
@@ -73,6 +73,7 @@ fn run_or_undo(
         scratch64.old scratch32.old
         → Does (Instruction.apply_signature
         (instruction_of candidates.now (candidate_count candidates.now) lvalue own)) world.old world.new result }
+    ensures back { OnErr result (world.new.run ≡ world.old.run) }
 {
     let sets = &mut *world.sets;
     let n = set_words(sets);

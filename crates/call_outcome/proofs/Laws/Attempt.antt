@@ -9,6 +9,8 @@ use Rattle.def_transfer.specs.Monad.{Res, ok, refused, Done, and_then, ◌>>=◌
 use Rattle.def_transfer.specs.Tables.{World}
 use Rattle.def_transfer.specs.State.{change}
 use Rattle.def_transfer.specs.Instruction.{Instruction, start_instruction, run, apply_signature}
+use Rattle.laws_monad.specs.Answers.{answer}
+use Rattle.laws_monad.proofs.Laws.Answers.{answer_refused}
 use Rattle.lent_work.specs.declared.Run.{Run}
 use Rattle.lent_world.specs.World.{lent, world}
 use Rattle.lent_world.proofs.Laws.LentIsolation.{LentEnded, lent_ends}
@@ -91,3 +93,19 @@ module _ (vs ss cs os xs s64 s32 : List ℕ) (ready : Ready vs ss cs os xs s64 s
 
           back : world us' ts' ds' ps' r ≡ start
           back = ap₂ (λ (x y : List ℕ). world x y ds' ps' r) values sets ∙ ap₂ (λ (x y : List ℕ). world vs ss x y r) context output ∙ ap (world vs ss cs os) hr
+
+-- ---- what the host finds
+
+-- the lists that are lent are what the world's slices hold at the end, and an instruction begins with nothing done
+module _ (ins : Instruction) (vs ss cs os : List ℕ) (start r b : Run) (e : r ≡ start) (us ts ds ps us' ts' ds' ps' : List ℕ) (hu : us' ≡ us) (ht : ts' ≡ ts) (hd : ds' ≡ ds) (hp : ps' ≡ ps) where
+  found : world us ts ds ps b ≡ world us' ts' ds' ps' b
+  found = ap₂ (λ (x y : List ℕ). world x y ds ps b) (sym hu) (sym ht) ∙ ap₂ (λ (x y : List ℕ). world us' ts' x y b) (sym hd) (sym hp)
+
+  pub found_ok : apply_signature ins (world vs ss cs os r) ≡ ok tt (world us ts ds ps b) → apply_signature ins (world vs ss cs os start) ≡ answer 0 tt (world us' ts' ds' ps' b)
+  unfolding answer
+  found_ok h = ap (λ (x : Run). apply_signature ins (world vs ss cs os x)) (sym e) ∙ h ∙ ap (ok tt) found
+
+  pub found_refused : (q : ℕ) → (q ≡ 0 → ⊥) → b ≡ r → apply_signature ins (world vs ss cs os r) ≡ refused q (world us ts ds ps b) → apply_signature ins (world vs ss cs os start) ≡ answer q tt (world us' ts' ds' ps' start)
+  found_refused q z k h =
+      ap (λ (x : Run). apply_signature ins (world vs ss cs os x)) (sym e) ∙ h ∙ ap (refused q) (found ∙ ap (world us' ts' ds' ps') (k ∙ e))
+      ∙ sym (answer_refused q tt (world us' ts' ds' ps' start) z)
