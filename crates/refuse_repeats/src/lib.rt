@@ -45,12 +45,7 @@ fn identity_before(context: &[u32], n: u32, d: Diagnostic) -> Option<u32>
 fn instance_before(context: &[u32], n: u32, identity: u32, d: Diagnostic) -> bool
     ensures { result ≡ is_some (find_instance 0 (diagnostics_in context.now 0 n) identity d) }
 {
-    for k in 0..n {
-        if is_instance(diagnostic_in(context, k), identity, d) {
-            return true;
-        }
-    }
-    false
+    (0..n).any(|k| is_instance(diagnostic_in(context, k), identity, d))
 }
 
 // Whether diagnostic k has another identity than it has to, or there is an equal one before it.
