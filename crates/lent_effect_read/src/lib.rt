@@ -17,10 +17,7 @@ use lent_tables::Table;
 fn kind_of_word(x: u32) -> ValueKind
     ensures { result ≡ kind_at x }
 {
-    if x < 6 {
-        return ValueKind::of_code(x as u8);
-    }
-    ValueKind::MaybeFrozen
+    u8::try_from(x).map_or(ValueKind::MaybeFrozen, ValueKind::of_code)
 }
 
 // The diagnostic of record i.
