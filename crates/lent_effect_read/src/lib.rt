@@ -17,7 +17,10 @@ use lent_tables::Table;
 fn kind_of_word(x: u32) -> ValueKind
     ensures { result ≡ kind_at x }
 {
-    u8::try_from(x).map_or(ValueKind::MaybeFrozen, ValueKind::of_code)
+    match u8::try_from(x) {
+        Ok(n) => ValueKind::of_code(n),
+        Err(_) => ValueKind::MaybeFrozen,
+    }
 }
 
 // The diagnostic of record i.
