@@ -64,15 +64,6 @@ pub word_empty : (n v x : ℕ) → x % 8 ≡ 0 → word_out_of_range n v x ≡ f
 unfolding word_out_of_range
 word_empty n v x e = and_no (has_entry x) _ (entry_no x e)
 
-pub word_number : (n v x : ℕ) (b : Bool) → (x % 8 ≡ 0 → ⊥) → b ≡ not_anumber n v → b ≡ true → word_out_of_range n v x ≡ true
-unfolding word_out_of_range
-word_number n v x b h e t = and_first (has_entry x) _ (entry_yes x h) ∙ or_first (not_anumber n v) _ (sym e ∙ t)
-
-pub word_kind : (n v x : ℕ) (b : Bool) → (x % 8 ≡ 0 → ⊥) → b ≡ not_anumber n v → b ≡ false → x % 8 ≡ 7 → word_out_of_range n v x ≡ true
-unfolding word_out_of_range
-word_kind n v x b h e t k =
-    and_first (has_entry x) _ (entry_yes x h) ∙ or_second (not_anumber n v) _ (sym e ∙ t) ∙ or_first (eqb (x % 8) 7) _ (eq-eqb (x % 8) 7 k)
-
 pub word_reasons : (n v x : ℕ) (b c : Bool) → (x % 8 ≡ 0 → ⊥) → b ≡ not_anumber n v → b ≡ false → (x % 8 ≡ 7 → ⊥) → c ≡ not (are_reasons (x / 8)) → c ≡ word_out_of_range n v x
 unfolding word_out_of_range
 word_reasons n v x b c h e t k q =
@@ -88,11 +79,3 @@ unfolding word_unfit
 unfit_entry next v x h = ite_yes (has_entry x) _ _ (entry_yes x h)
 
 -- ---- the session
-
-pub next_zero : (next : ℕ) → next ≡ 0 → next_out_of_range next ≡ true
-unfolding next_out_of_range
-next_zero next e = or_first (not (leb 1 next)) _ (ap not (lt-leb 1 next (omega arith)))
-
-pub next_other : (next : ℕ) → (next ≡ 0 → ⊥) → next_out_of_range next ≡ not (leb next 512)
-unfolding next_out_of_range
-next_other next h = or_second (not (leb 1 next)) _ (ap not (le-leb 1 next (omega arith)))

@@ -98,23 +98,10 @@ module _ (identifiers : ℕ) (p : Place) where
       place_reactive_is l =
           sym (ap (earns 3) (or_second (not (ltb p.effect 8)) (not (ltb p.reactive 2)) (ap not (lt-ltb p.effect 8 j)) ∙ ap not (le-ltb p.reactive 2 l))) ∙ rest
 
-      -- all are in range
-      pub place_right : p.reactive < 2 → 0 ≡ place_class identifiers p
-      place_right l =
-          sym (ap (earns 3) (or_neither (not (ltb p.effect 8)) (not (ltb p.reactive 2)) (ap not (lt-ltb p.effect 8 j)) (ap not (lt-ltb p.reactive 2 l)))) ∙ rest
-
   -- a place earns nothing or 3
   pub place_class_is : Class (place_class identifiers p)
   unfolding place_class
   place_class_is = earns_class 3 (not (ltb p.identifier identifiers) || (not (ltb p.effect 8) || not (ltb p.reactive 2))) (omega arith) (omega arith)
-
--- the own function is there, or there is none
-pub own_right : (own functions : ℕ) → own ≤ functions → 0 ≡ earns 3 (not (leb own functions))
-own_right own functions l = sym (ap (λ (b : Bool). earns 3 (not b)) (le-leb own functions l))
-
--- the own function is past the last
-pub own_wrong : (own functions : ℕ) → functions < own → 3 ≡ earns 3 (not (leb own functions))
-own_wrong own functions l = sym (ap (λ (b : Bool). earns 3 (not b)) (lt-leb own functions l))
 
 -- ---- the instruction
 

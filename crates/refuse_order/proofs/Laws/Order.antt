@@ -74,13 +74,4 @@ module _ (key : ℕ → EffectKey) (ord : ℕ → ℕ) (n j : ℕ) where
       hx ∙ not_before o ∙ ap (λ (r : Ordering). not (is_less r)) (ho ∙ ap₂ (λ (u v : ℕ). compare_keys (key u) (key v)) ha (hb ∙ ap ord hk))
       ∙ sym (ap (λ (b : Bool). b && not (is_less (compare_keys (key (ord j)) (key (ord (suc j)))))) (lt-ltb (suc j) n l))
 
-module _ (c : List ℕ) (n j : ℕ) where
-  pub place_is : (w x y r : ℕ) (t : Bool) → w ≡ order_at Layout.effect_order c j → x ≡ word_class (Some n) w → t ≡ descends (interned_key c) (order_at Layout.effect_order c) n j → y ≡ earns 4 t → r ≡ lower x y → r ≡ place_class c n j
-  unfolding place_class
-  place_is w x y r t hw hx ht hy h = h ∙ ap₂ lower (hx ∙ ap (word_class (Some n)) hw) (hy ∙ ap (earns 4) ht)
-
 -- ---- the whole order
-
-pub order_is : (c : List ℕ) (n m a b r : ℕ) → n ≡ interned_count c → a ≡ lowest_below n (place_class c n) → m ≡ n → b ≡ stray_after Layout.effect_order c m → r ≡ lower a b → r ≡ order_class c
-unfolding order_class
-order_is c n m a b r e h f g q = q ∙ ap₂ lower (h ∙ ap (λ (k : ℕ). lowest_below k (place_class c k)) e) (g ∙ ap (stray_after Layout.effect_order c) (f ∙ e))
