@@ -31,7 +31,11 @@ pub fn same_identity(a: Diagnostic, b: Diagnostic) -> bool
 {
     a.identifier == b.identifier
         && a.case == b.case
-        && if a.case == 0 { a.sentence == b.sentence } else { a.name == b.name }
+        && if a.case == 0 {
+            a.sentence == b.sentence
+        } else {
+            a.name == b.name
+        }
 }
 
 // Whether two diagnostics have the same labels, their texts too.

@@ -10,7 +10,6 @@ use Rattle.lent_keys.specs.KeyRecords as Keys
 use Rattle.lent_layout.specs.Layout as Layout
 use Rattle.lent_context.specs.Lent.{effects_in, interned_count, is_keyed, key_count, number_at, one_more, cached_at}
 use Rattle.lent_order.specs.Order.{order_at, inserted}
-use Rattle.base_tests.proofs.Laws.Choice.{ite_lt, ite_ge}
 use Rattle.lent_tables.specs.Words.{field}
 use Rattle.base_tests.specs.Tests.{ite}
 

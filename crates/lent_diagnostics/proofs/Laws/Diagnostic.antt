@@ -1,14 +1,13 @@
 -- Laws by which the code of diagnostics meets the definitions. Assumes nothing.
-use Rattle.std.specs.Prelude.{ℕ, suc, max, ◌+◌, ◌-◌, ◌≤◌, ◌<◌, ◌≡◌, Bool, not, ◌&&◌, ◌||◌, eqb, get_or, Option, None, Some}
+use Rattle.std.specs.Prelude.{ℕ, suc, max, ◌+◌, ◌-◌, ◌≤◌, ◌<◌, ◌≡◌, Bool, ◌&&◌, eqb, get_or, Option, None, Some}
 use native.Mathlib.Omega.{arith}
-use Rattle.std.proofs.Common.{add-one, ap₂, ◌∙◌, eq-eqb, ne_eqb}
+use Rattle.std.proofs.Common.{add-one, ◌∙◌, eq-eqb, ne_eqb}
 use Rattle.std.proofs.Math.Path.{refl, sym, ap}
 use Rattle.std.proofs.Math.Bool.{true, false}
 use mathlib.Core.List.{List, [], ◌∷◌}
-use Rattle.base_tests.proofs.Laws.Bool.{not_true, not-false}
 use Rattle.def_effects.specs.declared.Span.{Span}
 use Rattle.def_effects.specs.declared.Diagnostic.{Diagnostic}
-use Rattle.def_effects.specs.Places.{no_span, eq_span}
+use Rattle.def_effects.specs.Places.{eq_span}
 use Rattle.def_transfer.specs.Diagnostics.{same_identity, same_labels}
 use Rattle.def_transfer.specs.Pure.{Interned, identities, find_identity as first_identity, find_instance as first_instance}
 use Rattle.lent_tables.specs.Words.{field, put_field}

@@ -1,9 +1,8 @@
 -- Laws by which a loop that moves words up meets the definition. Assumes nothing.
-use Rattle.std.specs.Prelude.{ℕ, suc, ◌+◌, ◌-◌, ◌≤◌, ◌<◌, ◌≡◌, List, length}
+use Rattle.std.specs.Prelude.{ℕ, suc, ◌+◌, ◌-◌, ◌≤◌, ◌<◌, ◌≡◌, List}
 use Rattle.std.proofs.Common.{arith, sym, ap, ap₂, ◌∙◌}
 use Rattle.lent_tables.specs.declared.Table.{Table}
 use Rattle.lent_tables.specs.Words.{field, put_field}
-use Rattle.lent_tables.proofs.Laws.Word.{put_length}
 use Rattle.lent_order.specs.Order.{order_at, moved_up, inserted}
 
 -- a word of the order

@@ -15,7 +15,7 @@ use Rattle.base_tests.specs.Tests.{is_some}
 use Rattle.base_tests.proofs.Laws.Order.{lt_or_ge, same_or_not}
 use Rattle.lent_sets.proofs.Laws.Bit.{bit_shr, bit_zero, bit_high, bit_even, bit_even_low, bit_word, bit_ext, tz_zero, tz_one}
 use Rattle.lent_sets.proofs.Laws.Loop.{seek_skip, seek_here, upto_same, upto_none}
-use Rattle.lent_sets.proofs.Laws.Number.{number_fits, number_ones, number_none, word_is, word_or, word_high, word_small, word_pow, word_pow_other}
+use Rattle.lent_sets.proofs.Laws.Number.{number_fits, number_none, word_is, word_or, word_high, word_small, word_pow, word_pow_other}
 use Rattle.lent_sets.proofs.Laws.Row.{row_fits, bit_row, row_odd, none_of, some_of, copy_is, copy_not, append_is, append_not_place, append_not_value, add_length, add_word, add_far, add_number, add_row}
 use Rattle.lent_sets.proofs.Laws.Set.{members_count}
 

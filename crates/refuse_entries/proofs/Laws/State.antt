@@ -14,7 +14,6 @@ use Rattle.base_tests.proofs.Laws.Order.{lt_not_le}
 -- ---- wrong_lengths
 
 module _ (vs ss : List ℕ) where
-
   -- lists of the right lengths: 1,024 words, and 16 for each of at most 512 identifiers
   pub lengths_fit : wrong_lengths vs ss ≡ false → (length vs ≡ 1024) × (length ss ≡ 16 * (length ss / 16)) × (length ss ≤ 8192)
   unfolding wrong_lengths

@@ -18,7 +18,6 @@ use Rattle.refuse_instruction.specs.EffectClasses.{uses, effect_limit}
 -- ---- in which order classes are taken together does not matter
 
 module _ (a b c : ℕ) (h : a ≡ 0 → ⊥) (k : b ≡ 0 → ⊥) (l : c ≡ 0 → ⊥) where
-
   -- three classes that are there
   three : lower (lower a b) c ≡ lower a (lower b c)
   three = ⊎_elim low high (lt_or_ge b a)

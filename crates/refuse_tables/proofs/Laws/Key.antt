@@ -24,7 +24,6 @@ use Rattle.refuse_tables.proofs.Laws.KeyUse.{only_kind, only_function}
 -- ---- what a key lacks
 
 module _ (code source destination function d : ℕ) (hd : d ≡ key_uses code 1) where
-
   module _ (n : d ≡ 0 → ⊥) (s : ℕ) (hs : s ≡ key_uses code 0) (a : Bool) (ha : a ≡ part_lacks s source) where
     -- the other tests decide
     cached : part_lacks (key_uses code 0) source || (eqb destination 0 || part_lacks (key_uses code 3) function) ≡ key_lacks code source destination function

@@ -48,7 +48,6 @@ module _ (flags w : ℕ) where
 -- ---- functions
 
 module _ (identifiers inside w : ℕ) where
-
   -- the flags
   pub function_flags_is : w ≡ 0 → Some 4 ≡ function_limit identifiers inside w
   unfolding function_limit
