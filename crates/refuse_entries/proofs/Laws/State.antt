@@ -1,15 +1,13 @@
 -- The ways through the tests of a whole state. Assumes nothing.
-use Rattle.std.specs.Prelude.{◌≡◌, true, false, List, ℕ, ◌*◌, ◌/◌, ◌%◌, ◌≤◌, eqb, ltb}
-use Rattle.std.proofs.Math.Path.{sym}
-use Rattle.std.proofs.Common.{ap, ◌∙◌}
+use Rattle.std.specs.Prelude.{◌≡◌, true, false, List, ℕ, ◌*◌, ◌/◌, ◌%◌, ◌≤◌, eqb}
+use Rattle.std.proofs.Common.{◌∙◌}
 use Rattle.std.proofs.Math.Bool.{not}
 use native.Mathlib.Omega.{arith}
 use Rattle.std.proofs.Math.ListN.{length}
-use borrow.Author.Tests.{eq-eqb, ne_eqb, eqb-true, leb-true, not-false}
-use Rattle.refuse_entries.specs.Words.{next_out_of_range, access_out_of_range, identifiers, wrong_lengths, values_out_of_range, rows_out_of_range, values_unfit, rows_unfit, state_out_of_range, state_unfit, state_refusal}
-use Rattle.base_tests.proofs.Laws.Bool.{or_first, or_second, or_no_first, or_no_second}
+use borrow.Author.Tests.{eqb-true, leb-true, not-false}
+use Rattle.refuse_entries.specs.Words.{identifiers, wrong_lengths, state_out_of_range, state_unfit, state_refusal}
+use Rattle.base_tests.proofs.Laws.Bool.{or_no_first, or_no_second}
 use Rattle.base_tests.proofs.Laws.Choice.{ite_yes, ite_no}
-use Rattle.base_tests.proofs.Laws.Order.{lt_not_le}
 
 -- ---- wrong_lengths
 

@@ -4,7 +4,7 @@ use Rattle.std.proofs.Common.{sym, ap, ap₂, ◌∙◌, arith, ltb-true, lt-ltb
 use Rattle.std.proofs.lemmas.Bool.{lt-leb}
 use Rattle.def_kinds.specs.Reasons.{are_reasons}
 use Rattle.def_transfer.specs.Accepted.{not_anumber, not_yet_handed_out}
-use Rattle.refuse_entries.specs.Words.{has_entry, word_out_of_range, word_unfit, next_out_of_range}
+use Rattle.refuse_entries.specs.Words.{has_entry, word_out_of_range, word_unfit}
 use Rattle.base_tests.proofs.Laws.Order.{le_not_lt}
 use Rattle.base_tests.proofs.Laws.Bool.{or_first, or_second, or_neither, and_first, and_no}
 use Rattle.base_tests.proofs.Laws.Choice.{ite_yes, ite_no}

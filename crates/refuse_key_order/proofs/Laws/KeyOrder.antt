@@ -1,10 +1,8 @@
 -- Laws by which the code of the class of the cached keys' order meets the definition: a law for each way through a function. Assumes nothing.
-use Rattle.std.specs.Prelude.{ℕ, suc, ◌+◌, ◌≤◌, ◌≡◌, refl, Bool, true, false, List, [], eqb, Some}
-use Rattle.std.proofs.Common.{arith, ap₂, ◌∙◌, eq-eqb, ne_eqb}
+use Rattle.std.specs.Prelude.{ℕ, suc, ◌+◌, ◌≡◌, refl, Bool, List, []}
+use Rattle.std.proofs.Common.{arith, ap₂, ◌∙◌}
 use Rattle.std.proofs.Math.Path.{sym, ap}
-use Rattle.std.proofs.Math.Bool.{not}
 use Rattle.base_tests.specs.Tests.{ite}
-use Rattle.base_tests.proofs.Laws.Bool.{or_first, or_second}
 use Rattle.std.specs.declared.cmp.Ordering.{Ordering}
 use Rattle.std.specs.declared.cmp.Ordering.TheVariants.{Less, Equal, Greater}
 use Rattle.base_search.specs.Comparings.{compare_lists}
@@ -17,12 +15,10 @@ use Rattle.lent_keys.specs.KeyRecords.{key_with, numbers_in, key_head_in}
 use Rattle.lent_key_order.specs.Heads.{compare_heads}
 use Rattle.lent_key_order.proofs.Laws.Heads.{head_less, head_more, head_same}
 use Rattle.lent_layout.specs.Layout as Layout
-use Rattle.lent_order.specs.Order.{order_at}
 use Rattle.lent_context.specs.Lent.{is_keyed, key_here, key_count}
 use Rattle.refuse_class.specs.Class.{lower}
-use Rattle.refuse_words.specs.Classes.{lowest_below, earns, word_class, stray_after}
-use Rattle.refuse_order.specs.Order.{descends}
-use Rattle.refuse_key_order.specs.KeyOrder.{misplaced, key_place_class, miscounted, key_order_class}
+use Rattle.refuse_words.specs.Classes.{lowest_below, earns, stray_after}
+use Rattle.refuse_key_order.specs.KeyOrder.{key_place_class, miscounted, key_order_class}
 
 -- ---- the keys of two numbers
 

@@ -1,5 +1,5 @@
 -- Laws by which the code of the order's class meets the definition: a law for each way through a function. Assumes nothing.
-use Rattle.std.specs.Prelude.{ℕ, suc, ◌≤◌, ◌<◌, ◌≡◌, refl, Bool, false, ◌&&◌, List, Some}
+use Rattle.std.specs.Prelude.{ℕ, suc, ◌≤◌, ◌<◌, ◌≡◌, refl, Bool, false, ◌&&◌, List}
 use Rattle.std.proofs.Common.{◌∙◌, lt-ltb, le-ltb}
 use Rattle.std.proofs.Math.Path.{sym, ap, ap₂}
 use Rattle.std.proofs.Math.Bool.{not}
@@ -21,11 +21,8 @@ use Rattle.lent_keys.proofs.Laws.KeyRecord.{record_numbers, effect_key_is}
 use Rattle.lent_key_order.specs.Heads.{compare_heads}
 use Rattle.lent_key_order.proofs.Laws.Heads.{head_less, head_more, head_same}
 use Rattle.lent_layout.specs.Layout as Layout
-use Rattle.lent_order.specs.Order.{order_at}
-use Rattle.lent_context.specs.Lent.{interned_count, interned_key}
-use Rattle.refuse_class.specs.Class.{lower}
-use Rattle.refuse_words.specs.Classes.{lowest_below, earns, word_class, stray_after}
-use Rattle.refuse_order.specs.Order.{is_less, descends, place_class, order_class}
+use Rattle.lent_context.specs.Lent.{interned_key}
+use Rattle.refuse_order.specs.Order.{is_less, descends}
 
 -- ---- the keys of two records
 

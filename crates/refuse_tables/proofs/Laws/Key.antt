@@ -1,23 +1,14 @@
 -- Laws by which the code of cached keys meets the definitions: a law for each way through a function. Assumes nothing.
-use Rattle.std.specs.Prelude.{ℕ, ◌-◌, ◌≤◌, ◌<◌, ◌≡◌, Bool, true, false, ◌&&◌, ◌||◌, List, [], ◌∷◌, ltb, Option, None, Some}
+use Rattle.std.specs.Prelude.{ℕ, ◌≡◌, Bool, ◌||◌, List}
 use Rattle.std.proofs.Math.Path.{sym, ap, ap₂}
-use Rattle.std.proofs.Common.{◌∙◌, eq-eqb, ne_eqb}
-use Rattle.std.proofs.Math.Logic.{⊎_elim}
-use native.Mathlib.Omega.{arith}
+use Rattle.std.proofs.Common.{◌∙◌, ne_eqb}
 use Rattle.std.proofs.Math.Dec.{eqb}
-use Rattle.std.proofs.Math.ListN.{get_or-eq_default}
-use Rattle.base_tests.proofs.Laws.Order.{same_or_not}
-use Rattle.base_tests.specs.Tests.{ite}
-use Rattle.base_tests.proofs.Laws.Choice.{ite_lt, ite_ge}
-use Rattle.def_kinds.specs.Reasons.{reason_count}
 use Rattle.lent_tables.specs.Words.{field}
 use Rattle.lent_layout.specs.Layout as Layout
-use Rattle.base_tests.proofs.Laws.Bool.{or_first, or_second}
+use Rattle.base_tests.proofs.Laws.Bool.{or_second}
 use Rattle.refuse_class.specs.Class.{lower}
-use Rattle.refuse_words.specs.Classes.{earns, used_if, any, record_class}
-use Rattle.refuse_instruction.proofs.Laws.Use.{only}
-use Rattle.refuse_tables.specs.TableClasses.{key_uses, key_head_limit, key_limit, part_lacks, key_lacks, key_class, no_key_class}
-use Rattle.refuse_tables.proofs.Laws.KeyUse.{only_kind, only_function}
+use Rattle.refuse_words.specs.Classes.{earns, record_class}
+use Rattle.refuse_tables.specs.TableClasses.{key_uses, key_limit, part_lacks, key_lacks, key_class}
 
 -- ---- limits
 

@@ -1,5 +1,5 @@
 -- What a cached key of each code uses: the ways through the code's tests. Assumes nothing.
-use Rattle.std.specs.Prelude.{ℕ, ◌≡◌, refl, ◌||◌}
+use Rattle.std.specs.Prelude.{ℕ, ◌≡◌, ◌||◌}
 use Rattle.std.proofs.Math.Path.{sym}
 use Rattle.std.proofs.Common.{ap, ◌∙◌, ⊎_elim, arith, ne_eqb}
 use mathlib.Core.List.{List, [], ◌∷◌}

@@ -1,23 +1,18 @@
 -- Laws by which the code of identifiers, functions, links and diagnostics meets the definitions: a law for each way through a function. Assumes nothing.
-use Rattle.std.specs.Prelude.{ℕ, zero, suc, ◌-◌, ◌/◌, ◌%◌, ◌≤◌, ◌<◌, ◌≡◌, Bool, ◌&&◌, ◌||◌, List, [], ◌∷◌, eqb, ltb, get_or, Option, None, Some}
+use Rattle.std.specs.Prelude.{ℕ, zero, suc, ◌<◌, ◌≡◌, Bool, List, eqb, Option, None, Some}
 use Rattle.std.proofs.Math.Path.{refl, sym, ap}
 use Rattle.std.proofs.Common.{ap₂, ◌∙◌}
 use Rattle.std.proofs.Math.Bool.{true, false, not}
 use Rattle.std.proofs.Math.Logic.{⊎_elim}
 use native.Mathlib.Omega.{arith}
-use Rattle.std.proofs.Math.ListN.{get_or-eq_default}
-use borrow.Author.Tests.{lt-ltb, le-ltb, eq-eqb, ne_eqb}
-use Rattle.base_tests.proofs.Laws.Bool.{and_true, and_false, or_first, or_second, or_neither}
+use borrow.Author.Tests.{ne_eqb}
 use Rattle.base_tests.proofs.Laws.Order.{same_or_not}
 use Rattle.base_tests.specs.Tests.{ite}
-use Rattle.base_tests.proofs.Laws.Choice.{ite_ge, ite_eq, ite_ne}
-use Rattle.def_effects.specs.Places.{no_span, eq_span}
 use Rattle.lent_tables.specs.Words.{field}
 use Rattle.lent_layout.specs.Layout as Layout
-use Rattle.lent_context.specs.Lent.{flag_one, flag_two}
 use Rattle.refuse_class.specs.Class.{lower}
 use Rattle.refuse_words.specs.Classes.{earns, used_if, any, run_limit, record_class}
-use Rattle.refuse_tables.specs.TableClasses.{identifier_limit, identifier_class, function_limit, needs_known, places_class, function_class, link_limit, link_class, diagnostic_limit, label_class, message_class}
+use Rattle.refuse_tables.specs.TableClasses.{identifier_limit, function_limit, needs_known, places_class, function_class, diagnostic_limit, label_class, message_class}
 
 -- ---- limits
 

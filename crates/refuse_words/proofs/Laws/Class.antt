@@ -1,18 +1,14 @@
 -- Laws of classes: the ways through the code of a word, a limit and stray words, and how a loop comes to the lowest class. Assumes nothing.
-use Prim.Native.Nat.{ℕ, zero, suc, ◌+◌, ◌-◌, ◌/◌, ◌%◌, ◌≤◌, ◌<◌}
-use Rattle.std.specs.Prelude.{◌≡◌, refl, Bool, true, false, not, List, [], ◌∷◌, Option, None, Some}
+use Prim.Native.Nat.{ℕ, zero, suc, ◌+◌, ◌/◌, ◌%◌, ◌≤◌, ◌<◌}
+use Rattle.std.specs.Prelude.{◌≡◌, refl, Bool, true, false, Option, None, Some}
 use Rattle.std.proofs.Math.Path.{sym, ap, ap₂}
-use Rattle.std.proofs.Common.{◌∙◌, eq-or-lt_of_le, add-one, lt-ltb, le-ltb, ne_eqb}
+use Rattle.std.proofs.Common.{◌∙◌, eq-or-lt_of_le, add-one}
 use Rattle.std.proofs.Math.Logic.{⊎_elim}
 use native.Mathlib.Omega.{arith}
-use Rattle.std.proofs.Math.ListN.{get_or-eq_default}
-use Rattle.base_tests.proofs.Laws.Order.{same_or_not}
 use Rattle.base_tests.proofs.Laws.Choice.{ite_lt, ite_ge}
-use Rattle.lent_tables.specs.declared.Table.{Table}
-use Rattle.lent_tables.specs.Words.{field}
 use Rattle.refuse_class.specs.Class.{lower}
 use Rattle.refuse_class.proofs.Laws.Class.{lower_0}
-use Rattle.refuse_words.specs.Classes.{lowest_below, earns, word_class, used_if, any, place_limit, run_limit, words_below, record_class}
+use Rattle.refuse_words.specs.Classes.{lowest_below, earns, word_class, place_limit, run_limit}
 
 -- ---- a word and its limit
 
