@@ -1,7 +1,7 @@
 -- A law for each way through a function of the crate, over plain variables: the proof files cite them. Assumes nothing.
-use Rattle.std.specs.Prelude.{◌≡◌, refl, Bool, not, ◌||◌, List, eqb, length, get_or, set, replicate, Option, None, Some}
+use Rattle.std.specs.Prelude.{◌≡◌, refl, Bool, not, List, eqb, length, get_or, set, replicate, Option, None, Some}
 use Rattle.std.proofs.Math.Path.{sym, ap}
-use Rattle.std.proofs.Common.{ap₂, ◌∙◌, subst, ⊎_elim, mod-eq_of_lt, mod-lt, zero-lt-suc, add-zero, add-suc, not-suc-le-zero, eq-eqb, ne_eqb, ext_get_or}
+use Rattle.std.proofs.Common.{ap₂, ◌∙◌, subst, ⊎_elim, mod-eq_of_lt, mod-lt, zero-lt-suc, add-zero, add-suc, eq-eqb, ne_eqb, ext_get_or}
 use Rattle.std.proofs.Math.Bool.{true, false}
 use Prim.Native.Nat.{ℕ, zero, suc, ◌+◌, ◌-◌, ◌*◌, ◌/◌, ◌%◌, ◌^◌, ◌≤◌, ◌<◌, min, max}
 use native.Mathlib.Omega.{arith}

@@ -5,9 +5,9 @@ use Rattle.std.proofs.Math.Path.{◌≡◌, ap, ap₂}
 use Rattle.std.specs.Prelude.{refl, Bool, true, not, ◌||◌, List, eqb, ltb, ◌⊎◌, Option, None, Some}
 use Rattle.std.proofs.Common.{sym, ◌∙◌, inl, inr}
 use Rattle.std.proofs.Math.Bool.{false}
-use borrow.Author.Tests.{lt-ltb, ltb-true, not-false, eq-eqb, ne_eqb}
+use borrow.Author.Tests.{lt-ltb, ltb-true, not-false, eq-eqb}
 use Rattle.base_tests.specs.Tests.{ite, is_some}
-use Rattle.base_tests.proofs.Laws.Bool.{never, or_first, or_second}
+use Rattle.base_tests.proofs.Laws.Bool.{never}
 use Rattle.refuse_entries.proofs.Laws.Accepted.{refusal_one, accepted_lent}
 use Rattle.refuse_entries.specs.Words.{state_refusal, identifiers}
 use Rattle.def_kinds.specs.declared.AbstractValue.{AbstractValue}
