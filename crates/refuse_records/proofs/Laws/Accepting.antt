@@ -1,20 +1,19 @@
 -- Laws by which the code of a context's classes meets the definitions: a law for each way through a function. Assumes nothing.
-use Rattle.std.specs.Prelude.{ℕ, ◌≤◌, ◌<◌, ◌≡◌, refl, Bool, true, false, ◌&&◌, ◌||◌, List, get_or, Some}
+use Rattle.std.specs.Prelude.{ℕ, ◌≡◌, refl, Bool, true, false, ◌&&◌, ◌||◌, List, get_or, Some}
 use Rattle.std.proofs.Math.Path.{sym, ap}
-use Rattle.std.proofs.Common.{ap₂, ◌∙◌, arith, lt-ltb, le-ltb, eq-eqb, ne_eqb}
+use Rattle.std.proofs.Common.{ap₂, ◌∙◌, arith, ne_eqb}
 use Rattle.std.proofs.Math.Bool.{not}
-use Rattle.std.proofs.Math.Dec.{eqb, ltb}
+use Rattle.std.proofs.Math.Dec.{eqb}
 use Rattle.def_effects.specs.Places.{no_span, eq_span}
 use Rattle.lent_tables.specs.Words.{field}
 use Rattle.lent_layout.specs.Layout as Layout
-use Rattle.lent_context.specs.Lent.{interned_count, instance_count, key_count}
-use Rattle.base_tests.proofs.Laws.Choice.{ite_lt, ite_ge, ite_yes, ite_no}
-use Rattle.base_tests.proofs.Laws.Bool.{or_first, or_second, or_neither}
+use Rattle.lent_context.specs.Lent.{interned_count, instance_count}
+use Rattle.base_tests.proofs.Laws.Choice.{ite_yes, ite_no}
+use Rattle.base_tests.proofs.Laws.Bool.{or_neither}
 use Rattle.refuse_class.specs.Class.{lower}
 use Rattle.refuse_class.proofs.Laws.Class.{lower_none}
 use Rattle.refuse_words.specs.Classes.{lowest_below, earns, word_class, stray_after, record_class}
 use Rattle.refuse_words.proofs.Laws.Order.{Class, class_later, earns_class, record_class_is, lower_keeps, two_first, four_last}
-use Rattle.refuse_instruction.specs.EffectClasses.{effect_class}
 use Rattle.refuse_tables.specs.TableClasses.{identifier_class, function_class, link_class, key_limit, key_lacks, key_class, no_key_class, diagnostic_limit, label_class, message_class}
 use Rattle.refuse_repeats.specs.Repeats.{diagnostic_twice}
 use Rattle.refuse_order.specs.Order.{order_class}

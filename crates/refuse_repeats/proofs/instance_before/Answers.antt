@@ -1,5 +1,5 @@
 -- `refuse_repeats::instance_before` meets its contract: what the search of the records finds. Assumes nothing.
-use Rattle.std.proofs.Common.{arith, rules, refl, ◌∙◌, ap}
+use Rattle.std.proofs.Common.{arith, rules, refl, ◌∙◌}
 use Rattle.std.proofs.lemmas.Iterator.{YieldsList-from_range}
 use Rattle.std.proofs.lemmas.Iterator.Search.{any_from_yields_List}
 use Rattle.lent_context.specs.Lent.{diagnostic_in}
