@@ -177,7 +177,6 @@ runs_job vs ss cs xs j os s64 s32 m n e a r ws us ds ps t64 t32 ts hm hn he lm l
 -- the three lengths, tested one after the other
 -- one law for each way through `memory_wrong`
 module _ (o p q : ℕ) where
-
   -- memory of the right lengths
   pub memory_right : memory_wrong o p q ≡ false → (o ≡ Layout.output_words) × (p ≡ 9216) × (q ≡ Layout.saved_words)
   unfolding memory_wrong

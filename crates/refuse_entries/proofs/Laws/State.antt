@@ -23,10 +23,6 @@ module _ (vs ss : List ℕ) where
         leb-true (length ss) 8192 (not-false _ (or_no_second (not (eqb (length ss % 16) 0)) _ r)),
       )
 
--- ---- state_out_of_range
-
--- ---- state_unfit
-
 -- ---- state_refusal
 
 module _ (vs ss : List ℕ) (next access : ℕ) where

@@ -77,5 +77,3 @@ unfit_empty next v x e = ite_no (has_entry x) _ _ (entry_no x e)
 pub unfit_entry : (next v x : ℕ) → (x % 8 ≡ 0 → ⊥) → word_unfit next v x ≡ not_yet_handed_out next v
 unfolding word_unfit
 unfit_entry next v x h = ite_yes (has_entry x) _ _ (entry_yes x h)
-
--- ---- the session

@@ -56,8 +56,6 @@ module _ (c : List ℕ) (a i b j : ℕ) (hi : i ≡ a) (hj : j ≡ b) (key other
       (q ∙ ap₂ compare_lists (ap (numbers_in Layout.cached c i 12 1 0) hn ∙ first_taken) (ap (numbers_in Layout.cached c j 12 1 0) hm ∙ second_taken))
       ∙ ap (λ k. compare_keys k (key_here c b)) first_key
 
--- ---- whether a number has a key
-
 -- ---- how many have one
 
 pub none_counted : (c : List ℕ) → 0 ≡ how_many (is_keyed c) 0
@@ -67,8 +65,6 @@ none_counted c = refl
 pub counted_next : (c : List ℕ) (k n r : ℕ) (b : Bool) → n ≡ how_many (is_keyed c) k → b ≡ is_keyed c k → r ≡ ite b 1 0 → n + r ≡ how_many (is_keyed c) (k + 1)
 unfolding how_many
 counted_next c k n r b e h g = ap₂ (λ (x y : ℕ). x + y) e (g ∙ ap (λ (t : Bool). ite t 1 0) h) ∙ ap (how_many (is_keyed c)) (let z : suc k ≡ k + 1 = omega arith in z)
-
--- ---- a place of the order
 
 -- ---- the whole order
 

@@ -70,5 +70,3 @@ module _ (key : ℕ → EffectKey) (ord : ℕ → ℕ) (n j : ℕ) where
   next_place a b k o x l ha hk hb ho hx =
       hx ∙ not_before o ∙ ap (λ (r : Ordering). not (is_less r)) (ho ∙ ap₂ (λ (u v : ℕ). compare_keys (key u) (key v)) ha (hb ∙ ap ord hk))
       ∙ sym (ap (λ (b : Bool). b && not (is_less (compare_keys (key (ord j)) (key (ord (suc j)))))) (lt-ltb (suc j) n l))
-
--- ---- the whole order

@@ -51,8 +51,6 @@ module _ (identifiers : ℕ) (c : List ℕ) (k i x : ℕ) (e : i ≡ k) (h : x �
   unfolding diagnostic_class
   diagnostic_right r t z g q = first_right (message_class identifiers c k) x r (diagnostic_twice c k) t (h ∙ ap (message_class identifiers c) e) z g q
 
--- ---- an interned effect
-
 -- ---- a cached number
 
 module _ (identifiers functions : ℕ) (c : List ℕ) (v : ℕ) where

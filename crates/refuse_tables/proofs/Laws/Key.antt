@@ -10,8 +10,6 @@ use Rattle.refuse_class.specs.Class.{lower}
 use Rattle.refuse_words.specs.Classes.{earns, record_class}
 use Rattle.refuse_tables.specs.TableClasses.{key_uses, key_limit, part_lacks, key_lacks, key_class}
 
--- ---- limits
-
 -- ---- what a key lacks
 
 module _ (code source destination function d : ℕ) (hd : d ≡ key_uses code 1) where

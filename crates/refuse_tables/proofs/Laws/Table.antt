@@ -68,8 +68,6 @@ function_is identifiers c f flags n inside ws ps ks cs a b r k hf hn hi hw hp hk
     (hb ∙ ap₂ lower (hw ∙ ap (λ (x : ℕ). record_class Layout.functions c (function_limit identifiers x) f) hi)
     (ha ∙ ap₂ lower (he ∙ ap (earns 3) (hk ∙ ap₂ needs_known hf hi)) (hp ∙ ap (λ (x : ℕ). record_class Layout.contexts c (run_limit identifiers x) f) hn)))
 
--- ---- links
-
 -- ---- diagnostics
 
 -- the class of a diagnostic by its words is that of its parts

@@ -69,8 +69,6 @@ lowest_end f n k w a b h =
     let e : k ≡ n = omega arith in
     h ∙ ap (λ (m : ℕ). lowest_below m f) e
 
--- ---- the words of a record
-
 -- ---- no class at all
 
 -- a test that earns no class did not hold

@@ -37,7 +37,6 @@ use Rattle.state_ops.specs.Use.{after_use}
 -- ---- the lower class
 
 module _ (r : ℕ) (out unfit : Bool) where
-
   -- no class at all: neither the state's nor the arguments'
   pub worst_0 : worst r out unfit ≡ 0 → (r ≡ 1 → ⊥) × (r ≡ 3 → ⊥) × (r ≡ 4 → ⊥) × (out ≡ false) × (unfit ≡ false)
   unfolding worst
