@@ -3,3 +3,4 @@ pub mod Bool
 pub mod Choice
 pub mod Below
 pub mod Chains
+pub mod Any

@@ -7,7 +7,7 @@ ghost use Rattle.def_effects.specs.Mutation.{is_strict, result_of};
 use def_kinds::ValueKind;
 
 // Where a place stands in the source; FFFFFFFF (hexadecimal) twice is no span.
-#[derive(Clone, Copy)]
+#[derive(Clone, Copy, PartialEq, Eq)]
 pub struct Span {
     pub start: u32,
     pub end: u32,

@@ -1,8 +1,7 @@
 // The diagnostics of a context over its lent words: find an equal record or append one. After intern_aliasing_diagnostic of the Rust.
 #![tactic(auto)]
 
-ghost use Rattle.std.specs.Prelude.{◌&&◌, ◌≡◌, eqb, max};
-ghost use Rattle.def_effects.specs.Places.{eq_span};
+ghost use Rattle.std.specs.Prelude.{◌&&◌, ◌≡◌, eqb};
 ghost use Rattle.def_transfer.specs.Diagnostics.{same_identity, same_labels};
 ghost use Rattle.lent_context.specs.Lent as Lent;
 ghost use Rattle.lent_diagnostics.specs.Numbered.{interned_of};
@@ -18,60 +17,36 @@ pub struct Numbered {
     pub diagnostic: Diagnostic,
 }
 
-// Whether two spans are equal.
-// FFFFFFFF twice, no span, equals itself.
-fn same_span(a: Span, b: Span) -> bool
-    ensures { result ≡ eq_span a b }
-{
-    if a.start != b.start {
-        return false;
-    }
-    a.end == b.end
-}
+// No span: a label of which no place is known.
+const NO_SPAN: Span = Span {
+    start: 4294967295,
+    end: 4294967295,
+};
 
 // Whether two diagnostics have one identity: identifier, message and help.
 // The help of case 0 is the sentence, that of case 1 holds the name.
+#[tactic(auto, unfolding(def_transfer::specs::Diagnostics::same_identity))]
 pub fn same_identity(a: Diagnostic, b: Diagnostic) -> bool
     ensures { result ≡ same_identity a b }
 {
-    if a.identifier != b.identifier {
-        return false;
-    }
-    if a.case != b.case {
-        return false;
-    }
-    if a.case == 0 {
-        return a.sentence == b.sentence;
-    }
-    a.name == b.name
+    a.identifier == b.identifier
+        && a.case == b.case
+        && if a.case == 0 {
+            a.sentence == b.sentence
+        } else {
+            a.name == b.name
+        }
 }
 
 // Whether two diagnostics have the same labels, their texts too.
 // A label's text holds the name.
+#[tactic(auto, unfolding(def_transfer::specs::Diagnostics::same_labels, def_effects::specs::Places::eq_span))]
 pub fn same_labels(a: Diagnostic, b: Diagnostic) -> bool
     ensures { result ≡ same_labels a b }
 {
-    let a_access = a.access;
-    let b_access = b.access;
-    if !same_span(a_access, b_access) {
-        return false;
-    }
-    let a_own = a.own;
-    let b_own = b.own;
-    if !same_span(a_own, b_own) {
-        return false;
-    }
-    let none = Span {
-        start: 4294967295,
-        end: 4294967295,
-    };
-    if !same_span(a_access, none) {
-        return a.name == b.name;
-    }
-    if !same_span(a_own, none) {
-        return a.name == b.name;
-    }
-    true
+    a.access == b.access
+        && a.own == b.own
+        && (a.access == NO_SPAN && a.own == NO_SPAN || a.name == b.name)
 }
 
 // How many diagnostics there are.
@@ -115,17 +90,6 @@ pub fn diagnostic_in(context: &[u32], k: u32) -> Numbered
     }
 }
 
-// The larger of two numbers.
-// Identities are numbered from 0 as they come.
-pub fn larger(a: u64, b: u64) -> u64
-    ensures { result ≡ max a b }
-{
-    if a < b {
-        return b;
-    }
-    a
-}
-
 // How many identities there are: one more than the highest, 0 without diagnostics.
 // Any words are read, so the number is as wide as one more than a word needs.
 pub fn identity_count(context: &[u32]) -> u64
@@ -135,7 +99,7 @@ pub fn identity_count(context: &[u32]) -> u64
     let mut most: u64 = 0;
     for k in 0..n {
         let identity = DIAGNOSTICS.field(context, k as usize, 0);
-        most = larger(identity as u64 + 1, most);
+        most = (identity as u64 + 1).max(most);
     }
     most
 }
@@ -148,8 +112,7 @@ pub fn find_identity(context: &[u32], d: Diagnostic) -> Option<u32>
     let n = instance_count(context);
     for k in 0..n {
         let x = diagnostic_in(context, k);
-        let other = x.diagnostic;
-        if same_identity(d, other) {
+        if same_identity(d, x.diagnostic) {
             return Some(x.identity);
         }
     }
@@ -160,11 +123,7 @@ pub fn find_identity(context: &[u32], d: Diagnostic) -> Option<u32>
 pub fn is_instance(x: Numbered, identity: u32, d: Diagnostic) -> bool
     ensures { result ≡ eqb identity x.identity && same_labels d x.diagnostic }
 {
-    if identity != x.identity {
-        return false;
-    }
-    let other = x.diagnostic;
-    same_labels(d, other)
+    identity == x.identity && same_labels(d, x.diagnostic)
 }
 
 // The place of the first record with an identity and the labels of a diagnostic.

@@ -17,10 +17,10 @@ use lent_tables::Table;
 fn kind_of_word(x: u32) -> ValueKind
     ensures { result ≡ kind_at x }
 {
-    if x < 6 {
-        return ValueKind::of_code(x as u8);
+    match u8::try_from(x) {
+        Ok(n) => ValueKind::of_code(n),
+        Err(_) => ValueKind::MaybeFrozen,
     }
-    ValueKind::MaybeFrozen
 }
 
 // The diagnostic of record i.

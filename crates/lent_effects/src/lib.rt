@@ -91,7 +91,7 @@ pub enum AliasingEffect {
 pub fn kind_word(k: ValueKind) -> u32
     ensures { result ≡ Kinds.code_of k }
 {
-    k.code() as u32
+    k as u32
 }
 
 // The code of the effect of record i.

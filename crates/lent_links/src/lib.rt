@@ -30,13 +30,11 @@ pub fn key_count(context: &[u32]) -> u32
 }
 
 // One more, as long as a word can count it.
+#[tactic(auto, unfolding(lent_context::specs::Lent::one_more))]
 pub fn one_more(n: u32) -> u32
     ensures { result ≡ Lent.one_more n }
 {
-    if n < 4294967295 {
-        return n + 1;
-    }
-    n
+    n.saturating_add(1)
 }
 
 // A number is cached under a key, comes p-th in the order of the keys, and is counted.

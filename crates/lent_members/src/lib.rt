@@ -16,15 +16,14 @@ use lent_slices::get_or;
 pub fn next_member(rows: &[u64], i: u32, from: u32) -> u32
     ensures { result ≡ next_member rows.now i from }
 {
-    let mut v = from;
-    while v < 1024 {
-        let rest = row_word(rows, i, v / 64) >> (v % 64);
+    for w in from / 64..16 {
+        let v = from.max(w * 64);
+        let rest = row_word(rows, i, w) >> (v % 64);
         if rest != 0 {
             return v + u64::trailing_zeros(rest);
         }
-        v = (v / 64 + 1) * 64;
     }
-    v
+    from.max(1024)
 }
 
 // The members of the set of an identifier, ascending: an iterator that looks for the next from a place of the row on.
@@ -68,11 +67,7 @@ pub fn members<'a>(rows: &'a [u64], i: u32) -> MemberIter<'a>
 fn count_bits(rows: &[u64], i: u32) -> u32
     ensures { result ≡ ones (row_number rows.now i) }
 {
-    let mut n: u32 = 0;
-    for w in 0u32..16 {
-        n += u64::count_ones(row_word(rows, i, w));
-    }
-    n
+    (0..16).map(|w| u64::count_ones(row_word(rows, i, w))).sum()
 }
 
 // How many values the set of identifier i has; 0 where it is not defined.
@@ -92,11 +87,5 @@ pub fn size(rows: &[u64], i: u32) -> u32
 pub fn is_empty(acc: &[u64]) -> bool
     ensures { result ≡ eqb (number 16 acc.now 0) 0 }
 {
-    for w in 0usize..16 {
-        let x = get_or(acc, w, 0);
-        if x != 0 {
-            return false;
-        }
-    }
-    true
+    (0..16).all(|w| get_or(acc, w, 0) == 0)
 }

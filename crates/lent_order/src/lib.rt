@@ -19,11 +19,9 @@ pub fn order_at(t: Table, xs: &[u32], j: u32) -> u32
 pub fn insert(t: Table, xs: &mut [u32], n: u32, p: u32, r: u32)
     ensures { xs.new ≡ inserted t p r n xs.old }
 {
-    let mut k = n;
-    while k > p {
-        let x = t.field(xs, (k - 1) as usize, 0);
-        t.put_field(xs, k as usize, 0, x);
-        k -= 1;
+    for k in (p..n).rev() {
+        let x = t.field(xs, k as usize, 0);
+        t.put_field(xs, k as usize + 1, 0, x);
     }
     t.put_field(xs, p as usize, 0, r);
 }

@@ -21,7 +21,6 @@ use lent_layout::{CACHED, KEY_ORDER};
 use lent_links::key_count;
 use lent_order::order_at;
 use refuse_class::lower;
-use refuse_order::is_less;
 use refuse_words::{earns, lowest, stray_after, word_class};
 use std::cmp::Ordering;
 
@@ -75,7 +74,7 @@ fn key_descends(context: &[u32], n: u32, j: u32) -> bool
     }
     let a = order_at(KEY_ORDER, context, j);
     let b = order_at(KEY_ORDER, context, j + 1);
-    !is_less(compare_cached(context, a, b))
+    compare_cached(context, a, b).is_ge()
 }
 
 // Whether the number at place j of an order of n has no key, or its key does not come before the next.

@@ -9,7 +9,7 @@ ghost use Rattle.lent_layout.specs.Layout as Layout;
 ghost use Rattle.lent_order.specs.Order.{order_at};
 ghost use Rattle.def_refusals.specs.Verdicts.{class_of};
 ghost use Rattle.refuse_words.specs.Classes.{lowest_below};
-ghost use Rattle.refuse_order.specs.Order.{is_less, descends, place_class, order_class};
+ghost use Rattle.refuse_order.specs.Order.{descends, place_class, order_class};
 
 use def_refusals::{Refusal, Verdict};
 use lent_effect_read::effect_in;
@@ -46,13 +46,6 @@ pub fn compare_records(context: &[u32], a: u32, b: u32) -> Ordering
     }
 }
 
-// Whether what is compared comes before.
-pub fn is_less(o: Ordering) -> bool
-    ensures { result ≡ is_less o }
-{
-    matches!(o, Ordering::Less)
-}
-
 // Whether the effect at place j of an order of n does not come before the one at the next place, if there is one.
 fn descends(context: &[u32], n: u32, j: u32) -> bool
     ensures { result
@@ -63,7 +56,7 @@ fn descends(context: &[u32], n: u32, j: u32) -> bool
     }
     let a = order_at(EFFECT_ORDER, context, j);
     let b = order_at(EFFECT_ORDER, context, j + 1);
-    !is_less(compare_records(context, a, b))
+    compare_records(context, a, b).is_ge()
 }
 
 // What place j of an order of n effects earns.

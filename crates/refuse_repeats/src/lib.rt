@@ -9,7 +9,7 @@ ghost use Rattle.lent_context.specs.Lent.{diagnostics_in};
 ghost use Rattle.refuse_repeats.specs.Repeats.{diagnostic_twice};
 
 use def_effects::Diagnostic;
-use lent_diagnostics::{diagnostic_in, is_instance, larger, same_identity};
+use lent_diagnostics::{diagnostic_in, is_instance, same_identity};
 use lent_layout::DIAGNOSTICS;
 
 // How many identities the first n diagnostics have: one more than the highest.
@@ -20,7 +20,7 @@ fn identities_before(context: &[u32], n: u32) -> u64
     let mut most: u64 = 0;
     for k in 0..n {
         let identity = DIAGNOSTICS.field(context, k as usize, 0);
-        most = larger(identity as u64 + 1, most);
+        most = (identity as u64 + 1).max(most);
     }
     most
 }
@@ -32,8 +32,7 @@ fn identity_before(context: &[u32], n: u32, d: Diagnostic) -> Option<u32>
 {
     for k in 0..n {
         let x = diagnostic_in(context, k);
-        let other = x.diagnostic;
-        if same_identity(d, other) {
+        if same_identity(d, x.diagnostic) {
             return Some(x.identity);
         }
     }
@@ -45,12 +44,7 @@ fn identity_before(context: &[u32], n: u32, d: Diagnostic) -> Option<u32>
 fn instance_before(context: &[u32], n: u32, identity: u32, d: Diagnostic) -> bool
     ensures { result ≡ is_some (find_instance 0 (diagnostics_in context.now 0 n) identity d) }
 {
-    for k in 0..n {
-        if is_instance(diagnostic_in(context, k), identity, d) {
-            return true;
-        }
-    }
-    false
+    (0..n).any(|k| is_instance(diagnostic_in(context, k), identity, d))
 }
 
 // Whether diagnostic k has another identity than it has to, or there is an equal one before it.

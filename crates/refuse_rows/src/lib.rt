@@ -21,12 +21,7 @@ pub fn row_out_of_range(sets: &[u64], i: u32, n: u32) -> bool
 fn row_in_use(sets: &[u64], i: u32) -> bool
     ensures { result ≡ row_in_use sets.now i }
 {
-    for w in 0u32..16 {
-        if row_word(sets, i, w) != 0 {
-            return true;
-        }
-    }
-    false
+    (0..16).any(|w| row_word(sets, i, w) != 0)
 }
 
 // Whether the row of identifier i has a member that is a fresh number not below next.

@@ -12,7 +12,7 @@ use refuse_entries::{access_out_of_range, next_out_of_range, value_out_of_range,
 use refuse_rows::{row_out_of_range, row_unfit};
 
 // How many words the values have: one for each number, with 0, which is no value number.
-// Both loops over the values go up to it.
+// Both searches of the values go up to it.
 const VALUES: u32 = 1024;
 
 // Whether one of the 1,024 words of the values earns 3.
@@ -20,12 +20,7 @@ const VALUES: u32 = 1024;
 fn values_out_of_range(values: &[u64], n: u32) -> bool
     ensures { result ≡ values_out_of_range n values.now }
 {
-    for v in 0..VALUES {
-        if value_out_of_range(get_or(values, v as usize, 0), v, n) {
-            return true;
-        }
-    }
-    false
+    (0..VALUES).any(|v| value_out_of_range(get_or(values, v as usize, 0), v, n))
 }
 
 // Whether one of the 1,024 words of the values earns 4.
@@ -33,12 +28,7 @@ fn values_out_of_range(values: &[u64], n: u32) -> bool
 fn values_unfit(values: &[u64], next: u32) -> bool
     ensures { result ≡ values_unfit next values.now }
 {
-    for v in 0..VALUES {
-        if value_unfit(get_or(values, v as usize, 0), v, next) {
-            return true;
-        }
-    }
-    false
+    (0..VALUES).any(|v| value_unfit(get_or(values, v as usize, 0), v, next))
 }
 
 // Whether the row of one of n identifiers earns 3.
@@ -46,12 +36,7 @@ fn values_unfit(values: &[u64], next: u32) -> bool
 fn rows_out_of_range(sets: &[u64], n: u32) -> bool
     ensures { result ≡ rows_out_of_range n sets.now }
 {
-    for i in 0..n {
-        if row_out_of_range(sets, i, n) {
-            return true;
-        }
-    }
-    false
+    (0..n).any(|i| row_out_of_range(sets, i, n))
 }
 
 // Whether the row of one of n identifiers earns 4.
@@ -59,12 +44,7 @@ fn rows_out_of_range(sets: &[u64], n: u32) -> bool
 fn rows_unfit(sets: &[u64], n: u32, next: u32) -> bool
     ensures { result ≡ rows_unfit n next sets.now }
 {
-    for i in 0..n {
-        if row_unfit(sets, i, next) {
-            return true;
-        }
-    }
-    false
+    (0..n).any(|i| row_unfit(sets, i, next))
 }
 
 // Whether a state's lists have another length than 1,024 words of values and 16 words for each of at most 512 identifiers.

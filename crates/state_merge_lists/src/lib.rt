@@ -13,11 +13,8 @@ use state_adds::{adds_set, adds_value, row_count};
 fn put_entry(values: &mut [u64], v: usize, e: Option<AbstractValue>)
     ensures { values.new ≡ put_entry values.old v e }
 {
-    match e {
-        None => {}
-        Some(a) => {
-            put_value(values, v, a);
-        }
+    if let Some(a) = e {
+        put_value(values, v, a);
     }
 }
 

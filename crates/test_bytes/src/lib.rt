@@ -1,8 +1,10 @@
 // What the programs share: words of a file as they are read and compared, whole buffers, arguments, and what the benchmarks and the replays lend.
-// No contract can say what a file or an argument gives.
+// No contract can say what a file or an argument gives, so that `argument` and `number` have none.
 #![tactic(auto)]
 
-ghost use Rattle.std.specs.Prelude.{◌≡◌, ◌≤◌, ◌<◌, true, false, IfOk, length};
+ghost use Rattle.std.specs.Prelude.{◌≡◌, ◌≤◌, ◌<◌, true, false, IfOk, length, drop, eqb};
+ghost use Rattle.test_bytes.specs.Reads.{counted, front, has, word};
+ghost use Rattle.test_bytes.specs.Full.{ValuesFilled, SetsFilled};
 
 use def_effects::{Session, Span};
 use def_kinds::{AbstractValue, ValueKind};
@@ -34,7 +36,11 @@ impl<'a> Reading<'a> {
 
     // The next bytes; past the end they are 0, and that is a difference.
     // So a record that is read wrong does not pass.
-    pub fn bytes<const N: usize>(&mut self) -> [u8; N] {
+    pub fn bytes<const N: usize>(&mut self) -> [u8; N]
+        ensures value { result ≡ front N self.old.rest.now }
+        ensures rest { self.new.rest.now ≡ drop N self.old.rest.now }
+        ensures faults { self.new.faults ≡ counted (has N self.old.rest.now) self.old.faults }
+    {
         match self.rest.split_first_chunk::<N>() {
             Some((first, rest)) => {
                 self.rest = rest;
@@ -49,7 +55,11 @@ impl<'a> Reading<'a> {
     }
 
     // The next word, its lowest byte first.
-    pub fn word(&mut self) -> u32 {
+    pub fn word(&mut self) -> u32
+        ensures value { result ≡ word self.old.rest.now }
+        ensures rest { self.new.rest.now ≡ drop 4 self.old.rest.now }
+        ensures faults { self.new.faults ≡ counted (has 4 self.old.rest.now) self.old.faults }
+    {
         u32::from_le_bytes(self.bytes())
     }
 
@@ -57,6 +67,8 @@ impl<'a> Reading<'a> {
     pub fn check(&mut self, ok: bool)
         ensures right { ok ≡ true → self.new.faults ≡ self.old.faults }
         ensures wrong { ok ≡ false → 0 < self.new.faults }
+        ensures faults { self.new.faults ≡ counted ok self.old.faults }
+        ensures rest { self.new.rest.now ≡ self.old.rest.now }
     {
         if !ok {
             self.faults = self.faults.saturating_add(1);
@@ -64,7 +76,11 @@ impl<'a> Reading<'a> {
     }
 
     // Counts a difference where the next word is not x.
-    pub fn expect(&mut self, x: u32) {
+    pub fn expect(&mut self, x: u32)
+        ensures rest { self.new.rest.now ≡ drop 4 self.old.rest.now }
+        ensures faults { self.new.faults
+            ≡ counted (eqb x (word self.old.rest.now)) (counted (has 4 self.old.rest.now) self.old.faults) }
+    {
         let y = self.word();
         self.check(x == y);
     }
@@ -125,7 +141,10 @@ pub const MUTABLE: AbstractValue = AbstractValue {
 };
 
 // Full tables of a state: one entry for each value number, Mutable {Other}, and every value in the set of every identifier.
-pub fn fill_state(values: &mut [u64], sets: &mut [u64]) {
+pub fn fill_state(values: &mut [u64], sets: &mut [u64])
+    ensures values { ValuesFilled 1024 values.old values.new }
+    ensures sets { SetsFilled 512 sets.old sets.new }
+{
     for v in 1..1024 {
         lent_values::put_value(values, v, MUTABLE);
     }

@@ -24,29 +24,6 @@ use Rattle.call_outcome.specs.Calls.{candidate_count, room_for}
 
 -- ---- what an effect of a code derives
 
-module _ (code : ℕ) where
-  pub derives_none : code ≡ 0 → 0 ≡ derives code
-  derives_none e = sym (ite_eq code 0 _ _ e)
-
-  module _ (n : code ≡ 0 → ⊥) where
-    pub derives_report : code < 5 → 1 ≡ derives code
-    derives_report l = sym (ite_ne code 0 _ _ n ∙ ite_lt code 5 _ _ l)
-
-    module _ (a : 5 ≤ code) where
-      pub derives_two : code < 7 → 2 ≡ derives code
-      derives_two l = sym (ite_ne code 0 _ _ n ∙ ite_ge code 5 _ _ a ∙ ite_lt code 7 _ _ l)
-
-      module _ (b : 7 ≤ code) where
-        pub derives_one : code < 9 → 1 ≡ derives code
-        derives_one l = sym (ite_ne code 0 _ _ n ∙ ite_ge code 5 _ _ a ∙ ite_ge code 7 _ _ b ∙ ite_lt code 9 _ _ l)
-
-        module _ (d : 9 ≤ code) where
-          pub derives_from : code ≡ 10 → 1 ≡ derives code
-          derives_from e = sym (ite_ne code 0 _ _ n ∙ ite_ge code 5 _ _ a ∙ ite_ge code 7 _ _ b ∙ ite_ge code 9 _ _ d ∙ ite_eq code 10 _ _ e)
-
-          pub derives_rest : (code ≡ 10 → ⊥) → 0 ≡ derives code
-          derives_rest e = sym (ite_ne code 0 _ _ n ∙ ite_ge code 5 _ _ a ∙ ite_ge code 7 _ _ b ∙ ite_ge code 9 _ _ d ∙ ite_ne code 10 _ _ e)
-
 -- no more than two
 pub derives_few : (code : ℕ) → derives code ≤ 2
 derives_few code = choice (eqb code 0) (omega arith) (choice (ltb code 5) (omega arith) (choice (ltb code 7) (omega arith) (choice (ltb code 9) (omega arith) (choice (eqb code 10) (omega arith) (omega arith)))))
@@ -56,16 +33,6 @@ derives_few code = choice (eqb code 0) (omega arith) (choice (ltb code 5) (omega
     choice false p q = q
 
 -- ---- the captures of a candidate
-
-pub captures_there : (xs : List ℕ) (i code x : ℕ) → code ≡ 13 → x ≡ field Layout.candidate_table xs i 17 → x ≡ ite (eqb code 13) (field Layout.candidate_table xs i 17) 0
-captures_there xs i code x e h = h ∙ sym (ite_eq code 13 _ _ e)
-
-pub captures_none : (xs : List ℕ) (i code : ℕ) → (code ≡ 13 → ⊥) → 0 ≡ ite (eqb code 13) (field Layout.candidate_table xs i 17) 0
-captures_none xs i code n = sym (ite_ne code 13 _ _ n)
-
-identifiers_length : (ps : List Place) → length (identifiers ps) ≡ length ps
-identifiers_length [] = refl
-identifiers_length (p ∷ ps) = ap suc (identifiers_length ps)
 
 places_length : (xs : List ℕ) (i : ℕ) → length (identifiers (counted_places Layout.candidate_table xs i 17)) ≡ field Layout.candidate_table xs i 17
 unfolding counted_places
@@ -128,15 +95,6 @@ need_is xs i code n d m r hc hn hd hm hr =
 
 most_at : (n : ℕ) → 2048 ≤ n → 2048 ≡ at_most 2048 n
 most_at n h = ⊎_elim (λ l. sym (ite_lt 2048 n 2048 n l)) (λ l. (let z : 2048 ≡ n = omega arith in z) ∙ sym (ite_ge 2048 n 2048 n l)) (lt_or_ge 2048 n)
-
-pub capped_full : (total more : ℕ) → (2048 ≤ total) ⊎ (2048 ≤ more) → 2048 ≡ at_most 2048 (total + more)
-capped_full total more h = most_at (total + more) (⊎_elim {C = 2048 ≤ total + more} (λ a. omega arith) (λ a. omega arith) h)
-
-pub capped_past : (total more s : ℕ) → s ≡ total + more → 2048 < s → 2048 ≡ at_most 2048 (total + more)
-capped_past total more s e h = most_at (total + more) (omega arith)
-
-pub capped_sum : (total more s : ℕ) → s ≡ total + more → s ≤ 2048 → s ≡ at_most 2048 (total + more)
-capped_sum total more s e h = e ∙ sym (ite_ge 2048 (total + more) 2048 (total + more) (omega arith))
 
 -- what was left out does not count
 capped_twice : (a b : ℕ) → at_most 2048 (at_most 2048 a + b) ≡ at_most 2048 (a + b)

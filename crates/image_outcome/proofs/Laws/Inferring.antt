@@ -177,23 +177,6 @@ runs_job vs ss cs xs j os s64 s32 m n e a r ws us ds ps t64 t32 ts hm hn he lm l
 -- the three lengths, tested one after the other
 -- one law for each way through `memory_wrong`
 module _ (o p q : ℕ) where
-  -- the output list has another length
-  -- nothing else is looked at
-  pub wrong_output : (o ≡ Layout.output_words → ⊥) → true ≡ memory_wrong o p q
-  unfolding memory_wrong
-  wrong_output h = wrong_here o Layout.output_words _ h
-
-  -- scratch for a state has
-  pub wrong_64 : o ≡ Layout.output_words → (p ≡ 9216 → ⊥) → true ≡ memory_wrong o p q
-  unfolding memory_wrong
-  wrong_64 g h = wrong_here p 9216 _ h ∙ right_here o Layout.output_words _ g
-
-  -- scratch for a context decides
-  -- all else is right
-  pub wrong_32 : o ≡ Layout.output_words → p ≡ 9216 → not (eqb q Layout.saved_words) ≡ memory_wrong o p q
-  unfolding memory_wrong
-  wrong_32 e f = right_here p 9216 _ f ∙ right_here o Layout.output_words _ e
-
   -- memory of the right lengths
   pub memory_right : memory_wrong o p q ≡ false → (o ≡ Layout.output_words) × (p ≡ 9216) × (q ≡ Layout.saved_words)
   unfolding memory_wrong

@@ -10,7 +10,6 @@ use Rattle.lent_keys.specs.KeyRecords as Keys
 use Rattle.lent_layout.specs.Layout as Layout
 use Rattle.lent_context.specs.Lent.{effects_in, interned_count, is_keyed, key_count, number_at, one_more, cached_at}
 use Rattle.lent_order.specs.Order.{order_at, inserted}
-use Rattle.base_tests.proofs.Laws.Choice.{ite_lt, ite_ge}
 use Rattle.lent_tables.specs.Words.{field}
 use Rattle.base_tests.specs.Tests.{ite}
 
@@ -70,15 +69,6 @@ pub number_nowhere : (c : List ℕ) (j r w : ℕ) → r ≡ order_at Layout.key_
 unfolding is_keyed
 number_nowhere c j r w e h z =
     sym (ap (λ (x : ℕ). ite (not (eqb (field Layout.cached c x 0) 0)) (Some x) None) (sym e) ∙ ap (λ (b : Bool). ite (not b) (Some r) None) (eq-eqb (field Layout.cached c r 0) 0 (sym h ∙ z)))
-
--- one more, as far as a word can count
-pub more_one : (n : ℕ) → n < 4294967295 → n + 1 ≡ one_more n
-unfolding one_more
-more_one n h = add-one n ∙ sym (ite_lt n 4294967295 (suc n) n h)
-
-pub more_none : (n : ℕ) → 4294967295 ≤ n → n ≡ one_more n
-unfolding one_more
-more_none n h = sym (ite_ge n 4294967295 (suc n) n h)
 
 -- a number cached at a place of the order
 pub put_cached : (c d e f : List ℕ) (p n i k m : ℕ) (key : EffectKey) → i ≡ n → k ≡ key_count c → d ≡ Keys.put_key Layout.cached c i key → e ≡ inserted Layout.key_order p n k d → m ≡ one_more k → f ≡ set e 37317 m → f ≡ cached_at c p n key

@@ -1,14 +1,13 @@
 -- Laws by which the code of diagnostics meets the definitions. Assumes nothing.
-use Rattle.std.specs.Prelude.{ℕ, suc, max, ◌+◌, ◌-◌, ◌≤◌, ◌<◌, ◌≡◌, Bool, not, ◌&&◌, ◌||◌, eqb, get_or, Option, None, Some}
+use Rattle.std.specs.Prelude.{ℕ, suc, max, ◌+◌, ◌-◌, ◌≤◌, ◌<◌, ◌≡◌, Bool, ◌&&◌, eqb, get_or, Option, None, Some}
 use native.Mathlib.Omega.{arith}
-use Rattle.std.proofs.Common.{add-one, ap₂, ◌∙◌, eq-eqb, ne_eqb}
+use Rattle.std.proofs.Common.{add-one, ◌∙◌, eq-eqb, ne_eqb}
 use Rattle.std.proofs.Math.Path.{refl, sym, ap}
 use Rattle.std.proofs.Math.Bool.{true, false}
 use mathlib.Core.List.{List, [], ◌∷◌}
-use Rattle.base_tests.proofs.Laws.Bool.{not_true, not-false}
 use Rattle.def_effects.specs.declared.Span.{Span}
 use Rattle.def_effects.specs.declared.Diagnostic.{Diagnostic}
-use Rattle.def_effects.specs.Places.{no_span, eq_span}
+use Rattle.def_effects.specs.Places.{eq_span}
 use Rattle.def_transfer.specs.Diagnostics.{same_identity, same_labels}
 use Rattle.def_transfer.specs.Pure.{Interned, identities, find_identity as first_identity, find_instance as first_instance}
 use Rattle.lent_tables.specs.Words.{field, put_field}
@@ -39,99 +38,6 @@ module _ (a b : Span) where
   pub span_ends : a.start ≡ b.start → eqb a.end b.end ≡ eq_span a b
   unfolding eq_span
   span_ends e = pass (eqb a.start b.start) (eqb a.end b.end) (eqb a.end b.end) (eq-eqb a.start b.start e) refl
-
-module _ (a b : Diagnostic) where
-  -- the help of a diagnostic, by its case
-  abbrev same_help : Bool → Bool
-  same_help true = eqb a.sentence b.sentence
-  same_help false = eqb a.name b.name
-
-  -- the tests of an identity, one after the other
-  identity_tests : (eqb a.identifier b.identifier && (eqb a.case b.case && same_help (eqb a.case 0))) ≡ same_identity a b
-  unfolding same_identity
-  identity_tests = refl
-
-  -- diagnostics of different identifiers differ
-  pub identifier_differs : (a.identifier ≡ b.identifier → ⊥) → false ≡ same_identity a b
-  identifier_differs n =
-      stop (eqb a.identifier b.identifier) (eqb a.case b.case && same_help (eqb a.case 0)) (ne_eqb a.identifier b.identifier n) ∙ identity_tests
-
-  module _ (e : a.identifier ≡ b.identifier) where
-    -- diagnostics of different cases differ
-    pub case_differs : (a.case ≡ b.case → ⊥) → false ≡ same_identity a b
-    case_differs n =
-        pass (eqb a.identifier b.identifier) (eqb a.case b.case && same_help (eqb a.case 0)) false (eq-eqb a.identifier b.identifier e)
-        (stop (eqb a.case b.case) (same_help (eqb a.case 0)) (ne_eqb a.case b.case n))
-        ∙ identity_tests
-
-    module _ (f : a.case ≡ b.case) where
-      -- the help decides, by the case
-      help_decides : (t : Bool) → eqb a.case 0 ≡ t → same_help t ≡ same_identity a b
-      help_decides t h =
-          pass (eqb a.identifier b.identifier) (eqb a.case b.case && same_help (eqb a.case 0)) (same_help t) (eq-eqb a.identifier b.identifier e)
-          (pass (eqb a.case b.case) (same_help (eqb a.case 0)) (same_help t) (eq-eqb a.case b.case f) (ap same_help (sym h)))
-          ∙ identity_tests
-
-      -- in case 0 the sentences decide
-      pub sentence_decides : a.case ≡ 0 → eqb a.sentence b.sentence ≡ same_identity a b
-      sentence_decides z = help_decides true (eq-eqb a.case 0 z)
-
-      -- else the names decide
-      pub name_decides : (a.case ≡ 0 → ⊥) → eqb a.name b.name ≡ same_identity a b
-      name_decides z = help_decides false (ne_eqb a.case 0 z)
-
-  -- what decides where both spans are equal: there is no label, or the names are equal
-  abbrev same_texts : Bool → Bool → Bool
-  same_texts p q = (p && q) || eqb a.name b.name
-
-  -- the tests of labels, one after the other
-  label_tests : (eq_span a.access b.access && (eq_span a.own b.own && same_texts (eq_span a.access no_span) (eq_span a.own no_span))) ≡ same_labels a b
-  unfolding same_labels
-  label_tests = refl
-
-  module _ (x : Bool) (hx : x ≡ eq_span a.access b.access) where
-    -- labels of different accesses differ
-    pub access_differs : not x ≡ true → false ≡ same_labels a b
-    access_differs n =
-        stop (eq_span a.access b.access) (eq_span a.own b.own && same_texts (eq_span a.access no_span) (eq_span a.own no_span)) (sym hx ∙ not_true x n) ∙ label_tests
-
-    module _ (nx : not x ≡ false) (y : Bool) (hy : y ≡ eq_span a.own b.own) where
-      -- labels of different own spans differ
-      pub own_differs : not y ≡ true → false ≡ same_labels a b
-      own_differs n =
-          pass (eq_span a.access b.access) (eq_span a.own b.own && same_texts (eq_span a.access no_span) (eq_span a.own no_span)) false (sym hx ∙ not-false x nx)
-          (stop (eq_span a.own b.own) (same_texts (eq_span a.access no_span) (eq_span a.own no_span)) (sym hy ∙ not_true y n))
-          ∙ label_tests
-
-      module _ (ny : not y ≡ false) (u : Bool) (hu : u ≡ eq_span a.access no_span) where
-        -- the texts decide
-        texts_decide : (r : Bool) → r ≡ same_texts (eq_span a.access no_span) (eq_span a.own no_span) → r ≡ same_labels a b
-        texts_decide r h =
-            pass (eq_span a.access b.access) (eq_span a.own b.own && same_texts (eq_span a.access no_span) (eq_span a.own no_span)) r (sym hx ∙ not-false x nx)
-            (pass (eq_span a.own b.own) (same_texts (eq_span a.access no_span) (eq_span a.own no_span)) r (sym hy ∙ not-false y ny) h)
-            ∙ label_tests
-
-        -- an access is labelled, so the names decide
-        pub access_labelled : not u ≡ true → eqb a.name b.name ≡ same_labels a b
-        access_labelled n = texts_decide (eqb a.name b.name) (sym (ap (λ (p : Bool). same_texts p (eq_span a.own no_span)) (sym hu ∙ not_true u n)))
-
-        module _ (nu : not u ≡ false) (v : Bool) (hv : v ≡ eq_span a.own no_span) where
-          -- the place itself is labelled, so the names decide
-          pub own_labelled : not v ≡ true → eqb a.name b.name ≡ same_labels a b
-          own_labelled n = texts_decide (eqb a.name b.name) (sym (ap₂ (λ (p q : Bool). same_texts p q) (sym hu ∙ not-false u nu) (sym hv ∙ not_true v n)))
-
-          -- there is no label
-          pub none_labelled : not v ≡ false → true ≡ same_labels a b
-          none_labelled n = texts_decide true (sym (ap₂ (λ (p q : Bool). same_texts p q) (sym hu ∙ not-false u nu) (sym hv ∙ not-false v n)))
-
-module _ (n : ℕ) (x : Numbered) (d : Diagnostic) where
-  -- a record of another identity is not the instance
-  pub instance_differs : (n ≡ x.identity → ⊥) → false ≡ (eqb n x.identity && same_labels d x.diagnostic)
-  instance_differs h = stop (eqb n x.identity) (same_labels d x.diagnostic) (ne_eqb n x.identity h)
-
-  -- for a record of the identity the labels decide
-  pub instance_labels : (r : Bool) → n ≡ x.identity → r ≡ same_labels d x.diagnostic → r ≡ (eqb n x.identity && same_labels d x.diagnostic)
-  instance_labels r h g = pass (eqb n x.identity) (same_labels d x.diagnostic) r (eq-eqb n x.identity h) g
 
 -- ---- records of diagnostics
 

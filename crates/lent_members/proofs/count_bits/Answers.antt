@@ -1,30 +1,24 @@
--- `lent_members::count_bits` meets its contract. The loop's invariant: what is counted and the bits of the words that are left make all bits of the row.
--- The measure is the words that are left. Assumes nothing.
-use native.Mathlib.Omega.{arith}
-use Rattle.lent_sets.proofs.Laws.Code.{count_start, count_step, count_fits, count_end}
+-- `lent_members::count_bits` meets its contract: the bits of a row are the sum of those of its words. Assumes nothing.
+use Rattle.std.specs.Int.Count.{ones}
+use Rattle.std.specs.List.{range_with_len}
+use Rattle.std.proofs.Common.{arith, rules, refl, ◌∙◌}
+use Rattle.std.proofs.lemmas.Iterator.{YieldsList-from_map, YieldsList-from_range}
+use Rattle.std.proofs.lemmas.Iterator.Consumers.{sum_by_from_yields_List, fits_by_from_yields_list}
+use Rattle.lent_sets.specs.Rows.{row_word}
+use Rattle.lent_sets.proofs.Laws.Code.{count_fits}
+use Rattle.lent_members.proofs.Laws.Words.{bits_are}
 use Rattle.lent_members.proofs.count_bits.Goals as goal
 
-pub loop-w-init : goal.loop-w-init
-loop-w-init c = count_start c.args.rows.now c.args.i
-
-pub overflow_add-n : goal.overflow_add-n
-overflow_add-n c =
-    let a = c.args in
-    let l = c.loop-w in
-    let w = c.row_word in
-    let r = count_step a.rows.now a.i l.w w.result l.n _ c.loop-w-test.true w.ensures w.type_inv l.invariant in
-    let t = count_fits a.rows.now a.i in
-    omega arith
-
-pub loop-w-preserved : goal.loop-w-preserved
-loop-w-preserved c =
-    let a = c.args in
-    let l = c.loop-w in
-    let r = c.row_word in
-    count_step a.rows.now a.i l.w r.result l.n _ c.loop-w-test.true r.ensures r.type_inv l.invariant
+pub sum-requires-clause-fits : goal.sum-requires-clause-fits
+sum-requires-clause-fits c =
+    let e = bits_are c.args.rows.now c.args.i (λ k. let h = c.type_inv.rows k in omega arith) in
+    let l = count_fits c.args.rows.now c.args.i in
+    fits_by_from_yields_list (λ w. ones (row_word c.args.rows.now c.args.i w)) (range_with_len 0 16) c.map.result 4294967296
+    (YieldsList-from_map _ (λ w. ones (row_word c.args.rows.now c.args.i w)) (YieldsList-from_range 0 16 16 c.map.ensures.source refl) c.map.ensures.closure (λ x r q k. search rules))
+    (omega arith)
 
 pub returns : goal.returns
 returns c =
-    let a = c.args in
-    let l = c.loop-w in
-    count_end a.rows.now a.i l.w l.n _ c.loop-w-test.false l.invariant
+    sum_by_from_yields_List (λ w. ones (row_word c.args.rows.now c.args.i w)) (range_with_len 0 16) c.map.result _ c.sum.ensures.ran
+    (YieldsList-from_map _ (λ w. ones (row_word c.args.rows.now c.args.i w)) (YieldsList-from_range 0 16 16 c.map.ensures.source refl) c.map.ensures.closure (λ x r q k. search rules))
+    ∙ bits_are c.args.rows.now c.args.i (λ k. let h = c.type_inv.rows k in omega arith)

@@ -1,37 +1,35 @@
--- `lent_members::next_member` meets its contract. The loop's invariant: the next member from `v` on is the one from `from` on.
--- The measure is what is left of 1,024. Assumes nothing.
+-- `lent_members::next_member` meets its contract. The loop's invariant: the next member from `from` on is the one from the word's first place on, or from `from` in the first word.
+-- Assumes nothing.
 use native.Mathlib.Omega.{arith}
-use mathlib.Core.Path.{refl, sym, ◌∙◌}
+use Rattle.std.specs.Prelude.{◌≡◌, ◌+◌, ◌*◌, ◌/◌, max}
+use Rattle.std.proofs.Common.{sym, ap, ◌∙◌, ⊎_elim}
+use Rattle.base_tests.proofs.Laws.Order.{lt_or_ge}
+use Rattle.lent_sets.specs.Rows.{next_member, row_word}
 use Rattle.lent_sets.proofs.Laws.Code.{next_none, next_found, next_end}
 use Rattle.lent_members.proofs.next_member.Goals as goal
-
-pub loop-v-init : goal.loop-v-init
-loop-v-init c = refl
-
-pub overflow_add-result : goal.overflow_add-result
-overflow_add-result c =
-    let a = c.args in
-    let l = c.loop-v in
-    let w = c.row_word in
-    let r = next_found a.rows.now a.i l.v w.result w.ensures c.loop-v-test.true w.type_inv c.if-rest-ne0.true in
-    omega arith
 
 pub returns-then-rest-ne0 : goal.returns-then-rest-ne0
 returns-then-rest-ne0 c =
     let a = c.args in
-    let l = c.loop-v in
-    let r = c.row_word in
-    (next_found a.rows.now a.i l.v r.result r.ensures c.loop-v-test.true r.type_inv c.if-rest-ne0.true).0 ∙ sym l.invariant
+    let v = c.max-v.result in
+    let p : c.loop-w.w ≡ v / 64 = omega arith in
+    (next_found a.rows.now a.i v _ (c.row_word.ensures ∙ ap (row_word a.rows.now a.i) p) (omega arith) c.row_word.type_inv c.if-rest-ne0.true).0
+    ∙ ap (next_member a.rows.now a.i) c.max-v.ensures ∙ sym c.loop-w.invariant
 
-pub loop-v-preserved : goal.loop-v-preserved
-loop-v-preserved c =
+pub loop-w-preserved : goal.loop-w-preserved
+loop-w-preserved c =
     let a = c.args in
-    let l = c.loop-v in
-    let r = c.row_word in
-    l.invariant ∙ next_none a.rows.now a.i l.v r.result r.ensures c.loop-v-test.true c.if-rest-ne0.false
+    let v = c.max-v.result in
+    let p : c.loop-w.w ≡ v / 64 = omega arith in
+    let q : (v / 64 + 1) * 64 ≡ max a.from ((c.loop-w.w + 1) * 64) = omega arith in
+    c.loop-w.invariant ∙ ap (next_member a.rows.now a.i) (sym c.max-v.ensures)
+    ∙ next_none a.rows.now a.i v _ (c.row_word.ensures ∙ ap (row_word a.rows.now a.i) p) (omega arith) c.if-rest-ne0.false
+    ∙ ap (next_member a.rows.now a.i) q
 
 pub returns : goal.returns
 returns c =
     let a = c.args in
-    let l = c.loop-v in
-    sym (l.invariant ∙ next_end a.rows.now a.i l.v c.loop-v-test.false)
+    ⊎_elim
+    (λ l. let u = max a.from (c.loop-w.w * 64) in let e : c.max.result ≡ u = omega arith in e ∙ sym (c.loop-w.invariant ∙ next_end a.rows.now a.i u (omega arith)))
+    (λ l. let e : c.max.result ≡ a.from = omega arith in e ∙ sym (next_end a.rows.now a.i a.from l))
+    (lt_or_ge a.from 1024)

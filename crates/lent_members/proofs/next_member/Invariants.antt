@@ -1,10 +1,6 @@
-use mathlib.Core.Path.{◌≡◌}
-use Prim.Native.Nat.{◌-◌}
+use Rattle.std.specs.Prelude.{◌≡◌, ◌*◌, max}
 use Rattle.lent_sets.specs.Rows.{next_member}
 use Rattle.lent_members.proofs.next_member.Given as goal
 
-abbrev pub invariant-loop-v : goal.invariant-loop-v
-invariant-loop-v l = next_member l.rows l.i l.from ≡ next_member l.rows l.i l.v
-
-abbrev pub decreases-loop-v : goal.decreases-loop-v
-decreases-loop-v l = 1024 - l.v
+abbrev pub invariant-loop-w : goal.invariant-loop-w
+invariant-loop-w l = next_member l.rows l.i l.from ≡ next_member l.rows l.i (max l.from (l.w * 64))

@@ -1,19 +1,14 @@
 -- Laws by which a loop that moves words up meets the definition. Assumes nothing.
-use Rattle.std.specs.Prelude.{ℕ, suc, ◌+◌, ◌-◌, ◌≤◌, ◌<◌, ◌≡◌, List, length}
+use Rattle.std.specs.Prelude.{ℕ, suc, ◌+◌, ◌-◌, ◌≤◌, ◌<◌, ◌≡◌, List}
 use Rattle.std.proofs.Common.{arith, sym, ap, ap₂, ◌∙◌}
 use Rattle.lent_tables.specs.declared.Table.{Table}
 use Rattle.lent_tables.specs.Words.{field, put_field}
-use Rattle.lent_tables.proofs.Laws.Word.{put_length}
 use Rattle.lent_order.specs.Order.{order_at, moved_up, inserted}
 
 -- a word of the order
 pub order_read : (t : Table) (xs : List ℕ) (j i x : ℕ) → i ≡ j → x ≡ field t xs i 0 → x ≡ order_at t xs j
 unfolding order_at
 order_read t xs j i x e h = h ∙ ap (λ (k : ℕ). field t xs k 0) e
-
--- a write keeps the length
-pub put_long : (t : Table) (xs ys : List ℕ) (n i x : ℕ) → ys ≡ put_field t xs i 0 x → length xs ≡ n → length ys ≡ n
-put_long t xs ys n i x e h = ap length e ∙ put_length t xs i 0 x ∙ h
 
 -- one word moves up
 pub moves : (t : Table) (xs ys : List ℕ) (p k v w x : ℕ) → p < k → v ≡ k - 1 → x ≡ field t xs v 0 → w ≡ k → ys ≡ put_field t xs w 0 x → moved_up t p (k - p) xs ≡ moved_up t p (k - 1 - p) ys

@@ -15,7 +15,7 @@ use Rattle.base_tests.specs.Tests.{is_some}
 use Rattle.base_tests.proofs.Laws.Order.{lt_or_ge, same_or_not}
 use Rattle.lent_sets.proofs.Laws.Bit.{bit_shr, bit_zero, bit_high, bit_even, bit_even_low, bit_word, bit_ext, tz_zero, tz_one}
 use Rattle.lent_sets.proofs.Laws.Loop.{seek_skip, seek_here, upto_same, upto_none}
-use Rattle.lent_sets.proofs.Laws.Number.{number_fits, number_ones, number_none, word_is, word_or, word_high, word_small, word_pow, word_pow_other}
+use Rattle.lent_sets.proofs.Laws.Number.{number_fits, number_none, word_is, word_or, word_high, word_small, word_pow, word_pow_other}
 use Rattle.lent_sets.proofs.Laws.Row.{row_fits, bit_row, row_odd, none_of, some_of, copy_is, copy_not, append_is, append_not_place, append_not_value, add_length, add_word, add_far, add_number, add_row}
 use Rattle.lent_sets.proofs.Laws.Set.{members_count}
 
@@ -91,35 +91,9 @@ next_end rs i v h = ap (λ (n : ℕ). seek (member rs i) n v) {x = 1024 - v} {y 
 
 -- ---- count_bits and size
 
--- a turn of the count, with n counted so far and t in all
-pub count_step : (rs : List ℕ) (i w x n t : ℕ) → w < 16 → x ≡ row_word rs i w → x < 2 ^ 64 → n + ones (number (16 - w) rs (i * 16 + w)) ≡ t
-    → (n + ones x) + ones (number (16 - (w + 1)) rs (i * 16 + (w + 1))) ≡ t
-unfolding row_word
-count_step rs i w x n t h e f inv =
-    let p : 16 - w ≡ suc (16 - (w + 1)) = omega arith in
-    let q : suc (i * 16 + w) ≡ i * 16 + (w + 1) = omega arith in
-    let r : ones (number (16 - w) rs (i * 16 + w)) ≡ ones x + ones (number (16 - (w + 1)) rs (i * 16 + (w + 1))) =
-    ap (λ (k : ℕ). ones (number k rs (i * 16 + w))) p ∙ number_ones (16 - (w + 1)) rs (i * 16 + w) x e f
-    ∙ ap (λ (k : ℕ). ones x + ones (number (16 - (w + 1)) rs k)) q in
-    omega arith
-
 -- the count never passes 1,024
 pub count_fits : (rs : List ℕ) (i : ℕ) → ones (row_number rs i) ≤ 1024
 count_fits rs i = ones-le 1024 (row_number rs i) (row_fits rs i)
-
-pub count_start : (rs : List ℕ) (i : ℕ) → 0 + ones (number (16 - 0) rs (i * 16 + 0)) ≡ ones (row_number rs i)
-unfolding row_number
-count_start rs i =
-    let e : i * 16 + 0 ≡ i * 16 = omega arith in
-    let f : 0 + ones (number 16 rs (i * 16 + 0)) ≡ ones (number 16 rs (i * 16 + 0)) = omega arith in
-    f ∙ ap (λ (k : ℕ). ones (number 16 rs k)) e
-
-pub count_end : (rs : List ℕ) (i w n t : ℕ) → 16 ≤ w → n + ones (number (16 - w) rs (i * 16 + w)) ≡ t → n ≡ t
-unfolding number ones
-count_end rs i w n t h inv =
-    let p : 16 - w ≡ 0 = omega arith in
-    let q : ones (number (16 - w) rs (i * 16 + w)) ≡ 0 = ap (λ (k : ℕ). ones (number k rs (i * 16 + w))) p in
-    omega arith
 
 size_by : (d n c : ℕ) → n % 2 ≡ d → is_some (marked d n) ≡ true → c ≡ ones n → (1 ≤ c) × (c - 1 ≡ length (values_of (marked d n)))
 size_by zero n c p h e = let z : ◌≡◌ {A = Bool} true false = sym h in absurd (let y : ◌≡◌ {A = ℕ} 0 1 = cc in omega arith)

@@ -204,9 +204,13 @@ module _ (rs : List ℕ) (i m : ℕ) where
 abbrev pub Fit : ℕ → List ℕ → Type 0
 Fit n rs = length rs ≡ 16 * n
 
-pub fit_set : (n : ℕ) (rs : List ℕ) (i s : ℕ) → Fit n rs → Fit n (put_set rs i s)
+-- a write keeps the length
+pub set_length : (rs : List ℕ) (i s : ℕ) → length (put_set rs i s) ≡ length rs
 unfolding put_set
-fit_set n rs i s f = put_length rs i (bit_or s 1) ∙ f
+set_length rs i s = put_length rs i (bit_or s 1)
+
+pub fit_set : (n : ℕ) (rs : List ℕ) (i s : ℕ) → Fit n rs → Fit n (put_set rs i s)
+fit_set n rs i s f = set_length rs i s ∙ f
 
 marked_odd : (d n : ℕ) → d ≡ 1 → marked d n ≡ Some (n - 1)
 marked_odd d n e = ap (λ (d : ℕ). marked d n) e

@@ -4,7 +4,7 @@ use Rattle.std.proofs.Common.{sym, ap, ap₂, ◌∙◌, arith, ltb-true, lt-ltb
 use Rattle.std.proofs.lemmas.Bool.{lt-leb}
 use Rattle.def_kinds.specs.Reasons.{are_reasons}
 use Rattle.def_transfer.specs.Accepted.{not_anumber, not_yet_handed_out}
-use Rattle.refuse_entries.specs.Words.{has_entry, word_out_of_range, word_unfit, next_out_of_range}
+use Rattle.refuse_entries.specs.Words.{has_entry, word_out_of_range, word_unfit}
 use Rattle.base_tests.proofs.Laws.Order.{le_not_lt}
 use Rattle.base_tests.proofs.Laws.Bool.{or_first, or_second, or_neither, and_first, and_no}
 use Rattle.base_tests.proofs.Laws.Choice.{ite_yes, ite_no}
@@ -64,15 +64,6 @@ pub word_empty : (n v x : ℕ) → x % 8 ≡ 0 → word_out_of_range n v x ≡ f
 unfolding word_out_of_range
 word_empty n v x e = and_no (has_entry x) _ (entry_no x e)
 
-pub word_number : (n v x : ℕ) (b : Bool) → (x % 8 ≡ 0 → ⊥) → b ≡ not_anumber n v → b ≡ true → word_out_of_range n v x ≡ true
-unfolding word_out_of_range
-word_number n v x b h e t = and_first (has_entry x) _ (entry_yes x h) ∙ or_first (not_anumber n v) _ (sym e ∙ t)
-
-pub word_kind : (n v x : ℕ) (b : Bool) → (x % 8 ≡ 0 → ⊥) → b ≡ not_anumber n v → b ≡ false → x % 8 ≡ 7 → word_out_of_range n v x ≡ true
-unfolding word_out_of_range
-word_kind n v x b h e t k =
-    and_first (has_entry x) _ (entry_yes x h) ∙ or_second (not_anumber n v) _ (sym e ∙ t) ∙ or_first (eqb (x % 8) 7) _ (eq-eqb (x % 8) 7 k)
-
 pub word_reasons : (n v x : ℕ) (b c : Bool) → (x % 8 ≡ 0 → ⊥) → b ≡ not_anumber n v → b ≡ false → (x % 8 ≡ 7 → ⊥) → c ≡ not (are_reasons (x / 8)) → c ≡ word_out_of_range n v x
 unfolding word_out_of_range
 word_reasons n v x b c h e t k q =
@@ -86,13 +77,3 @@ unfit_empty next v x e = ite_no (has_entry x) _ _ (entry_no x e)
 pub unfit_entry : (next v x : ℕ) → (x % 8 ≡ 0 → ⊥) → word_unfit next v x ≡ not_yet_handed_out next v
 unfolding word_unfit
 unfit_entry next v x h = ite_yes (has_entry x) _ _ (entry_yes x h)
-
--- ---- the session
-
-pub next_zero : (next : ℕ) → next ≡ 0 → next_out_of_range next ≡ true
-unfolding next_out_of_range
-next_zero next e = or_first (not (leb 1 next)) _ (ap not (lt-leb 1 next (omega arith)))
-
-pub next_other : (next : ℕ) → (next ≡ 0 → ⊥) → next_out_of_range next ≡ not (leb next 512)
-unfolding next_out_of_range
-next_other next h = or_second (not (leb 1 next)) _ (ap not (le-leb 1 next (omega arith)))

@@ -1,10 +1,9 @@
 -- Laws by which the class of an effect and of an instruction come from their parts. Assumes nothing.
 use Rattle.std.specs.Prelude.{ℕ, ◌≤◌, ◌<◌, ◌≡◌, Bool, true, false, ◌&&◌, ◌||◌, List, eqb, leb}
 use Rattle.std.proofs.Math.Path.{refl, sym, ap, ap₂}
-use Rattle.std.proofs.Common.{◌∙◌, arith, lt-ltb, le-ltb, le-leb}
+use Rattle.std.proofs.Common.{◌∙◌, arith, lt-ltb, le-ltb}
 use Rattle.std.proofs.Math.Bool.{not}
 use Rattle.std.proofs.Math.Dec.{ltb}
-use Rattle.std.proofs.lemmas.Bool.{lt-leb}
 use Rattle.base_tests.specs.Tests.{ite}
 use Rattle.base_tests.proofs.Laws.Choice.{ite_eq, ite_ne}
 use Rattle.def_effects.specs.declared.Place.{Place}
@@ -14,7 +13,7 @@ use Rattle.lent_layout.specs.Layout as Layout
 use Rattle.lent_context.specs.Lent.{instance_count}
 use Rattle.refuse_class.specs.Class.{lower}
 use Rattle.refuse_class.proofs.Laws.Class.{lower_none}
-use Rattle.base_tests.proofs.Laws.Bool.{or_first, or_second, or_neither}
+use Rattle.base_tests.proofs.Laws.Bool.{or_first, or_second}
 use Rattle.refuse_words.specs.Classes.{lowest_below, earns, record_class}
 use Rattle.refuse_words.proofs.Laws.Order.{Class, Later, class_later, earns_class, record_class_is, lower_keeps, lowest_keeps, two_first}
 use Rattle.refuse_instruction.specs.EffectClasses.{uses, effect_limit, count_class, numbers_class, effect_class, place_class, instruction_class}
@@ -98,23 +97,10 @@ module _ (identifiers : ℕ) (p : Place) where
       place_reactive_is l =
           sym (ap (earns 3) (or_second (not (ltb p.effect 8)) (not (ltb p.reactive 2)) (ap not (lt-ltb p.effect 8 j)) ∙ ap not (le-ltb p.reactive 2 l))) ∙ rest
 
-      -- all are in range
-      pub place_right : p.reactive < 2 → 0 ≡ place_class identifiers p
-      place_right l =
-          sym (ap (earns 3) (or_neither (not (ltb p.effect 8)) (not (ltb p.reactive 2)) (ap not (lt-ltb p.effect 8 j)) (ap not (lt-ltb p.reactive 2 l)))) ∙ rest
-
   -- a place earns nothing or 3
   pub place_class_is : Class (place_class identifiers p)
   unfolding place_class
   place_class_is = earns_class 3 (not (ltb p.identifier identifiers) || (not (ltb p.effect 8) || not (ltb p.reactive 2))) (omega arith) (omega arith)
-
--- the own function is there, or there is none
-pub own_right : (own functions : ℕ) → own ≤ functions → 0 ≡ earns 3 (not (leb own functions))
-own_right own functions l = sym (ap (λ (b : Bool). earns 3 (not b)) (le-leb own functions l))
-
--- the own function is past the last
-pub own_wrong : (own functions : ℕ) → functions < own → 3 ≡ earns 3 (not (leb own functions))
-own_wrong own functions l = sym (ap (λ (b : Bool). earns 3 (not b)) (lt-leb own functions l))
 
 -- ---- the instruction
 

@@ -18,10 +18,6 @@ use Rattle.refuse_instruction.specs.EffectClasses.{uses, effect_limit}
 -- ---- in which order classes are taken together does not matter
 
 module _ (a b c : ℕ) (h : a ≡ 0 → ⊥) (k : b ≡ 0 → ⊥) (l : c ≡ 0 → ⊥) where
-  -- the lower of two is there
-  there : (x y : ℕ) → (x ≡ 0 → ⊥) → lower x y ≡ 0 → ⊥
-  there x y p z = p (lower_0 x y z).0
-
   -- three classes that are there
   three : lower (lower a b) c ≡ lower a (lower b c)
   three = ⊎_elim low high (lt_or_ge b a)

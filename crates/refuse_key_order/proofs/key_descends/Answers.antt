@@ -10,4 +10,4 @@ returns-then-j-saturating_sub c = last_place (key_here c.args.context.now) (orde
 
 pub returns : goal.returns
 returns c =
-    next_place (key_here c.args.context.now) (order_at Layout.key_order c.args.context.now) c.args.n c.args.j _ _ _ _ _ (omega arith) c.order_at-a.ensures (omega arith) c.order_at-b.ensures c.compare_cached.ensures c.is_less.ensures
+    next_place (key_here c.args.context.now) (order_at Layout.key_order c.args.context.now) c.args.n c.args.j _ _ _ _ _ (omega arith) c.order_at-a.ensures (omega arith) c.order_at-b.ensures c.compare_cached.ensures c.is_ge.ensures

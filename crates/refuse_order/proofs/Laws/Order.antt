@@ -1,9 +1,10 @@
 -- Laws by which the code of the order's class meets the definition: a law for each way through a function. Assumes nothing.
-use Rattle.std.specs.Prelude.{ℕ, suc, ◌≤◌, ◌<◌, ◌≡◌, Bool, false, ◌&&◌, List, Some}
+use Rattle.std.specs.Prelude.{ℕ, suc, ◌≤◌, ◌<◌, ◌≡◌, refl, Bool, false, ◌&&◌, List}
 use Rattle.std.proofs.Common.{◌∙◌, lt-ltb, le-ltb}
 use Rattle.std.proofs.Math.Path.{sym, ap, ap₂}
 use Rattle.std.proofs.Math.Bool.{not}
 use Rattle.base_tests.specs.Tests.{ite}
+use Rattle.std.specs.Ordering.{is_ge}
 use Rattle.std.specs.declared.cmp.Ordering.{Ordering}
 use Rattle.std.specs.declared.cmp.Ordering.TheVariants.{Less, Equal, Greater}
 use Rattle.base_search.specs.Comparings.{compare_lists}
@@ -20,11 +21,8 @@ use Rattle.lent_keys.proofs.Laws.KeyRecord.{record_numbers, effect_key_is}
 use Rattle.lent_key_order.specs.Heads.{compare_heads}
 use Rattle.lent_key_order.proofs.Laws.Heads.{head_less, head_more, head_same}
 use Rattle.lent_layout.specs.Layout as Layout
-use Rattle.lent_order.specs.Order.{order_at}
-use Rattle.lent_context.specs.Lent.{interned_count, interned_key}
-use Rattle.refuse_class.specs.Class.{lower}
-use Rattle.refuse_words.specs.Classes.{lowest_below, earns, word_class, stray_after}
-use Rattle.refuse_order.specs.Order.{is_less, descends, place_class, order_class}
+use Rattle.lent_context.specs.Lent.{interned_key}
+use Rattle.refuse_order.specs.Order.{is_less, descends}
 
 -- ---- the keys of two records
 
@@ -54,6 +52,12 @@ module _ (c : List ℕ) (a i b j : ℕ) (hi : i ≡ a) (hj : j ≡ b) (key other
 
 -- ---- a place of the order
 
+-- what is not below does not come before
+not_before : (o : Ordering) → is_ge o ≡ not (is_less o)
+not_before Less = refl
+not_before Equal = refl
+not_before Greater = refl
+
 module _ (key : ℕ → EffectKey) (ord : ℕ → ℕ) (n j : ℕ) where
   -- the last place has no next one
   pub last_place : n ≤ suc j → false ≡ descends key ord n j
@@ -61,19 +65,8 @@ module _ (key : ℕ → EffectKey) (ord : ℕ → ℕ) (n j : ℕ) where
   last_place h = sym (ap (λ (b : Bool). b && not (is_less (compare_keys (key (ord j)) (key (ord (suc j)))))) (le-ltb (suc j) n h))
 
   -- any other is compared with it
-  pub next_place : (a b k : ℕ) (o : Ordering) (x : Bool) → suc j < n → a ≡ ord j → k ≡ suc j → b ≡ ord k → o ≡ compare_keys (key a) (key b) → x ≡ is_less o → not x ≡ descends key ord n j
+  pub next_place : (a b k : ℕ) (o : Ordering) (x : Bool) → suc j < n → a ≡ ord j → k ≡ suc j → b ≡ ord k → o ≡ compare_keys (key a) (key b) → x ≡ is_ge o → x ≡ descends key ord n j
   unfolding descends
   next_place a b k o x l ha hk hb ho hx =
-      ap not (hx ∙ ap is_less (ho ∙ ap₂ (λ (u v : ℕ). compare_keys (key u) (key v)) ha (hb ∙ ap ord hk)))
+      hx ∙ not_before o ∙ ap (λ (r : Ordering). not (is_less r)) (ho ∙ ap₂ (λ (u v : ℕ). compare_keys (key u) (key v)) ha (hb ∙ ap ord hk))
       ∙ sym (ap (λ (b : Bool). b && not (is_less (compare_keys (key (ord j)) (key (ord (suc j)))))) (lt-ltb (suc j) n l))
-
-module _ (c : List ℕ) (n j : ℕ) where
-  pub place_is : (w x y r : ℕ) (t : Bool) → w ≡ order_at Layout.effect_order c j → x ≡ word_class (Some n) w → t ≡ descends (interned_key c) (order_at Layout.effect_order c) n j → y ≡ earns 4 t → r ≡ lower x y → r ≡ place_class c n j
-  unfolding place_class
-  place_is w x y r t hw hx ht hy h = h ∙ ap₂ lower (hx ∙ ap (word_class (Some n)) hw) (hy ∙ ap (earns 4) ht)
-
--- ---- the whole order
-
-pub order_is : (c : List ℕ) (n m a b r : ℕ) → n ≡ interned_count c → a ≡ lowest_below n (place_class c n) → m ≡ n → b ≡ stray_after Layout.effect_order c m → r ≡ lower a b → r ≡ order_class c
-unfolding order_class
-order_is c n m a b r e h f g q = q ∙ ap₂ lower (h ∙ ap (λ (k : ℕ). lowest_below k (place_class c k)) e) (g ∙ ap (stray_after Layout.effect_order c) (f ∙ e))

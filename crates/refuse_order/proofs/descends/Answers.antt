@@ -10,4 +10,4 @@ returns-then-j-saturating_sub c = last_place (interned_key c.args.context.now) (
 
 pub returns : goal.returns
 returns c =
-    next_place (interned_key c.args.context.now) (order_at Layout.effect_order c.args.context.now) c.args.n c.args.j _ _ _ _ _ (omega arith) c.order_at-a.ensures (omega arith) c.order_at-b.ensures c.compare_records.ensures c.is_less.ensures
+    next_place (interned_key c.args.context.now) (order_at Layout.effect_order c.args.context.now) c.args.n c.args.j _ _ _ _ _ (omega arith) c.order_at-a.ensures (omega arith) c.order_at-b.ensures c.compare_records.ensures c.is_ge.ensures

@@ -1,20 +1,19 @@
 -- Laws by which the code of a context's classes meets the definitions: a law for each way through a function. Assumes nothing.
-use Rattle.std.specs.Prelude.{ℕ, ◌≤◌, ◌<◌, ◌≡◌, refl, Bool, true, false, ◌&&◌, ◌||◌, List, get_or, Some}
+use Rattle.std.specs.Prelude.{ℕ, ◌≡◌, refl, Bool, true, false, ◌&&◌, ◌||◌, List, get_or, Some}
 use Rattle.std.proofs.Math.Path.{sym, ap}
-use Rattle.std.proofs.Common.{ap₂, ◌∙◌, arith, lt-ltb, le-ltb, eq-eqb, ne_eqb}
+use Rattle.std.proofs.Common.{ap₂, ◌∙◌, arith, ne_eqb}
 use Rattle.std.proofs.Math.Bool.{not}
-use Rattle.std.proofs.Math.Dec.{eqb, ltb}
+use Rattle.std.proofs.Math.Dec.{eqb}
 use Rattle.def_effects.specs.Places.{no_span, eq_span}
 use Rattle.lent_tables.specs.Words.{field}
 use Rattle.lent_layout.specs.Layout as Layout
-use Rattle.lent_context.specs.Lent.{interned_count, instance_count, key_count}
-use Rattle.base_tests.proofs.Laws.Choice.{ite_lt, ite_ge, ite_yes, ite_no}
-use Rattle.base_tests.proofs.Laws.Bool.{or_first, or_second, or_neither}
+use Rattle.lent_context.specs.Lent.{interned_count, instance_count}
+use Rattle.base_tests.proofs.Laws.Choice.{ite_yes, ite_no}
+use Rattle.base_tests.proofs.Laws.Bool.{or_neither}
 use Rattle.refuse_class.specs.Class.{lower}
 use Rattle.refuse_class.proofs.Laws.Class.{lower_none}
 use Rattle.refuse_words.specs.Classes.{lowest_below, earns, word_class, stray_after, record_class}
 use Rattle.refuse_words.proofs.Laws.Order.{Class, class_later, earns_class, record_class_is, lower_keeps, two_first, four_last}
-use Rattle.refuse_instruction.specs.EffectClasses.{effect_class}
 use Rattle.refuse_tables.specs.TableClasses.{identifier_class, function_class, link_class, key_limit, key_lacks, key_class, no_key_class, diagnostic_limit, label_class, message_class}
 use Rattle.refuse_repeats.specs.Repeats.{diagnostic_twice}
 use Rattle.refuse_order.specs.Order.{order_class}
@@ -52,12 +51,6 @@ module _ (identifiers : ℕ) (c : List ℕ) (k i x : ℕ) (e : i ≡ k) (h : x �
   unfolding diagnostic_class
   diagnostic_right r t z g q = first_right (message_class identifiers c k) x r (diagnostic_twice c k) t (h ∙ ap (message_class identifiers c) e) z g q
 
--- ---- an interned effect
-
-pub interned_is : (identifiers functions : ℕ) (c : List ℕ) (k x : ℕ) → x ≡ effect_class identifiers functions c 3 Layout.interned c k → x ≡ interned_class identifiers functions c k
-unfolding interned_class
-interned_is identifiers functions c k x h = h
-
 -- ---- a cached number
 
 module _ (identifiers functions : ℕ) (c : List ℕ) (v : ℕ) where
@@ -69,32 +62,9 @@ module _ (identifiers functions : ℕ) (c : List ℕ) (v : ℕ) where
       (record_class_is Layout.cached c (key_limit identifiers functions (field Layout.cached c v 1) (field Layout.cached c v 11)) v)
       (earns_class 3 (key_lacks (field Layout.cached c v 1) (field Layout.cached c v 2) (field Layout.cached c v 4) (field Layout.cached c v 8)) (omega arith) (omega arith))
 
-  -- the key of another effect than CreateFunction has no captures to count
-  pub many_other : (x : ℕ) → x ≡ field Layout.cached c v 1 → (x ≡ 13 → ⊥) → false ≡ too_many_captures c v
-  unfolding too_many_captures
-  many_other x h n = sym (ap (λ (b : Bool). b && ltb 16 (field Layout.cached c v 11)) (ne_eqb (field Layout.cached c v 1) 13 (λ e. n (h ∙ e))))
-
-  -- that of a CreateFunction is counted
-  pub many_counted : (x y : ℕ) → x ≡ field Layout.cached c v 1 → x ≡ 13 → y ≡ field Layout.cached c v 11 → ltb 16 y ≡ too_many_captures c v
-  unfolding too_many_captures
-  many_counted x y h e g = ap (ltb 16) g ∙ sym (ap (λ (b : Bool). b && ltb 16 (field Layout.cached c v 11)) (eq-eqb (field Layout.cached c v 1) 13 (sym h ∙ e)))
-
   -- a key, beside its count
   abbrev keyed : ℕ
   keyed = key_class identifiers functions c v
-
-  -- no key at all
-  keyless : (r : ℕ) → (eqb v 0 || eqb (field Layout.cached c v 0) 0) ≡ true → r ≡ no_key_class c v → r ≡ cached_class identifiers functions c v
-  unfolding cached_class
-  keyless r t h = h ∙ sym (ite_yes (eqb v 0 || eqb (field Layout.cached c v 0) 0) (no_key_class c v) (lower (earns 2 (too_many_captures c v)) keyed) t)
-
-  -- value number 0
-  pub cached_zero : (r : ℕ) → v ≡ 0 → r ≡ no_key_class c v → r ≡ cached_class identifiers functions c v
-  cached_zero r e h = keyless r (or_first (eqb v 0) (eqb (field Layout.cached c v 0) 0) (eq-eqb v 0 e)) h
-
-  -- a number without a key
-  pub cached_none : (r x : ℕ) → (v ≡ 0 → ⊥) → x ≡ field Layout.cached c v 0 → x ≡ 0 → r ≡ no_key_class c v → r ≡ cached_class identifiers functions c v
-  cached_none r x n f z h = keyless r (or_second (eqb v 0) (eqb (field Layout.cached c v 0) 0) (ne_eqb v 0 n) ∙ eq-eqb (field Layout.cached c v 0) 0 (sym f ∙ z)) h
 
   module _ (x : ℕ) (many : Bool) (n : v ≡ 0 → ⊥) (f : x ≡ field Layout.cached c v 0) (z : x ≡ 0 → ⊥) (g : many ≡ too_many_captures c v) where
     -- a key is there
@@ -152,74 +122,6 @@ effects_are identifiers functions c n m a b o r s e f h g k p q =
     q ∙ ap₂ lower (h ∙ ap (λ (k : ℕ). lowest_below k (interned_class identifiers functions c)) (f ∙ e)) (p ∙ ap₂ lower (g ∙ ap (stray_after Layout.interned c) (f ∙ e)) k)
 
 -- ---- the whole
-
-module _ (identifiers functions : ℕ) (c : List ℕ) (i : ℕ) (hi : i ≡ get_or c 1 0) where
-  -- the tests that are left after the interned effects
-  abbrev after4 : Bool
-  after4 = ltb 256 (instance_count c) || ltb 511 (key_count c)
-
-  -- and after the functions
-  abbrev after3 : Bool
-  after3 = ltb 2048 (interned_count c) || after4
-
-  -- and after the numbers of the call
-  abbrev after2 : Bool
-  after2 = ltb 64 functions || after3
-
-  -- and after the identifiers
-  abbrev after1 : Bool
-  after1 = not (eqb (get_or c 2 0) functions) || after2
-
-  -- another number of identifiers
-  pub counts_identifiers : (i ≡ identifiers → ⊥) → true ≡ counts_wrong identifiers functions c
-  unfolding counts_wrong
-  counts_identifiers n = sym (or_first (not (eqb (get_or c 1 0) identifiers)) after1 (ap not (ne_eqb (get_or c 1 0) identifiers (λ e. n (hi ∙ e)))))
-
-  module _ (ei : i ≡ identifiers) (f : ℕ) (hf : f ≡ get_or c 2 0) where
-    -- the number of identifiers is right
-    past_identifiers : after1 ≡ counts_wrong identifiers functions c
-    unfolding counts_wrong
-    past_identifiers = sym (or_second (not (eqb (get_or c 1 0) identifiers)) after1 (ap not (eq-eqb (get_or c 1 0) identifiers (sym hi ∙ ei))))
-
-    -- another number of functions
-    pub counts_functions : (f ≡ functions → ⊥) → true ≡ counts_wrong identifiers functions c
-    counts_functions n = sym (or_first (not (eqb (get_or c 2 0) functions)) after2 (ap not (ne_eqb (get_or c 2 0) functions (λ e. n (hf ∙ e))))) ∙ past_identifiers
-
-    module _ (ef : f ≡ functions) where
-      -- the number of functions is that of the call
-      past_functions : after2 ≡ counts_wrong identifiers functions c
-      past_functions = sym (or_second (not (eqb (get_or c 2 0) functions)) after2 (ap not (eq-eqb (get_or c 2 0) functions (sym hf ∙ ef)))) ∙ past_identifiers
-
-      -- too many functions
-      pub counts_many : 64 < functions → true ≡ counts_wrong identifiers functions c
-      counts_many l = sym (or_first (ltb 64 functions) after3 (lt-ltb 64 functions l)) ∙ past_functions
-
-      module _ (l : functions ≤ 64) (n : ℕ) (hn : n ≡ interned_count c) where
-        -- too many interned effects
-        pub counts_effects : 2048 < n → true ≡ counts_wrong identifiers functions c
-        counts_effects k =
-            sym (or_second (ltb 64 functions) after3 (le-ltb 64 functions l) ∙ or_first (ltb 2048 (interned_count c)) after4 (ap (ltb 2048) (sym hn) ∙ lt-ltb 2048 n k))
-            ∙ past_functions
-
-        module _ (k : n ≤ 2048) (m : ℕ) (hm : m ≡ instance_count c) where
-          -- the number of interned effects is right
-          past_effects : after4 ≡ counts_wrong identifiers functions c
-          past_effects = sym (or_second (ltb 64 functions) after3 (le-ltb 64 functions l) ∙ or_second (ltb 2048 (interned_count c)) after4 (ap (ltb 2048) (sym hn) ∙ le-ltb 2048 n k)) ∙ past_functions
-
-          -- too many diagnostics
-          pub counts_diagnostics : 256 < m → true ≡ counts_wrong identifiers functions c
-          counts_diagnostics g = sym (or_first (ltb 256 (instance_count c)) (ltb 511 (key_count c)) (ap (ltb 256) (sym hm) ∙ lt-ltb 256 m g)) ∙ past_effects
-
-          -- too many cached keys, or nothing is wrong
-          pub counts_keys : (x : ℕ) → m ≤ 256 → x ≡ key_count c → ltb 511 x ≡ counts_wrong identifiers functions c
-          counts_keys x g hx = ap (ltb 511) hx ∙ sym (or_second (ltb 256 (instance_count c)) (ltb 511 (key_count c)) (ap (ltb 256) (sym hm) ∙ le-ltb 256 m g)) ∙ past_effects
-
--- next lies past the last fresh number, or not
-pub handed_all : (next : ℕ) → 512 < next → 512 ≡ handed_out next
-handed_all next l = sym (ite_lt 512 next 512 next l)
-
-pub handed_some : (next : ℕ) → next ≤ 512 → next ≡ handed_out next
-handed_some next l = sym (ite_ge 512 next 512 next l)
 
 -- the options and all tables
 -- the lowest class of seven

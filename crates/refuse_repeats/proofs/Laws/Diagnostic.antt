@@ -1,5 +1,6 @@
 -- Laws by which the searches of diagnostics before one meet the definitions. Assumes nothing.
-use Rattle.std.specs.Prelude.{ℕ, suc, max, ◌+◌, ◌-◌, ◌≤◌, ◌<◌, ◌≡◌, refl, Bool, ◌&&◌, eqb, Option, None, Some}
+use Rattle.std.specs.Prelude.{ℕ, zero, suc, max, ◌+◌, ◌-◌, ◌≤◌, ◌<◌, ◌≡◌, refl, Bool, ◌&&◌, ◌||◌, eqb, Option, None, Some}
+use Rattle.std.specs.List.{list_any, range_with_len}
 use Rattle.std.proofs.Common.{arith, add-one, ◌∙◌, ⊎_elim}
 use Rattle.std.proofs.Math.Path.{sym, ap, ap₂}
 use Rattle.std.proofs.Math.Bool.{true, false, not}
@@ -74,24 +75,25 @@ module _ (c : List ℕ) (n : ℕ) (d : Diagnostic) (o : Option ℕ) (h : o ≡ f
   unfolding right_identity
   right_found x e = ap (number_or (identities (diagnostics_in c 0 n))) (sym e ∙ h)
 
-module _ (c : List ℕ) (m : ℕ) (d : Diagnostic) (k n : ℕ) (inv : find_instance 0 (diagnostics_in c 0 (n - 0)) m d ≡ find_instance k (diagnostics_in c k (n - k)) m d) where
+module _ (c : List ℕ) (m : ℕ) (d : Diagnostic) where
   -- whether a record is the instance
   -- the definition's test
-  abbrev is_instance : Interned → Bool
+  abbrev pub is_instance : Interned → Bool
   is_instance x = eqb m x.identity && same_labels d x.diagnostic
 
-  -- the search ends at record k
-  pub instance_found : (x : Numbered) (b : Bool) → k < n → interned_of x ≡ diagnostic_in c k → b ≡ (eqb m x.identity && same_labels d x.diagnostic) → b ≡ true → true ≡ is_some (find_instance 0 (diagnostics_in c 0 n) m d)
-  unfolding find_instance
-  instance_found x b l g h z =
-      sym (ap is_some (ap (λ (ds : List Interned). find_instance 0 ds m d) (diagnostics_all c n) ∙ inv ∙ ap (λ (ds : List Interned). find_instance k ds m d) (diagnostics_more c k n l)
-      ∙ ap (λ (t : Bool). elim t as (λ x. Option ℕ) [ true ↦ Some k | false ↦ find_instance (suc k) (diagnostics_in c (k + 1) (n - (k + 1))) m d ]) (ap is_instance (sym g) ∙ sym h ∙ z)))
+  -- a search of the places of the records finds one where the look-up does
+  instance_from : (n a i : ℕ) → list_any (λ k. is_instance (diagnostic_in c k)) (range_with_len a n) ≡ is_some (find_instance i (diagnostics_in c a n) m d)
+  unfolding find_instance diagnostics_in
+  instance_from zero a i = refl
+  instance_from (suc n) a i = go (is_instance (diagnostic_in c a)) (ap (λ (z : ℕ). list_any (λ k. is_instance (diagnostic_in c k)) (range_with_len z n)) (add-one a) ∙ instance_from n (suc a) (suc i))
+    where
+      go : (b : Bool) → list_any (λ k. is_instance (diagnostic_in c k)) (range_with_len (a + 1) n) ≡ is_some (find_instance (suc i) (diagnostics_in c (suc a) n) m d)
+          → (b || list_any (λ k. is_instance (diagnostic_in c k)) (range_with_len (a + 1) n)) ≡ is_some (elim b as (λ x. Option ℕ) [ true ↦ Some i | false ↦ find_instance (suc i) (diagnostics_in c (suc a) n) m d ])
+      go true h = refl
+      go false h = h
 
-  -- the search ends without a record
-  pub instance_nowhere : n ≤ k → false ≡ is_some (find_instance 0 (diagnostics_in c 0 n) m d)
-  unfolding find_instance
-  instance_nowhere l =
-      sym (ap is_some (ap (λ (ds : List Interned). find_instance 0 ds m d) (diagnostics_all c n) ∙ inv ∙ ap (λ (ds : List Interned). find_instance k ds m d) (diagnostics_none c k n l)))
+  pub instance_is : (n : ℕ) → list_any (λ k. is_instance (diagnostic_in c k)) (range_with_len 0 n) ≡ is_some (find_instance 0 (diagnostics_in c 0 n) m d)
+  instance_is n = instance_from n 0 0
 
 -- an identity that is not below those of some records is none of theirs
 none_yet : (i : ℕ) (ds : List Interned) (n : ℕ) (d : Diagnostic) → identities ds ≤ n → find_instance i ds n d ≡ None

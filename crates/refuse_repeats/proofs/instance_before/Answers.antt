@@ -1,18 +1,13 @@
-use mathlib.Core.Path.{refl, ◌∙◌}
-use Rattle.lent_diagnostics.proofs.Laws.Diagnostic.{instance_passed}
-use Rattle.refuse_repeats.proofs.Laws.Diagnostic.{instance_found, instance_nowhere}
+-- `refuse_repeats::instance_before` meets its contract: what the search of the records finds. Assumes nothing.
+use Rattle.std.proofs.Common.{arith, rules, refl, ◌∙◌}
+use Rattle.std.proofs.lemmas.Iterator.{YieldsList-from_range}
+use Rattle.std.proofs.lemmas.Iterator.Search.{any_from_yields_List}
+use Rattle.lent_context.specs.Lent.{diagnostic_in}
+use Rattle.refuse_repeats.proofs.Laws.Diagnostic.{is_instance, instance_is}
 use Rattle.refuse_repeats.proofs.instance_before.Goals as goal
 
-pub loop-k-init : goal.loop-k-init
-loop-k-init c = refl
-
-pub returns-then-is_instance : goal.returns-then-is_instance
-returns-then-is_instance c =
-    instance_found _ _ _ _ _ c.loop-k.invariant _ _ c.loop-k-test.true c.diagnostic_in.ensures c.is_instance.ensures c.if-is_instance.true
-
-pub loop-k-preserved : goal.loop-k-preserved
-loop-k-preserved c =
-    c.loop-k.invariant ∙ instance_passed _ _ _ _ _ _ _ c.loop-k-test.true c.diagnostic_in.ensures c.is_instance.ensures c.if-is_instance.false
-
 pub returns : goal.returns
-returns c = instance_nowhere _ _ _ _ _ c.loop-k.invariant c.loop-k-test.false
+returns c =
+    any_from_yields_List (λ k. is_instance c.args.context.now c.args.identity c.args.d (diagnostic_in c.args.context.now k)) _ _ c.any.result c.any.ensures.ran (YieldsList-from_range 0 c.args.n c.args.n refl (omega arith))
+    (λ x b q k. (search rules, search rules))
+    ∙ instance_is c.args.context.now c.args.identity c.args.d c.args.n

@@ -1,25 +1,13 @@
--- `refuse_state::rows_unfit` meets its contract. The loop's invariant: no row passed is unfit. The measure is the rows that are left. Assumes nothing.
-use mathlib.Core.Path.{sym, ◌∙◌}
-use native.Mathlib.Omega.{arith}
-use borrow.Author.Count.{below_more, below_none}
-use Rattle.base_tests.proofs.Laws.Below.{any_yes, any_no}
+-- `refuse_state::rows_unfit` meets its contract: what the search of the rows finds. Assumes nothing.
+use Rattle.std.specs.Prelude.{◌≡◌, refl, true, false}
+use Rattle.std.proofs.Common.{rules, sym, arith}
+use Rattle.std.proofs.lemmas.Iterator.{cases_from_any, YieldsList-from_range}
+use Rattle.base_tests.proofs.Laws.Any.{any_is}
 use Rattle.refuse_entries.specs.Words.{row_unfit, rows_unfit}
 use Rattle.refuse_state.proofs.rows_unfit.Goals as goal
 
-pub loop-i-init : goal.loop-i-init
-loop-i-init c = below_none _
-
-pub returns-then-row_unfit : goal.returns-then-row_unfit
-unfolding rows_unfit
-returns-then-row_unfit c =
-    let a = c.args in
-    sym (any_yes a.n (λ k. row_unfit a.next a.sets.now k) c.loop-i.i (omega arith) (sym c.row_unfit.ensures ∙ c.if-row_unfit.true))
-
-pub loop-i-preserved : goal.loop-i-preserved
-loop-i-preserved c = below_more _ _ c.loop-i.invariant (sym c.row_unfit.ensures ∙ c.if-row_unfit.false)
-
 pub returns : goal.returns
 unfolding rows_unfit
-returns c =
-    let a = c.args in
-    sym (any_no a.n (λ k. row_unfit a.next a.sets.now k) (λ k h. c.loop-i.invariant k (omega arith)))
+returns c = any_is c.args.n (λ k. row_unfit c.args.next c.args.sets.now k) c.any.result
+    (cases_from_any _ _ _ (λ k. row_unfit c.args.next c.args.sets.now k ≡ true) (λ k. row_unfit c.args.next c.args.sets.now k ≡ false) c.any.ensures.ran (YieldsList-from_range 0 c.args.n c.args.n refl (omega arith))
+    (λ x q k. sym (search rules)) (λ x q k. (search rules, sym (search rules))))

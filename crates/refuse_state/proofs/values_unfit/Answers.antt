@@ -1,32 +1,13 @@
--- `refuse_state::values_unfit` meets its contract. The loop's invariant: no word passed is unfit. The measure is the words that are left. Assumes nothing.
-use Rattle.std.proofs.Common.{refl}
-use mathlib.Core.Path.{sym, ap, ◌∙◌}
-use native.Mathlib.Omega.{arith}
-use Prim.Native.Nat.{ℕ}
-use borrow.Author.Count.{below_more, below_none}
-use lib.ListN.{get_or}
-use Rattle.base_tests.proofs.Laws.Below.{any_yes, any_no}
+-- `refuse_state::values_unfit` meets its contract: what the search of the words finds. Assumes nothing.
+use Rattle.std.specs.Prelude.{◌≡◌, refl, true, false, get_or}
+use Rattle.std.proofs.Common.{rules, sym}
+use Rattle.std.proofs.lemmas.Iterator.{cases_from_any, YieldsList-from_range}
+use Rattle.base_tests.proofs.Laws.Any.{any_is}
 use Rattle.refuse_entries.specs.Words.{word_unfit, values_unfit}
 use Rattle.refuse_state.proofs.values_unfit.Goals as goal
 
-pub loop-v-init : goal.loop-v-init
-loop-v-init c = below_none _
-
-pub returns-then-value_unfit : goal.returns-then-value_unfit
-unfolding values_unfit
-returns-then-value_unfit c =
-    let a = c.args in
-    let e = sym (c.value_unfit.ensures ∙ ap (word_unfit a.next c.loop-v.v) (c.get_or.ensures ∙ ap (λ (k : ℕ). get_or a.values.now k 0) refl)) in
-    sym (any_yes 1024 (λ k. word_unfit a.next k (get_or a.values.now k 0)) c.loop-v.v (omega arith) (e ∙ c.if-value_unfit.true))
-
-pub loop-v-preserved : goal.loop-v-preserved
-loop-v-preserved c =
-    let a = c.args in
-    let e = sym (c.value_unfit.ensures ∙ ap (word_unfit a.next c.loop-v.v) (c.get_or.ensures ∙ ap (λ (k : ℕ). get_or a.values.now k 0) refl)) in
-    below_more _ _ c.loop-v.invariant (e ∙ c.if-value_unfit.false)
-
 pub returns : goal.returns
 unfolding values_unfit
-returns c =
-    let a = c.args in
-    sym (any_no 1024 (λ k. word_unfit a.next k (get_or a.values.now k 0)) (λ k h. c.loop-v.invariant k (omega arith)))
+returns c = any_is 1024 (λ k. word_unfit c.args.next k (get_or c.args.values.now k 0)) c.any.result
+    (cases_from_any _ _ _ (λ k. word_unfit c.args.next k (get_or c.args.values.now k 0) ≡ true) (λ k. word_unfit c.args.next k (get_or c.args.values.now k 0) ≡ false) c.any.ensures.ran (YieldsList-from_range 0 1024 1024 refl refl)
+    (λ x q k. sym (search rules)) (λ x q k. (search rules, sym (search rules))))

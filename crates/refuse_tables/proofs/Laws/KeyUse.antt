@@ -1,5 +1,5 @@
 -- What a cached key of each code uses: the ways through the code's tests. Assumes nothing.
-use Rattle.std.specs.Prelude.{ℕ, ◌≡◌, refl, ◌||◌}
+use Rattle.std.specs.Prelude.{ℕ, ◌≡◌, ◌||◌}
 use Rattle.std.proofs.Math.Path.{sym}
 use Rattle.std.proofs.Common.{ap, ◌∙◌, ⊎_elim, arith, ne_eqb}
 use mathlib.Core.List.{List, [], ◌∷◌}
@@ -51,27 +51,6 @@ module _ (code j : ℕ) where
       ∙ ite_no (eqb code 10 || (eqb code 18 || eqb code 19)) (1 ∷ 1 ∷ 0 ∷ 0 ∷ []) []
       (or_neither (eqb code 10) (eqb code 18 || eqb code 19) (ne_eqb code 10 c) (or_neither (eqb code 18) (eqb code 19) (ne_eqb code 18 d) (ne_eqb code 19 e))))
       ∙ get_or-eq_default [] 0 {n = j} (omega arith))
-
-  -- a code without a source: Create, CreateFunction, or one that is not cached
-  sourceless : (code ≡ 10 → ⊥) → (code ≡ 18 → ⊥) → (code ≡ 19 → ⊥) → (x : ℕ) → (code ≡ 9 → x ≡ key_uses code j) → (code ≡ 13 → x ≡ key_uses code j)
-      → ((code ≡ 9 → ⊥) → (code ≡ 13 → ⊥) → x ≡ 0) → x ≡ key_uses code j
-  sourceless c d e x p q r = ⊎_elim p (λ a. ⊎_elim q (λ b. r a b ∙ key_other a b c d e) (same_or_not code 13)) (same_or_not code 9)
-
--- a code without a source uses none
-pub source_none : (code : ℕ) → (code ≡ 10 → ⊥) → (code ≡ 18 → ⊥) → (code ≡ 19 → ⊥) → 0 ≡ key_uses code 0
-source_none code c d e = sourceless code 0 c d e 0 (key_create code 0) (key_function code 0) (λ a b. refl)
-
--- apart from Create and CreateFunction a key has a destination where it has a source
-pub destination_other : (code r : ℕ) → (code ≡ 9 → ⊥) → (code ≡ 13 → ⊥) → r ≡ key_uses code 0 → r ≡ key_uses code 1
-destination_other code r a b h =
-    h
-    ∙ ⊎_elim (λ e. sym (key_from code 0 e) ∙ key_from code 1 e)
-    (λ c. ⊎_elim (λ e. sym (key_assign code 0 e) ∙ key_assign code 1 e)
-    (λ d. ⊎_elim (λ e. sym (key_assign_primitive code 0 e) ∙ key_assign_primitive code 1 e)
-    (λ e. sym (key_other code 0 a b c d e) ∙ key_other code 1 a b c d e)
-    (same_or_not code 19))
-    (same_or_not code 18))
-    (same_or_not code 10)
 
 -- kinds and reasons belong to Create
 pub only_kind : (code : ℕ) → only 9 code ≡ key_uses code 2

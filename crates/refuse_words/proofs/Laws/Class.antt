@@ -1,18 +1,14 @@
 -- Laws of classes: the ways through the code of a word, a limit and stray words, and how a loop comes to the lowest class. Assumes nothing.
-use Prim.Native.Nat.{ℕ, zero, suc, ◌+◌, ◌-◌, ◌/◌, ◌%◌, ◌≤◌, ◌<◌}
-use Rattle.std.specs.Prelude.{◌≡◌, refl, Bool, true, false, not, List, [], ◌∷◌, Option, None, Some}
+use Prim.Native.Nat.{ℕ, zero, suc, ◌+◌, ◌/◌, ◌%◌, ◌≤◌, ◌<◌}
+use Rattle.std.specs.Prelude.{◌≡◌, refl, Bool, true, false, Option, None, Some}
 use Rattle.std.proofs.Math.Path.{sym, ap, ap₂}
-use Rattle.std.proofs.Common.{◌∙◌, eq-or-lt_of_le, add-one, lt-ltb, le-ltb, ne_eqb}
+use Rattle.std.proofs.Common.{◌∙◌, eq-or-lt_of_le, add-one}
 use Rattle.std.proofs.Math.Logic.{⊎_elim}
 use native.Mathlib.Omega.{arith}
-use Rattle.std.proofs.Math.ListN.{get_or-eq_default}
-use Rattle.base_tests.proofs.Laws.Order.{same_or_not}
 use Rattle.base_tests.proofs.Laws.Choice.{ite_lt, ite_ge}
-use Rattle.lent_tables.specs.declared.Table.{Table}
-use Rattle.lent_tables.specs.Words.{field}
 use Rattle.refuse_class.specs.Class.{lower}
 use Rattle.refuse_class.proofs.Laws.Class.{lower_0}
-use Rattle.refuse_words.specs.Classes.{lowest_below, earns, word_class, used_if, any, place_limit, run_limit, words_below, record_class}
+use Rattle.refuse_words.specs.Classes.{lowest_below, earns, word_class, place_limit, run_limit}
 
 -- ---- a word and its limit
 
@@ -21,27 +17,6 @@ module _ (x : ℕ) where
   pub word_zero : x ≡ 0 → 0 ≡ word_class None x
   unfolding word_class
   word_zero z = sym (ap (word_class None) z)
-
-  -- an unused word that is not
-  pub word_stray : (x ≡ 0 → ⊥) → 4 ≡ word_class None x
-  unfolding word_class
-  word_stray n = sym (ap (λ (b : Bool). earns 4 (not b)) (ne_eqb x 0 n))
-
-  -- a word below its limit
-  pub word_below : (l : ℕ) → x < l → 0 ≡ word_class (Some l) x
-  unfolding word_class
-  word_below l h = sym (ap (λ (b : Bool). earns 3 (not b)) (lt-ltb x l h))
-
-  -- a word past its limit
-  pub word_past : (l : ℕ) → l ≤ x → 3 ≡ word_class (Some l) x
-  unfolding word_class
-  word_past l h = sym (ap (λ (b : Bool). earns 3 (not b)) (le-ltb x l h))
-
--- a use that is not 0 leaves the limit
-pub used_yes : (u : ℕ) (o : Option ℕ) → (u ≡ 0 → ⊥) → o ≡ used_if u o
-used_yes u o n =
-    let e : u ≡ suc (u - 1) = omega arith in
-    sym (ap (λ (a : ℕ). used_if a o) e)
 
 -- ---- places
 
@@ -61,20 +36,6 @@ module _ (n w : ℕ) where
   pub place_reactive_is : w ≡ 2 → Some 2 ≡ place_limit n w
   unfolding place_limit
   place_reactive_is e = sym (ap (place_limit n) e)
-
-  -- the span
-  pub place_span : (w ≡ 0 → ⊥) → (w ≡ 1 → ⊥) → (w ≡ 2 → ⊥) → w < 5 → any ≡ place_limit n w
-  unfolding place_limit
-  place_span a b c l =
-      ⊎_elim
-      (λ e. sym (ap (place_limit n) e))
-      (λ h. let e : w ≡ 4 = omega arith in sym (ap (place_limit n) e))
-      (same_or_not w 3)
-
-  -- a place has five words
-  pub place_past : 5 ≤ w → None ≡ place_limit n w
-  unfolding place_limit
-  place_past l = sym (get_or-eq_default (Some n ∷ Some 8 ∷ Some 2 ∷ any ∷ any ∷ []) None l)
 
 -- a word of a place that is used
 pub run_used : (i n w m : ℕ) (o : Option ℕ) → m ≡ n → w / 5 < m → o ≡ place_limit i (w % 5) → o ≡ run_limit i n w
@@ -107,26 +68,6 @@ pub lowest_end : (f : ℕ → ℕ) (n k w : ℕ) → k ≤ n → n ≤ k → w �
 lowest_end f n k w a b h =
     let e : k ≡ n = omega arith in
     h ∙ ap (λ (m : ℕ). lowest_below m f) e
-
--- ---- the words of a record
-
-module _ (t : Table) (c : List ℕ) (limit : ℕ → Option ℕ) (i : ℕ) where
-  -- no word yet
-  pub words_none : 0 ≡ words_below t c limit i 0
-  unfolding words_below
-  words_none = lowest_none (λ w. word_class (limit w) (field t c i w))
-
-  -- a word more
-  pub words_more : (k : ℕ) (o : Option ℕ) (x y w r : ℕ) → w ≡ words_below t c limit i k → o ≡ limit k → x ≡ field t c i k → y ≡ word_class o x → r ≡ lower w y → r ≡ words_below t c limit i (k + 1)
-  unfolding words_below
-  words_more k o x y w r p a b d h = lowest_more (λ w. word_class (limit w) (field t c i w)) k w y r p (d ∙ ap₂ word_class a b) h
-
-  -- all words
-  pub words_end : (k w : ℕ) → k ≤ t.width → t.width ≤ k → w ≡ words_below t c limit i k → w ≡ record_class t c limit i
-  unfolding record_class
-  words_end k w a b h =
-      let e : k ≡ t.width = omega arith in
-      h ∙ ap (words_below t c limit i) e
 
 -- ---- no class at all
 

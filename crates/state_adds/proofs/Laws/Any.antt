@@ -1,30 +1,18 @@
--- What the search of the numbers below n finds is what `any_below` finds. Assumes nothing.
-use Rattle.std.specs.Prelude.{ℕ, ◌+◌, ◌*◌, ◌^◌, ◌<◌, ◌≡◌, refl, Bool, true, false, not, List, length, eqb, get_or}
-use Rattle.std.specs.Bool.{MatchBool}
-use Rattle.std.specs.List.{range_with_len, AllWithin, HoldsAt}
-use Rattle.std.proofs.Common.{arith, sym, ap, ◌∙◌, eq-eqb, ne_eqb, ⊎_elim}
+-- A row has a bit that another lacks where one of its words has. Assumes nothing.
+use Rattle.std.specs.Prelude.{ℕ, ◌+◌, ◌*◌, ◌^◌, ◌<◌, ◌≡◌, refl, Bool, true, false, not, List, eqb, get_or}
+use Rattle.std.proofs.Common.{sym, ap, eq-eqb, ne_eqb, ⊎_elim}
 use Rattle.std.specs.Int.Bits.{bit_or}
-use Rattle.std.proofs.lemmas.List.FromFn.{length-range_with_len, get_or-range_with_len}
 use Rattle.base_tests.specs.Tests.{any_below}
 use Rattle.base_tests.proofs.Laws.Bool.{never}
 use Rattle.base_tests.proofs.Laws.Order.{same_or_not}
 use Rattle.lent_sets.specs.Rows.{row_word, row_number}
 use Rattle.state_adds.proofs.Laws.Code.{bits_same, bits_new, bits_none}
-use Rattle.base_tests.proofs.Laws.Below.{any_yes, any_no, any_at}
-
-module _ (n : ℕ) (f : ℕ → Bool) where
-  at : (k : ℕ) → k < n → get_or (range_with_len 0 n) k 0 ≡ k
-  at k h = get_or-range_with_len 0 n k 0 h ∙ (let z : 0 + k ≡ k = omega arith in z)
-
-  pub any_is : (r : Bool) → MatchBool r ((k : ℕ) × (k < length (range_with_len 0 n)) × HoldsAt (λ x. f x ≡ true) (range_with_len 0 n) k) (AllWithin (λ x. f x ≡ false) (range_with_len 0 n) 0 (length (range_with_len 0 n))) → r ≡ any_below n f
-  any_is true h = let e = length-range_with_len 0 n in let m = h.1 in let l : h.0 < n = omega arith in sym (any_yes n f h.0 l (sym (ap f (at h.0 l)) ∙ h.2 0))
-  any_is false h = let e = length-range_with_len 0 n in sym (any_no n f (λ k l. sym (ap f (at k l)) ∙ h k 0 (omega arith) (omega arith)))
+use Rattle.base_tests.proofs.Laws.Below.{any_no, any_at}
 
 -- whether word w of the second row has a bit that the first row's lacks
 abbrev pub word_adds : List ℕ → List ℕ → ℕ → ℕ → Bool
 word_adds rs qs i w = not (eqb (bit_or (row_word rs i w) (row_word qs i w)) (row_word rs i w))
 
--- a row has a bit that the other lacks where one of its 16 words has
 module _ (rs qs : List ℕ) (i : ℕ) (p : (k : ℕ) → get_or rs k 0 < 2 ^ 64) (q : (k : ℕ) → get_or qs k 0 < 2 ^ 64) where
   pub any_bits : any_below 16 (word_adds rs qs i) ≡ not (eqb (bit_or (row_number rs i) (row_number qs i)) (row_number rs i))
   unfolding row_word

@@ -1,7 +1,7 @@
 -- A law for each way through a function of the crate, over plain variables: the proof files cite them. Assumes nothing.
-use Rattle.std.specs.Prelude.{◌≡◌, refl, Bool, not, ◌||◌, List, eqb, length, get_or, set, replicate, Option, None, Some}
+use Rattle.std.specs.Prelude.{◌≡◌, refl, Bool, not, List, eqb, length, get_or, set, replicate, Option, None, Some}
 use Rattle.std.proofs.Math.Path.{sym, ap}
-use Rattle.std.proofs.Common.{ap₂, ◌∙◌, subst, ⊎_elim, mod-eq_of_lt, mod-lt, zero-lt-suc, add-zero, add-suc, not-suc-le-zero, eq-eqb, ne_eqb, ext_get_or}
+use Rattle.std.proofs.Common.{ap₂, ◌∙◌, subst, ⊎_elim, mod-eq_of_lt, mod-lt, zero-lt-suc, add-zero, add-suc, eq-eqb, ne_eqb, ext_get_or}
 use Rattle.std.proofs.Math.Bool.{true, false}
 use Prim.Native.Nat.{ℕ, zero, suc, ◌+◌, ◌-◌, ◌*◌, ◌/◌, ◌%◌, ◌^◌, ◌≤◌, ◌<◌, min, max}
 use native.Mathlib.Omega.{arith}
@@ -135,25 +135,6 @@ set_none x y b p q = nothing_new x y (none_of y (sym p ∙ q))
 
 -- ---- adds_values and adds_sets: a loop that goes down
 
-module _ (f : ℕ → Bool) (t : Bool) where
-  pub any_found : (v : ℕ) (b : Bool) → t ≡ any_below v f → 0 < v → b ≡ f (v - 1) → b ≡ true → true ≡ t
-  unfolding any_below
-  any_found zero b h l e u = absurd (not-suc-le-zero l)
-  any_found (suc v) b h l e u =
-      let z : suc v - 1 ≡ v = omega arith in
-      sym (h ∙ ap (λ (c : Bool). elim c as (λ x. Bool) [ true ↦ true | false ↦ any_below v f ]) (ap f (sym z) ∙ sym e ∙ u))
-
-  pub any_next : (v : ℕ) (b : Bool) → t ≡ any_below v f → 0 < v → b ≡ f (v - 1) → b ≡ false → t ≡ any_below (v - 1) f
-  unfolding any_below
-  any_next zero b h l e u = absurd (not-suc-le-zero l)
-  any_next (suc v) b h l e u =
-      let z : suc v - 1 ≡ v = omega arith in
-      h ∙ ap (λ (c : Bool). elim c as (λ x. Bool) [ true ↦ true | false ↦ any_below v f ]) (ap f (sym z) ∙ sym e ∙ u) ∙ ap (λ (n : ℕ). any_below n f) (sym z)
-
-  pub any_end : (v : ℕ) → t ≡ any_below v f → v ≤ 0 → false ≡ t
-  unfolding any_below
-  any_end v h l = sym (h ∙ ap (λ (n : ℕ). any_below n f) (let z : v ≡ 0 = omega arith in z))
-
 -- numbers from m on that fail need not be looked at
 any_cut : (f : ℕ → Bool) (m d : ℕ) → ((k : ℕ) → m ≤ k → k < m + d → f k ≡ false) → any_below (m + d) f ≡ any_below m f
 unfolding any_below
@@ -175,15 +156,6 @@ rows_cut ss ts r e =
     ∙ any_cut (set_adds ss ts) r (512 - r) (λ k p q. sym (nothing_new (set_at ss k) (set_at ts k) (row_past ts k (omega arith))))
 
 -- ---- adds and is_above
-
-module _ (vs ss ws ts : List ℕ) where
-  pub adds_by_values : (b : Bool) → b ≡ any_below 1024 (value_adds vs ws) → b ≡ true → true ≡ adds (entries vs ss) (entries ws ts)
-  unfolding adds
-  adds_by_values b p q = ap (λ (c : Bool). c || any_below 512 (set_adds ss ts)) (sym q ∙ p)
-
-  pub adds_by_sets : (b c : Bool) → b ≡ any_below 1024 (value_adds vs ws) → b ≡ false → c ≡ any_below 512 (set_adds ss ts) → c ≡ adds (entries vs ss) (entries ws ts)
-  unfolding adds
-  adds_by_sets b c p q e = e ∙ ap (λ (d : Bool). d || any_below 512 (set_adds ss ts)) (sym q ∙ p)
 
 not_not : (b : Bool) → not (not b) ≡ b
 not_not true = refl

@@ -1,7 +1,8 @@
 -- `state_adds::adds_bits` meets its contract: what the search of the words finds. Assumes nothing.
 use Rattle.std.proofs.Common.{arith, rules, refl, true, false, ◌≡◌, ◌∙◌}
 use Rattle.std.proofs.lemmas.Iterator.{cases_from_any, YieldsList-from_range}
-use Rattle.state_adds.proofs.Laws.Any.{any_is, word_adds, any_bits}
+use Rattle.base_tests.proofs.Laws.Any.{any_is}
+use Rattle.state_adds.proofs.Laws.Any.{word_adds, any_bits}
 use Rattle.state_adds.proofs.adds_bits.Goals as goal
 
 pub returns : goal.returns

@@ -2,7 +2,7 @@
 use Rattle.std.proofs.Common.{rules, refl, sym, true, false, ◌≡◌}
 use Rattle.std.proofs.lemmas.Iterator.{cases_from_any, YieldsList-from_range}
 use Rattle.state_adds.specs.Lists.{value_adds}
-use Rattle.state_adds.proofs.Laws.Any.{any_is}
+use Rattle.base_tests.proofs.Laws.Any.{any_is}
 use Rattle.state_adds.proofs.adds_values.Goals as goal
 
 pub returns : goal.returns

@@ -5,9 +5,9 @@ use Rattle.std.proofs.Math.Path.{◌≡◌, ap, ap₂}
 use Rattle.std.specs.Prelude.{refl, Bool, true, not, ◌||◌, List, eqb, ltb, ◌⊎◌, Option, None, Some}
 use Rattle.std.proofs.Common.{sym, ◌∙◌, inl, inr}
 use Rattle.std.proofs.Math.Bool.{false}
-use borrow.Author.Tests.{lt-ltb, ltb-true, not-false, eq-eqb, ne_eqb}
+use borrow.Author.Tests.{lt-ltb, ltb-true, not-false, eq-eqb}
 use Rattle.base_tests.specs.Tests.{ite, is_some}
-use Rattle.base_tests.proofs.Laws.Bool.{never, or_first, or_second}
+use Rattle.base_tests.proofs.Laws.Bool.{never}
 use Rattle.refuse_entries.proofs.Laws.Accepted.{refusal_one, accepted_lent}
 use Rattle.refuse_entries.specs.Words.{state_refusal, identifiers}
 use Rattle.def_kinds.specs.declared.AbstractValue.{AbstractValue}
@@ -37,36 +37,6 @@ use Rattle.state_ops.specs.Use.{after_use}
 -- ---- the lower class
 
 module _ (r : ℕ) (out unfit : Bool) where
-  pub worst_1 : r ≡ 1 → 1 ≡ worst r out unfit
-  unfolding worst
-  worst_1 e = ap (λ (b : Bool). ite b 1 (ite (eqb r 3 || out) 3 (ite (eqb r 4 || unfit) 4 0))) (sym (eq-eqb r 1 e))
-
-  past_1 : (r ≡ 1 → ⊥) → ite (eqb r 3 || out) 3 (ite (eqb r 4 || unfit) 4 0) ≡ worst r out unfit
-  unfolding worst
-  past_1 h = ap (λ (b : Bool). ite b 1 (ite (eqb r 3 || out) 3 (ite (eqb r 4 || unfit) 4 0))) (sym (ne_eqb r 1 h))
-
-  pub worst_3 : (r ≡ 1 → ⊥) → r ≡ 3 → 3 ≡ worst r out unfit
-  worst_3 h e = ap (λ (b : Bool). ite b 3 (ite (eqb r 4 || unfit) 4 0)) (sym (or_first (eqb r 3) out (eq-eqb r 3 e))) ∙ past_1 h
-
-  pub worst_out : (r ≡ 1 → ⊥) → (r ≡ 3 → ⊥) → out ≡ true → 3 ≡ worst r out unfit
-  worst_out h i e = ap (λ (b : Bool). ite b 3 (ite (eqb r 4 || unfit) 4 0)) (sym (or_second (eqb r 3) out (ne_eqb r 3 i) ∙ e)) ∙ past_1 h
-
-  past_3 : (r ≡ 1 → ⊥) → (r ≡ 3 → ⊥) → out ≡ false → ite (eqb r 4 || unfit) 4 0 ≡ worst r out unfit
-  past_3 h i e = ap (λ (b : Bool). ite b 3 (ite (eqb r 4 || unfit) 4 0)) (sym (or_second (eqb r 3) out (ne_eqb r 3 i) ∙ e)) ∙ past_1 h
-
-  pub worst_4 : (r ≡ 1 → ⊥) → (r ≡ 3 → ⊥) → out ≡ false → r ≡ 4 → 4 ≡ worst r out unfit
-  worst_4 h i e f = ap (λ (b : Bool). ite b 4 0) (sym (or_first (eqb r 4) unfit (eq-eqb r 4 f))) ∙ past_3 h i e
-
-  pub worst_unfit : (r ≡ 1 → ⊥) → (r ≡ 3 → ⊥) → out ≡ false → (r ≡ 4 → ⊥) → (b : Bool) → unfit ≡ b → ite b 4 0 ≡ worst r out unfit
-  worst_unfit h i e f b g = ap (λ (x : Bool). ite x 4 0) (sym (or_second (eqb r 4) unfit (ne_eqb r 4 f) ∙ g)) ∙ past_3 h i e
-
-  -- the same of each answer to the last test
-  pub worst_last : (r ≡ 1 → ⊥) → (r ≡ 3 → ⊥) → out ≡ false → (r ≡ 4 → ⊥) → unfit ≡ true → 4 ≡ worst r out unfit
-  worst_last h i e f g = worst_unfit h i e f true g
-
-  pub worst_none : (r ≡ 1 → ⊥) → (r ≡ 3 → ⊥) → out ≡ false → (r ≡ 4 → ⊥) → unfit ≡ false → 0 ≡ worst r out unfit
-  worst_none h i e f g = worst_unfit h i e f false g
-
   -- no class at all: neither the state's nor the arguments'
   pub worst_0 : worst r out unfit ≡ 0 → (r ≡ 1 → ⊥) × (r ≡ 3 → ⊥) × (r ≡ 4 → ⊥) × (out ≡ false) × (unfit ≡ false)
   unfolding worst
