@@ -3,9 +3,8 @@ use Rattle.lent_copies.proofs.Laws.Copy.{cleared}
 use Rattle.image_outcome.proofs.Laws.Inferring.{settled_same, settled_zero}
 use Rattle.image_run.proofs.settle.Goals as goal
 
-pub returns-else-shown-ne0 : goal.returns-else-shown-ne0
-returns-else-shown-ne0 c = settled_same _ _ _ _ c.if-shown-ne0.false
+pub returns-else-is_err : goal.returns-else-is_err
+returns-else-is_err c = ?
 
-pub returns-then-shown-ne0 : goal.returns-then-shown-ne0
-returns-then-shown-ne0 c =
-    settled_zero _ _ _ _ _ _ _ c.if-shown-ne0.true (cleared _ _ (c.fill.ensures.after (λ y h. h))) (cleared _ _ (c.fill-then-shown-ne0.ensures.after (λ y h. h))) (cleared _ _ (c.fill-then-shown-ne0-2.ensures.after (λ y h. h)))
+pub returns-then-is_err : goal.returns-then-is_err
+returns-then-is_err c = ?
