@@ -148,7 +148,8 @@ pub fn put_value_line(text: &mut Text, values: &[u64], v: u32)
 // "its values, or `-` for an empty set."
 fn put_members(text: &mut Text, sets: &[u64], i: u32)
     ensures kept { Kept text.old text.new }
-    ensures written { cursor_of text.new ≡ put_all (columns (or_absent (values_of (set_at sets.now i)))) (cursor_of text.old) }
+    ensures written { cursor_of text.new
+        ≡ put_all (columns (or_absent (values_of (set_at sets.now i)))) (cursor_of text.old) }
 {
     if size(sets, i) == 0 {
         text.put_absent();

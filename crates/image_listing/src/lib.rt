@@ -56,7 +56,8 @@ fn put_listed_piece(
     output: &[u32],
     buffer: &mut [u8],
 ) -> usize
-    ensures { WritesInto buffer.old buffer.new result (listed_piece (answer_of (Ok shown)) values.now sets.now output.now k) }
+    ensures { WritesInto buffer.old buffer.new result
+        (listed_piece (answer_of (Ok shown)) values.now sets.now output.now k) }
 {
     match k {
         0 => put_head(buffer, shown.count, shown.entries),

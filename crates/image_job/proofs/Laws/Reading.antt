@@ -14,12 +14,7 @@ use Rattle.def_image.specs.Refusals.{refusal_of_words, refusal_of}
 use Rattle.image_words.specs.Loaded.{loaded}
 use Rattle.image_words.proofs.Laws.Load.{loaded_whole}
 use Rattle.image_decode.specs.Decoded.{decoded_values, decoded_sets, decoded_context, decoded_candidates}
-use Rattle.std.specs.Prelude.{Result, Ok, Err}
-use Rattle.def_refusals.specs.declared.Refusal.{Refusal}
-use Rattle.def_refusals.specs.Verdicts.{number_of, class_of}
-use Rattle.def_refusals.proofs.Laws.Verdicts.{number_some}
-use Rattle.image_job.specs.declared.Job.{Job}
-use Rattle.image_job.specs.Reading.{Said, said_of, Tables, tables, Read, given, job_of, filled, no_job, refused_with, read_words, lent_wrong, read_class, read_image}
+use Rattle.image_job.specs.Reading.{Said, Tables, tables, Read, given, job_of, filled, no_job, refused_with, read_words, lent_wrong, read_class, read_image}
 
 -- ---- the words of an image
 
@@ -45,16 +40,6 @@ words_read bs im m vs ss cs xs us ts ds ys n j e f g hv hs hc hx hj =
   where
     whole : given j us ts ds ys ≡ record { job = job_of (loaded bs m); tables = filled (loaded bs m) (tables vs ss cs xs) }
     whole = cc
-
--- ---- lengths
-
--- a length that is not what it must be
-pub wrong_here : (m n : ℕ) (rest : Bool) → (m ≡ n → ⊥) → true ≡ (not (eqb m n) || rest)
-wrong_here m n rest h = sym (ap (λ (b : Bool). not b || rest) (ne_eqb m n h))
-
--- a length that is
-pub right_here : (m n : ℕ) (rest : Bool) → m ≡ n → rest ≡ (not (eqb m n) || rest)
-right_here m n rest h = sym (ap (λ (b : Bool). not b || rest) (eq-eqb m n h))
 
 -- ---- the bytes of an image
 

@@ -1,5 +1,6 @@
 -- Laws by which the functions from the bytes of an image to what is shown of it meet their definitions, one for each way through. Assumes nothing.
 use Rattle.std.specs.Prelude.{ℕ, ◌+◌, ◌-◌, ◌≤◌, ◌≡◌, Bool, not, ◌||◌, eqb, ltb, length, take, drop, get_or, Result, Ok, Err}
+use Rattle.std.specs.Result.{is_err}
 use Rattle.std.proofs.Common.{arith, ◌∙◌, length-drop, drop_of_length-le, length-take-le, take_at}
 use Rattle.std.proofs.Math.Path.{refl, sym, ap, ap₂}
 use Rattle.std.proofs.Math.Bool.{true, false}
@@ -37,7 +38,6 @@ use Rattle.refuse_records.specs.Accepting.{context_class}
 use Rattle.call_outcome.specs.Calls.{Call, Outcome, call, given, wrong_context, lengths_wrong, candidate_count, call_class, lent_instruction, lent_world, concluded, outcome}
 use Rattle.image_pieces.specs.declared.Shown.{Shown}
 use Rattle.image_pieces.specs.Pieces.{Answer, answer_of}
-use Rattle.image_job.proofs.Laws.Reading.{wrong_here, right_here}
 use Rattle.image_job.specs.Reading.{Said, said_of, Tables, tables, Read, given as given_read, job_of, filled, no_job, lent_wrong, read_class, read_image}
 use Rattle.image_outcome.specs.Inferring.{empty, set_words, candidate_words, job_call, image_call, memory_wrong, any_wrong, Left, left, refused_as, answered, keeps, settled, nothing, leaves, Fits}
 
@@ -56,16 +56,26 @@ answered_ran a h = sym (ite_eq a.refusal 0 _ _ h)
 
 module _ (s : Answer) (vs ss os : List ℕ) where
   -- nothing is cleared
-  -- one way through `settle`
-  pub settled_same : s.refusal ≡ 0 → left s vs ss os ≡ settled (left s vs ss os)
+  settled_same : s.refusal ≡ 0 → left s vs ss os ≡ settled (left s vs ss os)
   unfolding settled
   settled_same h = sym (ite_eq s.refusal 0 _ _ h)
 
   -- everything is
-  pub settled_zero : (us ts ps : List ℕ) → (s.refusal ≡ 0 → ⊥) → us ≡ zeros (length vs) → ts ≡ zeros (length ss) → ps ≡ zeros (length os) → left s us ts ps ≡ settled (left s vs ss os)
+  settled_zero : (us ts ps : List ℕ) → (s.refusal ≡ 0 → ⊥) → us ≡ zeros (length vs) → ts ≡ zeros (length ss) → ps ≡ zeros (length os) → left s us ts ps ≡ settled (left s vs ss os)
   unfolding settled
   settled_zero us ts ps h a b c =
       ap₂ (λ (x y : List ℕ). left s x y ps) a b ∙ ap (left s (zeros (length vs)) (zeros (length ss))) c ∙ sym (ite_ne s.refusal 0 _ _ h)
+
+module _ (vs ss os : List ℕ) where
+  -- the same of what the code answers
+  -- one way through `settle` each
+  pub settled_shown : (a : Result Shown Refusal) → is_err a ≡ false → left (answer_of a) vs ss os ≡ settled (left (answer_of a) vs ss os)
+  settled_shown (Ok s) h = settled_same (answer_of (Ok s)) vs ss os refl
+  settled_shown (Err n) h = absurd (let z : ◌≡◌ {A = ℕ} 0 1 = cc in omega arith)
+
+  pub settled_refused : (a : Result Shown Refusal) (us ts ps : List ℕ) → is_err a ≡ true → us ≡ zeros (length vs) → ts ≡ zeros (length ss) → ps ≡ zeros (length os) → left (answer_of a) us ts ps ≡ settled (left (answer_of a) vs ss os)
+  settled_refused (Ok s) us ts ps h e f g = absurd (let z : ◌≡◌ {A = ℕ} 0 1 = cc in omega arith)
+  settled_refused (Err n) us ts ps h e f g = settled_zero (answer_of (Err n)) vs ss os us ts ps (number_some n) e f g
 
 -- ---- the memory of a call
 
@@ -178,26 +188,8 @@ runs_job vs ss cs xs j os s64 s32 m n e a r ws us ds ps t64 t32 ts hm hn he lm l
 
 -- ---- lengths
 
--- the three lengths, tested one after the other
--- one law for each way through `memory_wrong`
+-- the three lengths
 module _ (o p q : ℕ) where
-  -- the output list has another length
-  -- nothing else is looked at
-  pub wrong_output : (o ≡ Layout.output_words → ⊥) → true ≡ memory_wrong o p q
-  unfolding memory_wrong
-  wrong_output h = wrong_here o Layout.output_words _ h
-
-  -- scratch for a state has
-  pub wrong_64 : o ≡ Layout.output_words → (p ≡ 9216 → ⊥) → true ≡ memory_wrong o p q
-  unfolding memory_wrong
-  wrong_64 g h = wrong_here p 9216 _ h ∙ right_here o Layout.output_words _ g
-
-  -- scratch for a context decides
-  -- all else is right
-  pub wrong_32 : o ≡ Layout.output_words → p ≡ 9216 → not (eqb q Layout.saved_words) ≡ memory_wrong o p q
-  unfolding memory_wrong
-  wrong_32 e f = right_here p 9216 _ f ∙ right_here o Layout.output_words _ e
-
   -- memory of the right lengths
   pub memory_right : memory_wrong o p q ≡ false → (o ≡ Layout.output_words) × (p ≡ 9216) × (q ≡ Layout.saved_words)
   unfolding memory_wrong

@@ -5,13 +5,14 @@ use Rattle.def_refusals.specs.declared.Refusal.{Refusal}
 use Rattle.def_refusals.proofs.Laws.Verdicts.{number_some}
 use Rattle.call_outcome.specs.declared.Applied.{Applied}
 use Rattle.call_outcome.specs.Calls.{told}
-use Rattle.image_outcome.specs.Inferring.{answered, refused_as}
+use Rattle.image_outcome.specs.Inferring.{answered}
 use Rattle.image_outcome.proofs.Laws.Inferring.{answered_refused, answered_ran}
 use Rattle.image_run.proofs.shown_of.Goals as goal
 
-pub returns-in-Ok : goal.returns-in-Ok
-returns-in-Ok c = λ s f. answered_ran (told s f (Ok c.in-Ok.applied)) refl ∙ ap (λ (x : Result Applied Refusal). answered (told s f x)) (sym c.in-Ok.is)
+pub returns-in_err : goal.returns-in_err
+returns-in_err c =
+    λ s f. answered_refused (told s f (Err c.in_err.error)) _ (number_some c.in_err.error) refl ∙ ap (λ (x : Result Applied Refusal). answered (told s f x)) (sym c.in_err.is)
 
-pub returns-in-Err : goal.returns-in-Err
-returns-in-Err c =
-    λ s f. answered_refused (told s f (Err c.in-Err.refusal)) _ (number_some c.in-Err.refusal) (c.refused.ensures ∙ ap refused_as c.number.ensures) ∙ ap (λ (x : Result Applied Refusal). answered (told s f x)) (sym c.in-Err.is)
+pub returns : goal.returns
+returns c =
+    λ s f. answered_ran (told s f (Ok c.in_ok.value)) refl ∙ ap (λ (x : Result Applied Refusal). answered (told s f x)) (sym c.in_ok.is)
