@@ -1,5 +1,5 @@
 -- `image_read::read_words` meets its contract: a class refuses the words, or all tables are filled. Assumes nothing.
-use mathlib.Core.Path.{refl, sym}
+use mathlib.Core.Path.{refl}
 use Rattle.def_refusals.proofs.Laws.Verdicts.{number_some}
 use Rattle.laws_monad.proofs.Laws.Answers.{passes}
 use Rattle.image_job.proofs.Laws.Reading.{words_refused, words_read}
