@@ -4,7 +4,9 @@
 
 ghost use Rattle.std.specs.Prelude.{◌≡◌};
 ghost use Rattle.def_image.specs.Refusals.{earns_five, refusal_of_words};
+ghost use Rattle.def_refusals.specs.Verdicts.{class_of};
 
+use def_refusals::{Refusal, Verdict};
 use image_class2::{Section, any_record, earns_two, is_apply};
 use image_class3_candidates::earns_three;
 use image_class4::earns_four;
@@ -18,21 +20,21 @@ pub fn earns_five(im: &[u32]) -> bool
     any_record(im, Section::Candidates, |k| is_apply(im, k))
 }
 
-// The lowest of the classes 2 to 5 that the words of an image earn, 0 where they earn none.
+// The lowest of the classes 2 to 5 that the words of an image earn, if they earn one.
 // "Order 1 to 5 over the whole input"
 #[tactic(auto, unfolding(def_image::specs::Refusals::refusal_of_words))]
-pub fn words_refusal(im: &[u32]) -> u32
-    ensures { result ≡ refusal_of_words im.now }
+pub fn words_refusal(im: &[u32]) -> Verdict
+    ensures { class_of result ≡ refusal_of_words im.now }
 {
     if earns_two(im) {
-        2
+        Err(Refusal::Count)
     } else if earns_three(im) {
-        3
+        Err(Refusal::Range)
     } else if earns_four(im) {
-        4
+        Err(Refusal::Order)
     } else if earns_five(im) {
-        5
+        Err(Refusal::Apply)
     } else {
-        0
+        Ok(())
     }
 }

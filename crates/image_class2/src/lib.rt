@@ -7,7 +7,7 @@ ghost use Rattle.base_tests.specs.Tests.{any_below};
 ghost use Rattle.def_image.specs.Refusals.{any_neighbours, any_record, creates_function, earns_two, is_apply, long_candidate, long_function, misplaced, too_many_records, wrong_edition, wrong_end, wrong_header};
 ghost use Rattle.def_image.specs.Layout as Image;
 ghost use Rattle.def_image.specs.Layout.{cell, count_of, end_of, offset_of, size_of, start_of, word};
-ghost use Rattle.image_class2.specs.Sections.{number_of};
+ghost use Rattle.image_class2.specs.Sections.{number_of, SearchesAs};
 
 // The sections of an image, in the order of the header's counts and offsets.
 #[derive(Clone, Copy, Debug, PartialEq, Eq)]
@@ -150,7 +150,7 @@ pub fn next_cell(im: &[u32], section: Section, k: u32, j: u32) -> u32
 // Where the test answers as a definition `f` does, so does the search.
 pub fn any_below<F: Fn(u32) -> bool>(n: u32, test: F) -> bool
     requires { F.IsAlwaysCallable test }
-    ensures { (f : ℕ → Bool) → ((k : ℕ) (b : Bool) → F.post test k b → b ≡ f k) → result ≡ any_below n f }
+    ensures { SearchesAs (F.post test) (any_below n) result }
 {
     (0..n).any(test)
 }
@@ -159,7 +159,7 @@ pub fn any_below<F: Fn(u32) -> bool>(n: u32, test: F) -> bool
 #[tactic(auto, unfolding(def_image::specs::Refusals::any_record))]
 pub fn any_record<F: Fn(u32) -> bool>(im: &[u32], section: Section, test: F) -> bool
     requires { F.IsAlwaysCallable test }
-    ensures { (f : ℕ → Bool) → ((k : ℕ) (b : Bool) → F.post test k b → b ≡ f k) → result ≡ any_record im.now (number_of section) f }
+    ensures { SearchesAs (F.post test) (any_record im.now (number_of section)) result }
 {
     any_below(count_of(im, section), test)
 }
@@ -169,7 +169,7 @@ pub fn any_record<F: Fn(u32) -> bool>(im: &[u32], section: Section, test: F) -> 
 #[tactic(auto, unfolding(def_image::specs::Refusals::any_neighbours))]
 pub fn any_neighbours<F: Fn(u32) -> bool>(im: &[u32], section: Section, test: F) -> bool
     requires { F.IsAlwaysCallable test }
-    ensures { (f : ℕ → Bool) → ((k : ℕ) (b : Bool) → F.post test k b → b ≡ f k) → result ≡ any_neighbours im.now (number_of section) f }
+    ensures { SearchesAs (F.post test) (any_neighbours im.now (number_of section)) result }
 {
     any_below(count_of(im, section).saturating_sub(1), test)
 }

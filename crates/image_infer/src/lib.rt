@@ -7,9 +7,10 @@ ghost use Rattle.lent_copies.specs.Cleared.{Cleared};
 ghost use Rattle.image_outcome.specs.Inferring.{settled, pieces_of};
 ghost use Rattle.image_outcome.specs.Promise.{left_by, leaves_for, written_for, MeansPlain};
 
+use def_refusals::Refusal;
 use image_pieces::Shown;
 use image_read::read_image;
-use image_run::{clear_work, memory_wrong, refused, run_tables, settle};
+use image_run::{clear_work, memory_wrong, run_tables, settle};
 
 // The image is read and its job runs; what is shown of what comes of it, or the number with which it is refused.
 // After a refusal the caller clears what stands in the tables.
@@ -23,17 +24,14 @@ fn run_image(
     output: &mut [u32],
     scratch64: &mut [u64],
     scratch32: &mut [u32],
-) -> Shown
+) -> Result<Shown, Refusal>
     ensures { settled (left_by result values.new sets.new output.new)
         ≡ leaves_for bytes.now words.old values.old sets.old context.old candidates.old output.old scratch64.old scratch32.old }
 {
     if memory_wrong(output, scratch64, scratch32) {
-        return refused(1);
+        return Err(Refusal::Length);
     }
-    let job = read_image(bytes, words, values, sets, context, candidates);
-    if job.refusal != 0 {
-        return refused(job.refusal);
-    }
+    let job = read_image(bytes, words, values, sets, context, candidates)?;
     run_tables(
         values, sets, context, candidates, job, output, scratch64, scratch32,
     )
@@ -52,7 +50,7 @@ pub fn infer_image(
     output: &mut [u32],
     scratch64: &mut [u64],
     scratch32: &mut [u32],
-) -> Shown
+) -> Result<Shown, Refusal>
     ensures { (left_by result values.new sets.new output.new
         ≡ leaves_for bytes.now words.old values.old sets.old context.old candidates.old output.old scratch64.old scratch32.old)
         × (pieces_of (left_by result values.new sets.new output.new)

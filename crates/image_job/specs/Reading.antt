@@ -1,8 +1,11 @@
 -- Reading a job image into lent tables: which bytes give which tables, and which refusal (document 01, 'The job image and its program', 'Refused calls').
 -- Assumes nothing: these are definitions.
-use Rattle.std.specs.Prelude.{ℕ, Bool, not, ◌||◌, List, eqb, length}
+use Rattle.std.specs.Prelude.{ℕ, Bool, not, ◌||◌, List, eqb, length, Result, Ok, Err}
 use Rattle.base_tests.specs.Tests.{ite}
 use Rattle.lent_copies.specs.Copies.{zeros}
+use Rattle.def_refusals.specs.declared.Refusal.{Refusal}
+use Rattle.def_refusals.specs.Verdicts.{number_of}
+use Rattle.def_effects.specs.declared.Place.{Place}
 use Rattle.def_effects.specs.declared.Session.{Session}
 use Rattle.def_effects.specs.Places.{no_span}
 use Rattle.lent_layout.specs.Layout as Layout
@@ -26,14 +29,24 @@ pub record Tables : Type 0 where
 abbrev pub tables : List ℕ → List ℕ → List ℕ → List ℕ → Tables
 tables vs ss cs xs = record { values = vs; sets = ss; context = cs; candidates = xs }
 
--- what reading gives: the job by value, and the tables as they are then
+-- what an image says beside its tables, or the number with which it is refused: the session to start with, lvalue and own function (+ 1, or 0),
+-- how many identifiers are in its list, and how many candidates it has
+pub record Said : Type 0 where
+  pub refusal : ℕ
+  pub session : Session
+  pub lvalue : Place
+  pub own : ℕ
+  pub identifiers : ℕ
+  pub candidates : ℕ
+
+-- what reading gives: what the image says by value, and the tables as they are then
 -- both after a refusal and without one
 pub record Read : Type 0 where
-  pub job : Job
+  pub job : Said
   pub tables : Tables
 
 -- the same, in the order of the function's parameters
-abbrev pub given : Job → List ℕ → List ℕ → List ℕ → List ℕ → Read
+abbrev pub given : Said → List ℕ → List ℕ → List ℕ → List ℕ → Read
 given j vs ss cs xs = record { job = j; tables = tables vs ss cs xs }
 
 -- ---- an accepted image
@@ -45,7 +58,7 @@ session_of im = record { next = next im; access = 0; span = no_span; entries = 0
 
 -- what an accepted image says beside its tables
 -- "lvalue's place index; own function + 1 or 0", and two counts
-unfoldable pub job_of : Image → Job
+unfoldable pub job_of : Image → Said
 job_of im = record {
   refusal = 0;
   session = session_of im;
@@ -68,7 +81,7 @@ filled im t =
 
 -- it says nothing but its number
 -- all else is zero
-unfoldable pub no_job : ℕ → Job
+unfoldable pub no_job : ℕ → Said
 no_job n = record {
   refusal = n;
   session = record { next = 0; access = 0; span = span 0 0; entries = 0 };
@@ -77,6 +90,18 @@ no_job n = record {
   identifiers = 0;
   candidates = 0;
 }
+
+-- what the code answers, as such a record: of a refused image it is nothing but its number
+abbrev pub said_of : Result Job Refusal → Said
+said_of (Ok j) = record {
+  refusal = 0;
+  session = j.session;
+  lvalue = j.lvalue;
+  own = j.own;
+  identifiers = j.identifiers;
+  candidates = j.candidates;
+}
+said_of (Err refusal) = no_job (number_of refusal)
 
 -- and the tables stay as they were
 -- "After a refusal state, context and session are as before"

@@ -1,18 +1,17 @@
 // The job of an image by value: its header, and what its tables hold.
 #![tactic(auto)]
 
-ghost use Rattle.std.specs.Prelude.{◌≡◌};
-ghost use Rattle.image_job.specs.Reading.{job_of, no_job};
+ghost use Rattle.std.specs.Prelude.{◌≡◌, Ok};
+ghost use Rattle.image_job.specs.Reading.{job_of, said_of};
 
 use def_effects::{Place, Session, Span};
 use image_class2::{Section, count_of, word};
 use image_decode::place_at;
 
-// What an image says beside its tables, or the number with which it is refused: the session to start with, lvalue and own function (+ 1, or 0),
+// What an accepted image says beside its tables: the session to start with, lvalue and own function (+ 1, or 0),
 // how many identifiers are in its list, and how many candidates it has.
 #[derive(Clone, Copy)]
 pub struct Job {
-    pub refusal: u32,
     pub session: Session,
     pub lvalue: Place,
     pub own: u32,
@@ -20,41 +19,13 @@ pub struct Job {
     pub candidates: u32,
 }
 
-// A refused image says nothing.
-// "With a number come zero effects and count."
-#[tactic(auto, unfolding(crate::specs::Reading::no_job))]
-pub fn no_job(refusal: u32) -> Job
-    ensures { result ≡ no_job refusal }
-{
-    let span = Span { start: 0, end: 0 };
-    Job {
-        refusal,
-        session: Session {
-            next: 0,
-            access: 0,
-            span,
-            entries: 0,
-        },
-        lvalue: Place {
-            identifier: 0,
-            effect: 0,
-            reactive: 0,
-            span,
-        },
-        own: 0,
-        identifiers: 0,
-        candidates: 0,
-    }
-}
-
 // What the words of an accepted image say beside the tables.
 // "next number 1..512; lvalue's place index; own function + 1 or 0"; no access is recorded yet.
 #[tactic(auto, unfolding(crate::specs::Reading::job_of))]
 pub fn job_of(im: &[u32]) -> Job
-    ensures { result ≡ job_of im.now }
+    ensures { said_of (Ok result) ≡ job_of im.now }
 {
     Job {
-        refusal: 0,
         session: Session {
             next: word(im, 2),
             access: 0,

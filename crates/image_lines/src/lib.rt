@@ -8,17 +8,15 @@ ghost use Rattle.lent_sets.specs.Rows.{set_at};
 ghost use Rattle.base_sets.specs.Members.{values_of};
 ghost use Rattle.lent_effects.specs.Records.{effect_with};
 ghost use Rattle.def_image.specs.Listing.{ascii, effect_row, line, or_absent, place, refusal_line, row, set_line, undefined_identifier, value_line};
-ghost use Rattle.image_text.specs.Texts.{columns, cursor, put_all};
+ghost use Rattle.image_text.specs.Texts.{columns, cursor_of, Kept, put_all};
 ghost use Rattle.image_pieces.specs.Pieces.{effect_line, WritesInto};
 
 use def_effects::Place;
-use image_text::{
-    mutation_reason, put_absent, put_line, put_newline, put_number, put_text, undefined_identifier,
-};
+use image_text::{Text, mutation_reason, undefined_identifier};
 use lent_effect_read::effect_in;
 use lent_effects::{AliasingEffect, kind_word};
 use lent_layout::OUTPUT;
-use lent_members::next_member;
+use lent_members::{members, size};
 use lent_sets::is_defined;
 use lent_values::value_at;
 
@@ -27,7 +25,9 @@ use lent_values::value_at;
 pub fn put_head(buffer: &mut [u8], count: u32, entries: u32) -> usize
     ensures { WritesInto buffer.old buffer.new result (line (ascii "OK") (Some count ∷ Some entries ∷ [])) }
 {
-    put_line(buffer, 0, b"OK", &[Some(count), Some(entries)])
+    let mut text = Text { buffer, at: 0 };
+    text.put_line(b"OK", &[Some(count), Some(entries)]);
+    text.at
 }
 
 // ---- effects
@@ -119,31 +119,26 @@ fn effect_row(e: AliasingEffect) -> [Option<u32>; 6]
 
 // The line of effect k of the output list, if there are more than k.
 // In the order in which they were listed.
-pub fn put_effect_line(buffer: &mut [u8], at: usize, output: &[u32], count: u32, k: u32) -> usize
-    ensures { cursor result buffer.new ≡ put_all (effect_line output.now count k) (cursor at buffer.old) }
+pub fn put_effect_line(text: &mut Text, output: &[u32], count: u32, k: u32)
+    ensures kept { Kept text.old text.new }
+    ensures written { cursor_of text.new ≡ put_all (effect_line output.now count k) (cursor_of text.old) }
 {
-    if k >= count {
-        return at;
+    if k < count {
+        let row = effect_row(effect_in(OUTPUT, output, k as usize));
+        text.put_line(b"E", &row);
     }
-    let row = effect_row(effect_in(OUTPUT, output, k as usize));
-    put_line(buffer, at, b"E", &row)
 }
 
 // ---- values
 
 // The line of a value number, if it has an entry.
 // "V: number, kind, reasons."
-pub fn put_value_line(buffer: &mut [u8], at: usize, values: &[u64], v: u32) -> usize
-    ensures { cursor result buffer.new ≡ put_all (value_line v (value_at values.now v)) (cursor at buffer.old) }
+pub fn put_value_line(text: &mut Text, values: &[u64], v: u32)
+    ensures kept { Kept text.old text.new }
+    ensures written { cursor_of text.new ≡ put_all (value_line v (value_at values.now v)) (cursor_of text.old) }
 {
-    match value_at(values, v as usize) {
-        None => at,
-        Some(a) => put_line(
-            buffer,
-            at,
-            b"V",
-            &[Some(v), Some(kind_word(a.kind)), Some(a.reason)],
-        ),
+    if let Some(a) = value_at(values, v as usize) {
+        text.put_line(b"V", &[Some(v), Some(kind_word(a.kind)), Some(a.reason)]);
     }
 }
 
@@ -151,23 +146,17 @@ pub fn put_value_line(buffer: &mut [u8], at: usize, values: &[u64], v: u32) -> u
 
 // The columns of an identifier's values, ascending; a dash where there are none.
 // "its values, or `-` for an empty set."
-fn put_members(buffer: &mut [u8], at: usize, sets: &[u64], i: u32) -> usize
-    ensures { cursor result buffer.new
-        ≡ put_all (columns (or_absent (values_of (set_at sets.now i)))) (cursor at buffer.old) }
+fn put_members(text: &mut Text, sets: &[u64], i: u32)
+    ensures kept { Kept text.old text.new }
+    ensures written { cursor_of text.new
+        ≡ put_all (columns (or_absent (values_of (set_at sets.now i)))) (cursor_of text.old) }
 {
-    if !is_defined(sets, i) {
-        return put_absent(buffer, at);
+    if size(sets, i) == 0 {
+        text.put_absent();
     }
-    let mut m = next_member(sets, i, 1);
-    if m >= 1024 {
-        return put_absent(buffer, at);
+    for m in members(sets, i) {
+        text.put_number(m);
     }
-    let mut next = at;
-    while m < 1024 {
-        next = put_number(buffer, next, m);
-        m = next_member(sets, i, m + 1);
-    }
-    next
 }
 
 // The line of an identifier, if it is defined.
@@ -178,10 +167,12 @@ pub fn put_set_line(buffer: &mut [u8], sets: &[u64], i: u32) -> usize
     if !is_defined(sets, i) {
         return 0;
     }
-    let p = put_text(buffer, 0, b"P");
-    let a = put_number(buffer, p, i);
-    let b = put_members(buffer, a, sets, i);
-    put_newline(buffer, b)
+    let mut text = Text { buffer, at: 0 };
+    text.put_bytes(b"P");
+    text.put_number(i);
+    put_members(&mut text, sets, i);
+    text.put_newline();
+    text.at
 }
 
 // ---- the last line, and that of a refusal
@@ -191,7 +182,9 @@ pub fn put_set_line(buffer: &mut [u8], sets: &[u64], i: u32) -> usize
 pub fn put_undefined(buffer: &mut [u8], access: u32) -> usize
     ensures { WritesInto buffer.old buffer.new result (line (ascii "U") (undefined_identifier access ∷ [])) }
 {
-    put_line(buffer, 0, b"U", &[undefined_identifier(access)])
+    let mut text = Text { buffer, at: 0 };
+    text.put_line(b"U", &[undefined_identifier(access)]);
+    text.at
 }
 
 // The line of a refusal.
@@ -199,5 +192,7 @@ pub fn put_undefined(buffer: &mut [u8], access: u32) -> usize
 pub fn put_refusal(buffer: &mut [u8], n: u32) -> usize
     ensures { WritesInto buffer.old buffer.new result (refusal_line n) }
 {
-    put_line(buffer, 0, b"REFUSED", &[Some(n)])
+    let mut text = Text { buffer, at: 0 };
+    text.put_line(b"REFUSED", &[Some(n)]);
+    text.at
 }

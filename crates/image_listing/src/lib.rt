@@ -2,40 +2,41 @@
 // A host calls `put_piece` with each number below `piece_count`, and writes out what stands in the buffer after each call.
 #![tactic(auto)]
 
-ghost use Rattle.std.specs.Prelude.{◌≡◌, ◌+◌, ◌-◌, ◌≤◌};
+ghost use Rattle.std.specs.Prelude.{◌≡◌, Ok};
 ghost use Rattle.lent_values.specs.Cells.{value_at};
-ghost use Rattle.def_image.specs.Listing.{lines_from, value_line};
+ghost use Rattle.def_image.specs.Listing.{value_line};
 ghost use Rattle.image_text.specs.Texts.{cursor};
-ghost use Rattle.image_pieces.specs.Pieces.{piece_count, effect_line, listed_piece, refused_piece, piece, WritesInto, puts};
+ghost use Rattle.image_pieces.specs.Pieces.{answer_of, piece_count, effect_line, listed_piece, refused_piece, piece, WritesInto, WritesLines, puts};
 
+use def_refusals::Refusal;
 use image_lines::{
     put_effect_line, put_head, put_refusal, put_set_line, put_undefined, put_value_line,
 };
 use image_pieces::{PIECE_BYTES, Shown};
+use image_text::Text;
 
 // The lines of the effects from one number on, up to another.
 // Of 70 or fewer a piece's buffer holds the lines.
 fn put_effects(buffer: &mut [u8], output: &[u32], count: u32, from: u32, to: u32) -> usize
-    ensures { to ≤ from + 70 → WritesInto buffer.old buffer.new result (lines_from (to - from) from (effect_line output.now count)) }
+    ensures { WritesLines 70 (effect_line output.now count) from to buffer.old buffer.new result }
 {
-    let mut next: usize = 0;
+    let mut text = Text { buffer, at: 0 };
     for k in from..to {
-        next = put_effect_line(buffer, next, output, count, k);
+        put_effect_line(&mut text, output, count, k);
     }
-    next
+    text.at
 }
 
 // The lines of the values from one number on, up to another.
 // Of 93 or fewer a piece's buffer holds the lines.
 fn put_values(buffer: &mut [u8], values: &[u64], from: u32, to: u32) -> usize
-    ensures { to ≤ from + 93
-        → WritesInto buffer.old buffer.new result (lines_from (to - from) from (λ v. value_line v (value_at values.now v))) }
+    ensures { WritesLines 93 (λ v. value_line v (value_at values.now v)) from to buffer.old buffer.new result }
 {
-    let mut next: usize = 0;
+    let mut text = Text { buffer, at: 0 };
     for v in from..to {
-        next = put_value_line(buffer, next, values, v);
+        put_value_line(&mut text, values, v);
     }
-    next
+    text.at
 }
 
 // Piece k of a refusal: its line, and no more.
@@ -55,7 +56,8 @@ fn put_listed_piece(
     output: &[u32],
     buffer: &mut [u8],
 ) -> usize
-    ensures { WritesInto buffer.old buffer.new result (listed_piece shown values.now sets.now output.now k) }
+    ensures { WritesInto buffer.old buffer.new result
+        (listed_piece (answer_of (Ok shown)) values.now sets.now output.now k) }
 {
     match k {
         0 => put_head(buffer, shown.count, shown.entries),
@@ -85,20 +87,20 @@ pub fn piece_count() -> u32
 // Any lists with any numbers in them may be lent. A buffer of `image_pieces::PIECE_BYTES` bytes suffices for each piece; a shorter one is left as it was.
 #[tactic(auto, using(image_pieces::proofs::Laws::Ways::puts_short))]
 pub fn put_piece(
-    shown: Shown,
+    shown: Result<Shown, Refusal>,
     k: u32,
     values: &[u64],
     sets: &[u64],
     output: &[u32],
     buffer: &mut [u8],
 ) -> usize
-    ensures { cursor result buffer.new ≡ puts (piece shown values.now sets.now output.now k) buffer.old }
+    ensures { cursor result buffer.new ≡ puts (piece (answer_of shown) values.now sets.now output.now k) buffer.old }
 {
     if buffer.len() < PIECE_BYTES {
         return 0;
     }
-    if shown.refusal != 0 {
-        return put_refused_piece(buffer, shown.refusal, k);
+    match shown {
+        Ok(shown) => put_listed_piece(shown, k, values, sets, output, buffer),
+        Err(refusal) => put_refused_piece(buffer, refusal.number(), k),
     }
-    put_listed_piece(shown, k, values, sets, output, buffer)
 }

@@ -7,13 +7,11 @@ use Rattle.lent_layout.specs.Layout as Layout
 use Rattle.def_image.specs.Layout.{Image, words_of}
 use Rattle.def_image.specs.Refusals.{refusal_of}
 use Rattle.def_image.specs.Listing.{refusal_line}
-use Rattle.image_job.specs.declared.Job.{Job}
-use Rattle.image_job.specs.Reading.{Tables, tables, job_of, filled, lent_wrong}
+use Rattle.image_job.specs.Reading.{Said, Tables, tables, job_of, filled, lent_wrong}
 use Rattle.call_outcome.specs.Calls.{Answered}
 use Rattle.call_outcome.specs.Calls.{Call, Outcome, call, outcome}
 use Rattle.image_text.specs.Texts.{lent_listing}
-use Rattle.image_pieces.specs.declared.Shown.{Shown}
-use Rattle.image_pieces.specs.Pieces.{all_pieces}
+use Rattle.image_pieces.specs.Pieces.{Answer, all_pieces}
 
 -- tables at their full size, and nothing in them
 -- 1,024 values, 512 rows of 16 words, a context, 64 records of 98 words
@@ -22,17 +20,17 @@ empty = tables (zeros 1024) (zeros 8192) (zeros Layout.long) (zeros Layout.candi
 
 -- how many words the rows of an image's identifiers have
 -- 16 words each; the call is lent no more of them
-abbrev pub set_words : Job → ℕ
+abbrev pub set_words : Said → ℕ
 set_words j = 16 * j.identifiers
 
 -- the same of the records of its candidates
 -- 98 words each
-abbrev pub candidate_words : Job → ℕ
+abbrev pub candidate_words : Said → ℕ
 candidate_words j = Layout.effect_words * j.candidates
 
 -- the call that a job makes with the tables that were read: the rows of its identifiers, the records of its candidates,
 -- "the function-expression flag as no", an output list and scratch that are zero
-unfoldable pub job_call : Job → Tables → Call
+unfoldable pub job_call : Said → Tables → Call
 job_call j t =
     call t.values (take (set_words j) t.sets) false t.context j.session (take (candidate_words j) t.candidates) j.lvalue j.own
     (zeros Layout.output_words) (zeros (1024 + set_words j)) (zeros Layout.saved_words)
@@ -75,22 +73,22 @@ written bytes words values sets context candidates output scratch64 scratch32 =
 
 -- what is shown beside the tables, the values, the sets and the output list
 pub record Left : Type 0 where
-  pub shown : Shown
+  pub shown : Answer
   pub values : List ℕ
   pub sets : List ℕ
   pub output : List ℕ
 
 -- the same, in the order of the function's parameters
-abbrev pub left : Shown → List ℕ → List ℕ → List ℕ → Left
+abbrev pub left : Answer → List ℕ → List ℕ → List ℕ → Left
 left s vs ss os = record { shown = s; values = vs; sets = ss; output = os }
 
 -- a refusal shows its number
 -- "With a number come zero effects and count."
-abbrev pub refused_as : ℕ → Shown
+abbrev pub refused_as : ℕ → Answer
 refused_as n = record { refusal = n; count = 0; entries = 0; access = 0 }
 
 -- what is shown of what a call answers
-unfoldable pub answered : Answered → Shown
+unfoldable pub answered : Answered → Answer
 answered a =
     ite (eqb a.refusal 0) (record { refusal = 0; count = a.count; entries = a.entries; access = a.session.access }) (refused_as a.refusal)
 
@@ -120,7 +118,7 @@ abbrev pub pieces_of : Left → List ℕ
 pieces_of x = all_pieces x.shown x.values x.sets x.output
 
 -- the lent tables have room for a job: its rows, its records, its scratch
-pub record Fits (ss xs s64 : List ℕ) (j : Job) : Type 0 where
+pub record Fits (ss xs s64 : List ℕ) (j : Said) : Type 0 where
   pub rows : set_words j ≤ length ss
   pub records : candidate_words j ≤ length xs
   pub scratch : 1024 + set_words j ≤ length s64

@@ -1,12 +1,14 @@
 -- What the call for an image is lent, leaves and shows, in the words of its contract. Assumes nothing: these are definitions.
-use Rattle.std.specs.Prelude.{ℕ, ◌<◌, ◌≡◌, List, length, get_or}
+use Rattle.std.specs.Prelude.{ℕ, ◌<◌, ◌≡◌, List, length, get_or, Result}
+use Rattle.def_refusals.specs.declared.Refusal.{Refusal}
 use Rattle.def_image.specs.Infer.{infer}
 use Rattle.image_pieces.specs.declared.Shown.{Shown}
+use Rattle.image_pieces.specs.Pieces.{answer_of}
 use Rattle.image_outcome.specs.Inferring.{inferred, written, Left, left, leaves}
 
 -- what the call answers, and the lists that the pieces are read from as it leaves them
-abbrev pub left_by : Shown → List ℕ → List ℕ → List ℕ → Left
-left_by r values sets output = left r values sets output
+abbrev pub left_by : Result Shown Refusal → List ℕ → List ℕ → List ℕ → Left
+left_by r values sets output = left (answer_of r) values sets output
 
 -- what the bytes of an image leave there, by the lengths of all that is lent beside them
 abbrev pub leaves_for : List ℕ → List ℕ → List ℕ → List ℕ → List ℕ → List ℕ → List ℕ → List ℕ → List ℕ → Left

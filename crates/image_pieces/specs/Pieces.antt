@@ -1,5 +1,5 @@
 -- The pieces in which a listing is written, one after the other (document 01, 'The job image and its program'). Assumes nothing: these are definitions.
-use Rattle.std.specs.Prelude.{ℕ, ◌+◌, ◌-◌, ◌*◌, ◌≤◌, ◌≡◌, List, [], ◌∷◌, ◌++◌, eqb, ltb, length, drop, Some}
+use Rattle.std.specs.Prelude.{ℕ, ◌+◌, ◌-◌, ◌*◌, ◌≤◌, ◌≡◌, List, [], ◌∷◌, ◌++◌, eqb, ltb, length, drop, Some, Result, Ok, Err}
 use Rattle.base_tests.specs.Tests.{ite}
 use Rattle.lent_values.specs.Cells.{value_at}
 use Rattle.lent_sets.specs.Rows.{set_at}
@@ -7,7 +7,24 @@ use Rattle.lent_effects.specs.Records.{effect_in}
 use Rattle.lent_layout.specs.Layout.{output}
 use Rattle.def_image.specs.Listing.{ascii, line, lines_from, effect_row, value_line, set_line, undefined_identifier, refusal_line}
 use Rattle.image_text.specs.Texts.{Cursor, cursor, put_all}
+use Rattle.def_refusals.specs.declared.Refusal.{Refusal}
+use Rattle.def_refusals.specs.Verdicts.{number_of}
 use Rattle.image_pieces.specs.declared.Shown.{Shown}
+
+-- ---- what is shown beside the tables
+
+-- 0 or the number with which a job is refused, how many effects the output list holds, the walk entries,
+-- and the first undefined identifier, as 0 or 1 + identifier
+pub record Answer : Type 0 where
+  pub refusal : ℕ
+  pub count : ℕ
+  pub entries : ℕ
+  pub access : ℕ
+
+-- the same of what the code answers: after a refusal all but the number is zero
+abbrev pub answer_of : Result Shown Refusal → Answer
+answer_of (Ok s) = record { refusal = 0; count = s.count; entries = s.entries; access = s.access }
+answer_of (Err refusal) = record { refusal = number_of refusal; count = 0; entries = 0; access = 0 }
 
 -- ---- which lines make a piece
 
@@ -38,7 +55,7 @@ value_run vs k = lines_from 93 k (λ v. value_line v (value_at vs v))
 
 -- piece k of a listing: of what is shown, values, sets and output list
 -- "OK: effects, walk entries.", then E, V and P, then "U: first undefined identifier."
-unfoldable pub listed_piece : Shown → List ℕ → List ℕ → List ℕ → ℕ → List ℕ
+unfoldable pub listed_piece : Answer → List ℕ → List ℕ → List ℕ → ℕ → List ℕ
 listed_piece s vs ss os k =
     ite (eqb k 0) (line (ascii "OK") (Some s.count ∷ Some s.entries ∷ []))
     (ite (ltb k 17) (effect_run os s.count (70 * (k - 1)))
@@ -52,11 +69,11 @@ unfoldable pub refused_piece : ℕ → ℕ → List ℕ
 refused_piece n k = ite (eqb k 0) (refusal_line n) []
 
 -- piece k, of the one or of the other
-unfoldable pub piece : Shown → List ℕ → List ℕ → List ℕ → ℕ → List ℕ
+unfoldable pub piece : Answer → List ℕ → List ℕ → List ℕ → ℕ → List ℕ
 piece s vs ss os k = ite (eqb s.refusal 0) (listed_piece s vs ss os k) (refused_piece s.refusal k)
 
 -- all pieces, one after the other
-unfoldable pub all_pieces : Shown → List ℕ → List ℕ → List ℕ → List ℕ
+unfoldable pub all_pieces : Answer → List ℕ → List ℕ → List ℕ → List ℕ
 all_pieces s vs ss os = lines_from piece_count 0 (piece s vs ss os)
 
 -- ---- in the words of a contract
@@ -69,6 +86,10 @@ pub record Writes (text : List ℕ) (before after : Cursor) : Type 0 where
 -- the same of a lent buffer and of the answer
 abbrev pub WritesInto : List ℕ → List ℕ → ℕ → List ℕ → Type 0
 WritesInto old new r text = Writes text (cursor 0 old) (cursor r new)
+
+-- the lines of the numbers from a on, up to b, are written, if there are at most so many
+abbrev pub WritesLines : ℕ → (ℕ → List ℕ) → ℕ → ℕ → List ℕ → List ℕ → ℕ → Type 0
+WritesLines most line a b old new r = b ≤ a + most → WritesInto old new r (lines_from (b - a) a line)
 
 -- what stands in a buffer, and the answer: the whole text from its first byte on and how long it is, all else as it was
 -- a buffer that is shorter than a piece's is left as it was, and the answer is 0

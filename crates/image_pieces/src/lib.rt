@@ -1,11 +1,10 @@
 // The pieces in which a listing is written: definitions and laws in specs/, and what a job shows beside its tables, which they speak of.
 #![tactic(auto)]
 
-// What a job shows beside its tables: 0 or the number with which it is refused, how many effects the output list holds, the walk entries,
-// and the first undefined identifier, as 0 or 1 + identifier. After a refusal all but the number is zero.
+// What a job that is not refused shows beside its tables: how many effects the output list holds, the walk entries,
+// and the first undefined identifier, as 0 or 1 + identifier.
 #[derive(Clone, Copy)]
 pub struct Shown {
-    pub refusal: u32,
     pub count: u32,
     pub entries: u32,
     pub access: u32,

@@ -8,13 +8,14 @@ ghost use Rattle.def_image.specs.Layout.{count_of};
 ghost use Rattle.image_words.specs.Loaded.{loaded};
 ghost use Rattle.lent_copies.specs.Copies.{zeros};
 ghost use Rattle.image_decode.specs.Decoded.{decoded_values, decoded_sets, decoded_context, decoded_candidates};
-ghost use Rattle.image_job.specs.Reading.{tables, given, lent_wrong, read_words, read_image};
+ghost use Rattle.image_job.specs.Reading.{said_of, tables, given, lent_wrong, read_words, read_image};
 ghost use Rattle.lent_copies.specs.Cleared.{Cleared};
 
+use def_refusals::Refusal;
 use image_class::words_refusal;
 use image_decode::{decode_context, decode_sets, decode_values};
 use image_decode_candidates::decode_candidates;
-use image_job::{Job, job_of, no_job};
+use image_job::{Job, job_of};
 use image_words::{length_wrong, load_words};
 use lent_layout::{CANDIDATE_WORDS, CONTEXT_WORDS};
 
@@ -60,20 +61,17 @@ fn read_words(
     sets: &mut [u64],
     context: &mut [u32],
     candidates: &mut [u32],
-) -> Job
-    ensures { given result values.new sets.new context.new candidates.new
+) -> Result<Job, Refusal>
+    ensures { given (said_of result) values.new sets.new context.new candidates.new
         ≡ read_words (loaded bytes.now (length words.old))
         (tables values.old sets.old context.old candidates.old) }
 {
     load_words(bytes, words);
-    let class = words_refusal(words);
-    if class != 0 {
-        return no_job(class);
-    }
+    words_refusal(words)?;
     fill_state(words, values, sets);
     fill_context(words, context);
     fill_candidates(words, candidates);
-    job_of(words)
+    Ok(job_of(words))
 }
 
 // Whether a lent list has the wrong length: scratch for the words of an image, and the tables at their full size.
@@ -107,15 +105,15 @@ pub fn read_image(
     sets: &mut [u64],
     context: &mut [u32],
     candidates: &mut [u32],
-) -> Job
-    ensures { (given result values.new sets.new context.new candidates.new
+) -> Result<Job, Refusal>
+    ensures { (given (said_of result) values.new sets.new context.new candidates.new
         ≡ read_image bytes.now (length words.old)
         (tables values.old sets.old context.old candidates.old))
         × Cleared words.old words.new }
 {
     if lent_wrong(words, values, sets, context, candidates) || length_wrong(bytes) {
         words.fill(0);
-        return no_job(1);
+        return Err(Refusal::Length);
     }
     let n = bytes.len() / 4;
     let job = read_words(bytes, &mut words[..n], values, sets, context, candidates);

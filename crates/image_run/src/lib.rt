@@ -2,11 +2,12 @@
 // What was lent is cleared here too.
 #![tactic(auto)]
 
-ghost use Rattle.std.specs.Prelude.{◌≡◌, ◌-◌, ◌≤◌, ◌++◌, Bool, length, take};
+ghost use Rattle.std.specs.Prelude.{◌≡◌, ◌-◌, ◌≤◌, ◌++◌, Bool, length, take, Ok};
 ghost use Rattle.call_outcome.specs.Calls.{outcome, told};
 ghost use Rattle.def_effects.specs.declared.Session.{Session as ASession};
-ghost use Rattle.image_job.specs.Reading.{tables};
-ghost use Rattle.image_outcome.specs.Inferring.{Fits, job_call, memory_wrong, refused_as, answered, keeps, settled, left};
+ghost use Rattle.image_job.specs.Reading.{said_of, tables};
+ghost use Rattle.image_pieces.specs.Pieces.{answer_of};
+ghost use Rattle.image_outcome.specs.Inferring.{Fits, job_call, memory_wrong, answered, keeps, settled};
 ghost use Rattle.image_outcome.specs.Promise.{left_by};
 ghost use Rattle.lent_copies.specs.Copies.{zeros};
 ghost use Rattle.lent_copies.specs.Cleared.{Cleared};
@@ -22,33 +23,17 @@ use lent_layout::{EFFECT_WORDS, OUTPUT_WORDS, SAVED_WORDS};
 
 // ---- what is shown
 
-// What is shown of a refusal.
-// "With a number come zero effects and count."
-pub fn refused(n: u32) -> Shown
-    ensures { result ≡ refused_as n }
-{
-    Shown {
-        refusal: n,
-        count: 0,
-        entries: 0,
-        access: 0,
-    }
-}
-
 // What is shown of what the call for an instruction answered.
 // "OK: effects, walk entries."; "U: first undefined identifier."
-fn shown_of(answer: Result<Applied, Refusal>) -> Shown
-    ensures { (session : ASession) (flag : Bool) → result ≡ answered (told session flag answer) }
+fn shown_of(answer: Result<Applied, Refusal>) -> Result<Shown, Refusal>
+    ensures { (session : ASession) (flag : Bool) → answer_of result ≡ answered (told session flag answer) }
 {
-    match answer {
-        Ok(applied) => Shown {
-            refusal: 0,
-            count: applied.count,
-            entries: applied.entries,
-            access: applied.session.access,
-        },
-        Err(refusal) => refused(refusal.number()),
-    }
+    let applied = answer?;
+    Ok(Shown {
+        count: applied.count,
+        entries: applied.entries,
+        access: applied.session.access,
+    })
 }
 
 // ---- the job
@@ -74,14 +59,14 @@ pub fn run_tables(
     output: &mut [u32],
     scratch64: &mut [u64],
     scratch32: &mut [u32],
-) -> Shown
-    ensures { Fits sets.old candidates.now scratch64.old job
+) -> Result<Shown, Refusal>
+    ensures { Fits sets.old candidates.now scratch64.old (said_of (Ok job))
         → length output.old ≡ Layout.output_words
         → length scratch32.old ≡ Layout.saved_words
         → left_by result values.new sets.new output.new
         ≡ keeps (length sets.old)
         (outcome
-        (job_call job
+        (job_call (said_of (Ok job))
         (tables values.old sets.old context.old
         candidates.now))) }
 {
@@ -89,7 +74,7 @@ pub fn run_tables(
     let n = EFFECT_WORDS * job.candidates as usize;
     let e = 1024 + m;
     if m > sets.len() || n > candidates.len() || e > scratch64.len() {
-        return refused(1);
+        return Err(Refusal::Length);
     }
     let applied = apply_signature(
         values,
@@ -123,7 +108,9 @@ pub fn memory_wrong(output: &[u32], scratch64: &[u64], scratch32: &[u32]) -> boo
 // What was read of an image becomes zero.
 // The state stays: what is shown of it is read there.
 fn clear_read(words: &mut [u32], context: &mut [u32], candidates: &mut [u32])
-    ensures { Cleared words.old words.new × Cleared context.old context.new × Cleared candidates.old candidates.new }
+    ensures words { Cleared words.old words.new }
+    ensures context { Cleared context.old context.new }
+    ensures candidates { Cleared candidates.old candidates.new }
 {
     words.fill(0);
     context.fill(0);
@@ -139,7 +126,11 @@ pub fn clear_work(
     scratch64: &mut [u64],
     scratch32: &mut [u32],
 )
-    ensures { Cleared words.old words.new × Cleared context.old context.new × Cleared candidates.old candidates.new × Cleared scratch64.old scratch64.new × Cleared scratch32.old scratch32.new }
+    ensures words { Cleared words.old words.new }
+    ensures context { Cleared context.old context.new }
+    ensures candidates { Cleared candidates.old candidates.new }
+    ensures scratch64 { Cleared scratch64.old scratch64.new }
+    ensures scratch32 { Cleared scratch32.old scratch32.new }
 {
     clear_read(words, context, candidates);
     clear_scratch(scratch64, scratch32);
@@ -147,10 +138,15 @@ pub fn clear_work(
 
 // After a refusal the rest becomes zero too.
 // "With a number come zero effects and count."
-pub fn settle(shown: Shown, values: &mut [u64], sets: &mut [u64], output: &mut [u32])
-    ensures { left_by shown values.new sets.new output.new ≡ settled (left shown values.old sets.old output.old) }
+pub fn settle(
+    shown: Result<Shown, Refusal>,
+    values: &mut [u64],
+    sets: &mut [u64],
+    output: &mut [u32],
+)
+    ensures { left_by shown values.new sets.new output.new ≡ settled (left_by shown values.old sets.old output.old) }
 {
-    if shown.refusal != 0 {
+    if shown.is_err() {
         values.fill(0);
         sets.fill(0);
         output.fill(0);

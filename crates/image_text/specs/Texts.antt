@@ -1,5 +1,5 @@
 -- A text written into a lent buffer, byte after byte, and the texts that code writes. Assumes nothing: these are definitions.
-use Rattle.std.specs.Prelude.{ℕ, suc, List, [], ◌∷◌, ◌++◌, ltb, length, set, Option}
+use Rattle.std.specs.Prelude.{ℕ, suc, List, [], ◌∷◌, ◌++◌, ◌≡◌, ltb, length, set, Option}
 use Rattle.base_tests.specs.Tests.{ite}
 use Rattle.lent_values.specs.Cells.{value_at}
 use Rattle.lent_sets.specs.Rows.{set_at}
@@ -8,6 +8,7 @@ use Rattle.lent_effects.specs.declared.AliasingEffect.{AliasingEffect as Head}
 use Rattle.lent_effects.specs.Records.{effect_with}
 use Rattle.def_image.specs.Listing.{ascii, blank, shown, line, effect_row, shown_lines}
 use Rattle.lent_layout.specs.Layout.{output}
+use Rattle.image_text.specs.declared.Text.{Text}
 
 -- where the next byte goes, and the buffer
 -- code has the one by value and the other lent
@@ -19,6 +20,14 @@ pub record Cursor : Type 0 where
 -- contracts speak of it at a function's entry and at its exit
 abbrev pub cursor : ℕ → List ℕ → Cursor
 cursor k bs = record { at = k; bytes = bs }
+
+-- a text that code writes: its place, and its buffer as it is then
+abbrev pub cursor_of : Text → Cursor
+cursor_of t = cursor t.at t.buffer.now
+
+-- its buffer is still the one that was lent
+abbrev pub Kept : Text → Text → Type 0
+Kept s t = s.buffer.ghost_name ≡ t.buffer.ghost_name
 
 -- one byte more; past the end nothing changes
 -- total, so that no length of a buffer asks for a proof

@@ -1,33 +1,16 @@
 // The pieces of a listing's lines: bytes, texts, numbers, columns and whole lines in a lent buffer (document 01, 'The job image and its program').
-// Every function writes from a place of the buffer on and answers the place after; what does not fit is left out.
+// Every method of a text writes from its place on and moves it on; what does not fit is left out.
 #![tactic(auto)]
 
 ghost use Rattle.std.specs.Prelude.{None, Some, [], ◌∷◌, ◌+◌, ◌%◌, ◌≡◌};
 ghost use Rattle.def_image.specs.Listing.{decimal, line, mutation_reason, newline, undefined_identifier};
-ghost use Rattle.image_text.specs.Texts.{column, cursor, put_all};
+ghost use Rattle.image_text.specs.Texts.{column, cursor_of, Kept, put_all};
 
-// One byte is written, and the place moves on; past the end nothing changes.
-// Every byte of a listing goes through it.
-pub fn put_byte(buffer: &mut [u8], at: usize, x: u8) -> usize
-    ensures { cursor result buffer.new ≡ put_all (x ∷ []) (cursor at buffer.old) }
-{
-    if at < buffer.len() {
-        buffer[at] = x;
-        at + 1
-    } else {
-        at
-    }
-}
-
-// A text is written, one byte after the other.
-pub fn put_text(buffer: &mut [u8], at: usize, text: &[u8]) -> usize
-    ensures { cursor result buffer.new ≡ put_all text.now (cursor at buffer.old) }
-{
-    let mut next = at;
-    for x in text {
-        next = put_byte(buffer, next, *x);
-    }
-    next
+// A text that is being written: the lent buffer, and the place in it where the next byte goes.
+#[derive(Drop)]
+pub struct Text<'a> {
+    pub buffer: &'a mut [u8],
+    pub at: usize,
 }
 
 // The ASCII code of a number's last digit.
@@ -37,63 +20,92 @@ fn last_digit(n: u32) -> u8
     b'0' + (n % 10) as u8
 }
 
-// A number in decimal digits, the highest first.
-// Those of its tenth come before its last one.
-fn put_decimal(buffer: &mut [u8], at: usize, n: u32) -> usize
-    ensures { cursor result buffer.new ≡ put_all (decimal n) (cursor at buffer.old) }
-{
-    if n < 10 {
-        return put_byte(buffer, at, last_digit(n));
+impl Text<'_> {
+    // One byte is written, and the place moves on; past the end nothing changes.
+    // Every byte of a listing goes through it.
+    pub fn put_byte(&mut self, x: u8)
+        ensures kept { Kept self.old self.new }
+        ensures written { cursor_of self.new ≡ put_all (x ∷ []) (cursor_of self.old) }
+    {
+        if self.at < self.buffer.len() {
+            self.buffer[self.at] = x;
+            self.at += 1;
+        }
     }
-    let next = put_decimal(buffer, at, n / 10);
-    put_byte(buffer, next, last_digit(n))
-}
 
-// A blank and a number.
-// The columns of a line are parted by blanks.
-pub fn put_number(buffer: &mut [u8], at: usize, n: u32) -> usize
-    ensures { cursor result buffer.new ≡ put_all (column (Some n)) (cursor at buffer.old) }
-{
-    let next = put_byte(buffer, at, b' ');
-    put_decimal(buffer, next, n)
-}
-
-// A blank and a dash.
-// "Absent is `-`."
-#[tactic(auto, unfolding(crate::specs::Texts::column, def_image::specs::Listing::shown))]
-pub fn put_absent(buffer: &mut [u8], at: usize) -> usize
-    ensures { cursor result buffer.new ≡ put_all (column None) (cursor at buffer.old) }
-{
-    put_text(buffer, at, b" -")
-}
-
-// A blank and a number that may be absent.
-// A column of a line.
-pub fn put_column(buffer: &mut [u8], at: usize, x: Option<u32>) -> usize
-    ensures { cursor result buffer.new ≡ put_all (column x) (cursor at buffer.old) }
-{
-    match x {
-        None => put_absent(buffer, at),
-        Some(n) => put_number(buffer, at, n),
+    // Bytes are written, one after the other.
+    pub fn put_bytes(&mut self, bytes: &[u8])
+        ensures kept { Kept self.old self.new }
+        ensures written { cursor_of self.new ≡ put_all bytes.now (cursor_of self.old) }
+    {
+        for x in bytes {
+            self.put_byte(*x);
+        }
     }
-}
 
-// The end of a line.
-pub fn put_newline(buffer: &mut [u8], at: usize) -> usize
-    ensures { cursor result buffer.new ≡ put_all (newline ∷ []) (cursor at buffer.old) }
-{
-    put_byte(buffer, at, b'\n')
-}
-
-// A whole line: its word, its columns and its end.
-pub fn put_line(buffer: &mut [u8], at: usize, word: &[u8], columns: &[Option<u32>]) -> usize
-    ensures { cursor result buffer.new ≡ put_all (line word.now columns.now) (cursor at buffer.old) }
-{
-    let mut next = put_text(buffer, at, word);
-    for x in columns {
-        next = put_column(buffer, next, *x);
+    // A number in decimal digits, the highest first.
+    // Those of its tenth come before its last one.
+    fn put_decimal(&mut self, n: u32)
+        ensures kept { Kept self.old self.new }
+        ensures written { cursor_of self.new ≡ put_all (decimal n) (cursor_of self.old) }
+    {
+        if n >= 10 {
+            self.put_decimal(n / 10);
+        }
+        self.put_byte(last_digit(n));
     }
-    put_newline(buffer, next)
+
+    // A blank and a number.
+    // The columns of a line are parted by blanks.
+    pub fn put_number(&mut self, n: u32)
+        ensures kept { Kept self.old self.new }
+        ensures written { cursor_of self.new ≡ put_all (column (Some n)) (cursor_of self.old) }
+    {
+        self.put_byte(b' ');
+        self.put_decimal(n);
+    }
+
+    // A blank and a dash.
+    // "Absent is `-`."
+    #[tactic(auto, unfolding(crate::specs::Texts::column, def_image::specs::Listing::shown))]
+    pub fn put_absent(&mut self)
+        ensures kept { Kept self.old self.new }
+        ensures written { cursor_of self.new ≡ put_all (column None) (cursor_of self.old) }
+    {
+        self.put_bytes(b" -");
+    }
+
+    // A blank and a number that may be absent.
+    // A column of a line.
+    pub fn put_column(&mut self, x: Option<u32>)
+        ensures kept { Kept self.old self.new }
+        ensures written { cursor_of self.new ≡ put_all (column x) (cursor_of self.old) }
+    {
+        match x {
+            None => self.put_absent(),
+            Some(n) => self.put_number(n),
+        }
+    }
+
+    // The end of a line.
+    pub fn put_newline(&mut self)
+        ensures kept { Kept self.old self.new }
+        ensures written { cursor_of self.new ≡ put_all (newline ∷ []) (cursor_of self.old) }
+    {
+        self.put_byte(b'\n');
+    }
+
+    // A whole line: its word, its columns and its end.
+    pub fn put_line(&mut self, word: &[u8], columns: &[Option<u32>])
+        ensures kept { Kept self.old self.new }
+        ensures written { cursor_of self.new ≡ put_all (line word.now columns.now) (cursor_of self.old) }
+    {
+        self.put_bytes(word);
+        for x in columns {
+            self.put_column(*x);
+        }
+        self.put_newline();
+    }
 }
 
 // How a mutation reason is shown.

@@ -4,6 +4,7 @@
 
 ghost use Rattle.std.specs.Prelude.{◌≤◌, ◌<◌, IfSome, length};
 
+use def_refusals::Refusal;
 use image_pieces::Shown;
 use std::env::FillError;
 use std::io::Read;
@@ -111,7 +112,11 @@ fn same_piece(
 
 // Whether a listing is the recorded one, which comes next in the file: length, bytes, and zeros that fill its last word.
 // It is read to its end also after a difference, since the next record follows.
-fn same_listing(file: &mut impl Read, shown: Shown, memory: &mut Memory) -> Option<bool> {
+fn same_listing(
+    file: &mut impl Read,
+    shown: Result<Shown, Refusal>,
+    memory: &mut Memory,
+) -> Option<bool> {
     let length = read_length(file)?;
     let mut seen = Compared {
         same: true,

@@ -8,4 +8,4 @@ use Rattle.image_infer.proofs.infer_image.Goals as goal
 
 pub returns : goal.returns
 returns c =
-    let e = c.settle.ensures ∙ c.run_image-shown.ensures in (e, ap pieces_of e ∙ leaves_written _ _ _ _ _ _ _ _ _, c.clear_work.ensures.0 ∙ ap zeros c.run_image-shown.auto.words, c.clear_work.ensures.1 ∙ ap zeros c.run_image-shown.auto.context, c.clear_work.ensures.2 ∙ ap zeros c.run_image-shown.auto.candidates, c.clear_work.ensures.3 ∙ ap zeros c.run_image-shown.auto.scratch64, c.clear_work.ensures.4 ∙ ap zeros c.run_image-shown.auto.scratch32, inferred_is _)
+    let e = c.settle.ensures ∙ c.run_image-shown.ensures in (e, ap pieces_of e ∙ leaves_written _ _ _ _ _ _ _ _ _, c.clear_work.ensures.words ∙ ap zeros c.run_image-shown.auto.words, c.clear_work.ensures.context ∙ ap zeros c.run_image-shown.auto.context, c.clear_work.ensures.candidates ∙ ap zeros c.run_image-shown.auto.candidates, c.clear_work.ensures.scratch64 ∙ ap zeros c.run_image-shown.auto.scratch64, c.clear_work.ensures.scratch32 ∙ ap zeros c.run_image-shown.auto.scratch32, inferred_is _)

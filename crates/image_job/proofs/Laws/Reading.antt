@@ -14,22 +14,21 @@ use Rattle.def_image.specs.Refusals.{refusal_of_words, refusal_of}
 use Rattle.image_words.specs.Loaded.{loaded}
 use Rattle.image_words.proofs.Laws.Load.{loaded_whole}
 use Rattle.image_decode.specs.Decoded.{decoded_values, decoded_sets, decoded_context, decoded_candidates}
-use Rattle.image_job.specs.declared.Job.{Job}
-use Rattle.image_job.specs.Reading.{Tables, tables, Read, given, job_of, filled, no_job, refused_with, read_words, lent_wrong, read_class, read_image}
+use Rattle.image_job.specs.Reading.{Said, Tables, tables, Read, given, job_of, filled, no_job, refused_with, read_words, lent_wrong, read_class, read_image}
 
 -- ---- the words of an image
 
 -- a class refuses them: nothing was written
 -- one way through `read_words`
-pub words_refused : (bs im : List ℕ) (m : ℕ) (vs ss cs xs : List ℕ) (n : ℕ) (j : Job) → im ≡ loaded bs m → n ≡ refusal_of_words im → (n ≡ 0 → ⊥) → j ≡ no_job n → given j vs ss cs xs ≡ read_words (loaded bs m) (tables vs ss cs xs)
+pub words_refused : (bs im : List ℕ) (m : ℕ) (vs ss cs xs : List ℕ) (n : ℕ) (j : Said) → im ≡ loaded bs m → n ≡ refusal_of_words im → (n ≡ 0 → ⊥) → j ≡ no_job n → given j vs ss cs xs ≡ read_words (loaded bs m) (tables vs ss cs xs)
 unfolding read_words
 words_refused bs im m vs ss cs xs n j e f g h =
     let q : n ≡ refusal_of_words (loaded bs m) = f ∙ ap refusal_of_words e in
-    ap (λ (x : Job). given x vs ss cs xs) (h ∙ ap no_job q)
+    ap (λ (x : Said). given x vs ss cs xs) (h ∙ ap no_job q)
     ∙ sym (ite_ne (refusal_of_words (loaded bs m)) 0 (record { job = job_of (loaded bs m); tables = filled (loaded bs m) (tables vs ss cs xs) }) (refused_with (refusal_of_words (loaded bs m)) (tables vs ss cs xs)) (λ z. g (q ∙ z)))
 
 -- none does: the tables are filled
-pub words_read : (bs im : List ℕ) (m : ℕ) (vs ss cs xs us ts ds ys : List ℕ) (n : ℕ) (j : Job) → im ≡ loaded bs m → n ≡ refusal_of_words im → n ≡ 0
+pub words_read : (bs im : List ℕ) (m : ℕ) (vs ss cs xs us ts ds ys : List ℕ) (n : ℕ) (j : Said) → im ≡ loaded bs m → n ≡ refusal_of_words im → n ≡ 0
     → us ≡ decoded_values im (count_of im values) (zeros (length vs)) → ts ≡ decoded_sets im (count_of im pairs) (zeros (length ss)) → ds ≡ decoded_context im (zeros (length cs))
     → ys ≡ decoded_candidates im (count_of im candidates) (zeros (length xs)) → j ≡ job_of im
     → given j us ts ds ys ≡ read_words (loaded bs m) (tables vs ss cs xs)
@@ -41,16 +40,6 @@ words_read bs im m vs ss cs xs us ts ds ys n j e f g hv hs hc hx hj =
   where
     whole : given j us ts ds ys ≡ record { job = job_of (loaded bs m); tables = filled (loaded bs m) (tables vs ss cs xs) }
     whole = cc
-
--- ---- lengths
-
--- a length that is not what it must be
-pub wrong_here : (m n : ℕ) (rest : Bool) → (m ≡ n → ⊥) → true ≡ (not (eqb m n) || rest)
-wrong_here m n rest h = sym (ap (λ (b : Bool). not b || rest) (ne_eqb m n h))
-
--- a length that is
-pub right_here : (m n : ℕ) (rest : Bool) → m ≡ n → rest ≡ (not (eqb m n) || rest)
-right_here m n rest h = sym (ap (λ (b : Bool). not b || rest) (eq-eqb m n h))
 
 -- ---- the bytes of an image
 
@@ -71,9 +60,9 @@ module _ (bs : List ℕ) (w : ℕ) (vs ss cs xs : List ℕ) where
   by_class n e = sym (ap (λ (k : ℕ). ite (eqb k 0) (record { job = job_of (words_of bs); tables = filled (words_of bs) t }) (refused_with k t)) e)
 
   -- a lent list has the wrong length
-  pub read_lent : (j : Job) → true ≡ wrong → j ≡ no_job 1 → given j vs ss cs xs ≡ read_image bs w t
+  pub read_lent : (j : Said) → true ≡ wrong → j ≡ no_job 1 → given j vs ss cs xs ≡ read_image bs w t
   unfolding read_class
-  read_lent j h e = ap (λ (x : Job). given x vs ss cs xs) e ∙ by_class 1 (ap (λ (b : Bool). ite b 1 (refusal_of bs)) (sym h))
+  read_lent j h e = ap (λ (x : Said). given x vs ss cs xs) e ∙ by_class 1 (ap (λ (b : Bool). ite b 1 (refusal_of bs)) (sym h))
 
   -- the class is the image's own
   own_class : false ≡ wrong → read_class bs w t ≡ refusal_of bs
@@ -82,10 +71,10 @@ module _ (bs : List ℕ) (w : ℕ) (vs ss cs xs : List ℕ) where
 
   -- the image has the wrong length
   -- "from 68 to 65,536 bytes and a multiple of 4 (else 1)"
-  pub read_length : (j : Job) → false ≡ wrong → true ≡ wrong_length bs → j ≡ no_job 1 → given j vs ss cs xs ≡ read_image bs w t
+  pub read_length : (j : Said) → false ≡ wrong → true ≡ wrong_length bs → j ≡ no_job 1 → given j vs ss cs xs ≡ read_image bs w t
   unfolding refusal_of
   read_length j h g e =
-      ap (λ (x : Job). given x vs ss cs xs) e
+      ap (λ (x : Said). given x vs ss cs xs) e
       ∙ by_class 1 (own_class h ∙ ap (λ (b : Bool). elim b [ true ↦ 1 | false ↦ refusal_of_words (words_of bs) ]) (sym g))
 
   -- the words decide

@@ -1,17 +1,16 @@
 use mathlib.Core.Path.{◌≡◌}
-use Prim.Native.Nat.{◌-◌}
-use lib.ListN.{length}
-use Rattle.image_text.specs.Texts.{cursor, put_all, columns}
-use Rattle.def_image.specs.Listing.{or_absent}
 use mathlib.Core.List.{map}
 use Rattle.std.specs.Prelude.{Some}
-use Rattle.lent_sets.proofs.Laws.Row.{Walk}
-use Rattle.lent_sets.specs.Rows.{set_at, left}
-use Rattle.base_sets.specs.Members.{bits_of, values_of}
+use Rattle.base_sets.specs.Members.{values_of}
+use Rattle.lent_sets.specs.Rows.{set_at}
+use Rattle.lent_members.specs.Members.{rest}
+use Rattle.def_image.specs.Listing.{or_absent}
+use Rattle.image_text.specs.Texts.{columns, cursor_of, Kept, put_all}
 use Rattle.image_lines.proofs.put_members.Given as goal
 
 abbrev pub invariant-loop-m : goal.invariant-loop-m
-invariant-loop-m l = Walk l.sets l.i (bits_of (set_at l.sets l.i)) l.m × (length l.buffer ≡ length l.initial.buffer) × (put_all (columns (map Some (left (bits_of (set_at l.sets l.i)) l.m))) (cursor l.next l.buffer) ≡ put_all (columns (or_absent (values_of (set_at l.sets l.i)))) (cursor l.initial.next l.initial.buffer))
-
-abbrev pub decreases-loop-m : goal.decreases-loop-m
-decreases-loop-m l = 1024 - l.m
+invariant-loop-m l =
+    (goal.iterator-loop-m).can_next l.m-iterator
+    × (goal.iterator-loop-m).is_finite l.m-iterator
+    × Kept l.fn.text l.text
+    × (put_all (columns (map Some (rest l.m-iterator))) (cursor_of l.text) ≡ put_all (columns (or_absent (values_of (set_at l.sets l.i)))) (cursor_of l.fn.text))

@@ -3,9 +3,9 @@ use native.Mathlib.Omega.{arith}
 use Rattle.image_pieces.proofs.Laws.Ways.{puts_refused, puts_listed}
 use Rattle.image_listing.proofs.put_piece.Goals as goal
 
-pub returns-then-shown-ne0 : goal.returns-then-shown-ne0
-returns-then-shown-ne0 c =
-    puts_refused _ _ _ _ _ _ _ _ (omega arith) c.if-shown-ne0.true c.put_refused_piece.ensures
+pub returns-in-Err : goal.returns-in-Err
+returns-in-Err c =
+    puts_refused _ _ _ _ _ _ _ _ _ _ c.in-Err.is c.number.ensures (omega arith) c.put_refused_piece.ensures
 
-pub returns : goal.returns
-returns c = puts_listed _ _ _ _ _ _ _ _ (omega arith) c.if-shown-ne0.false c.put_listed_piece.ensures
+pub returns-in-Ok : goal.returns-in-Ok
+returns-in-Ok c = puts_listed _ _ _ _ _ _ _ _ _ c.in-Ok.is (omega arith) c.put_listed_piece.ensures

@@ -1,5 +1,6 @@
 -- Laws by which the functions from the bytes of an image to what is shown of it meet their definitions, one for each way through. Assumes nothing.
-use Rattle.std.specs.Prelude.{ℕ, ◌+◌, ◌-◌, ◌≤◌, ◌≡◌, Bool, not, ◌||◌, eqb, ltb, length, take, drop, get_or}
+use Rattle.std.specs.Prelude.{ℕ, ◌+◌, ◌-◌, ◌≤◌, ◌≡◌, Bool, not, ◌||◌, eqb, ltb, length, take, drop, get_or, Result, Ok, Err}
+use Rattle.std.specs.Result.{is_err}
 use Rattle.std.proofs.Common.{arith, ◌∙◌, length-drop, drop_of_length-le, length-take-le, take_at}
 use Rattle.std.proofs.Math.Path.{refl, sym, ap, ap₂}
 use Rattle.std.proofs.Math.Bool.{true, false}
@@ -16,6 +17,9 @@ use Rattle.base_tests.proofs.Laws.Choice.{ite_eq, ite_ne}
 use Rattle.lent_copies.specs.Copies.{zeros}
 use Rattle.def_image.specs.Layout.{Image, wrong_length, words_of, count_of, identifiers, candidates, functions}
 use Rattle.def_image.specs.Refusals.{earns_two, wrong_header, wrong_edition, too_many_records, refusal_of_words, refusal_of}
+use Rattle.def_refusals.specs.declared.Refusal.{Refusal}
+use Rattle.def_refusals.specs.Verdicts.{number_of}
+use Rattle.def_refusals.proofs.Laws.Verdicts.{number_some}
 use Rattle.image_job.specs.declared.Job.{Job}
 use Rattle.call_outcome.specs.Calls.{Answered}
 use Rattle.def_effects.specs.declared.Place.{Place}
@@ -33,15 +37,15 @@ use Rattle.refuse_instruction.specs.EffectClasses.{instruction_class}
 use Rattle.refuse_records.specs.Accepting.{context_class}
 use Rattle.call_outcome.specs.Calls.{Call, Outcome, call, given, wrong_context, lengths_wrong, candidate_count, call_class, lent_instruction, lent_world, concluded, outcome}
 use Rattle.image_pieces.specs.declared.Shown.{Shown}
-use Rattle.image_job.proofs.Laws.Reading.{wrong_here, right_here}
-use Rattle.image_job.specs.Reading.{Tables, tables, Read, job_of, filled, no_job, lent_wrong, read_class, read_image}
+use Rattle.image_pieces.specs.Pieces.{Answer, answer_of}
+use Rattle.image_job.specs.Reading.{Said, said_of, Tables, tables, Read, given as given_read, job_of, filled, no_job, lent_wrong, read_class, read_image}
 use Rattle.image_outcome.specs.Inferring.{empty, set_words, candidate_words, job_call, image_call, memory_wrong, any_wrong, Left, left, refused_as, answered, keeps, settled, nothing, leaves, Fits}
 
 -- ---- what is shown of a call
 
 -- what is shown of a call that is refused
 -- one way through `shown_of`
-pub answered_refused : (a : Answered) (r : Shown) → (a.refusal ≡ 0 → ⊥) → r ≡ refused_as a.refusal → r ≡ answered a
+pub answered_refused : (a : Answered) (r : Answer) → (a.refusal ≡ 0 → ⊥) → r ≡ refused_as a.refusal → r ≡ answered a
 unfolding answered
 answered_refused a r h e = e ∙ sym (ite_ne a.refusal 0 _ _ h)
 
@@ -50,18 +54,28 @@ pub answered_ran : (a : Answered) → a.refusal ≡ 0 → record { refusal = 0; 
 unfolding answered
 answered_ran a h = sym (ite_eq a.refusal 0 _ _ h)
 
-module _ (s : Shown) (vs ss os : List ℕ) where
+module _ (s : Answer) (vs ss os : List ℕ) where
   -- nothing is cleared
-  -- one way through `settle`
-  pub settled_same : s.refusal ≡ 0 → left s vs ss os ≡ settled (left s vs ss os)
+  settled_same : s.refusal ≡ 0 → left s vs ss os ≡ settled (left s vs ss os)
   unfolding settled
   settled_same h = sym (ite_eq s.refusal 0 _ _ h)
 
   -- everything is
-  pub settled_zero : (us ts ps : List ℕ) → (s.refusal ≡ 0 → ⊥) → us ≡ zeros (length vs) → ts ≡ zeros (length ss) → ps ≡ zeros (length os) → left s us ts ps ≡ settled (left s vs ss os)
+  settled_zero : (us ts ps : List ℕ) → (s.refusal ≡ 0 → ⊥) → us ≡ zeros (length vs) → ts ≡ zeros (length ss) → ps ≡ zeros (length os) → left s us ts ps ≡ settled (left s vs ss os)
   unfolding settled
   settled_zero us ts ps h a b c =
       ap₂ (λ (x y : List ℕ). left s x y ps) a b ∙ ap (left s (zeros (length vs)) (zeros (length ss))) c ∙ sym (ite_ne s.refusal 0 _ _ h)
+
+module _ (vs ss os : List ℕ) where
+  -- the same of what the code answers
+  -- one way through `settle` each
+  pub settled_shown : (a : Result Shown Refusal) → is_err a ≡ false → left (answer_of a) vs ss os ≡ settled (left (answer_of a) vs ss os)
+  settled_shown (Ok s) h = settled_same (answer_of (Ok s)) vs ss os refl
+  settled_shown (Err n) h = absurd (let z : ◌≡◌ {A = ℕ} 0 1 = cc in omega arith)
+
+  pub settled_refused : (a : Result Shown Refusal) (us ts ps : List ℕ) → is_err a ≡ true → us ≡ zeros (length vs) → ts ≡ zeros (length ss) → ps ≡ zeros (length os) → left (answer_of a) us ts ps ≡ settled (left (answer_of a) vs ss os)
+  settled_refused (Ok s) us ts ps h e f g = absurd (let z : ◌≡◌ {A = ℕ} 0 1 = cc in omega arith)
+  settled_refused (Err n) us ts ps h e f g = settled_zero (answer_of (Err n)) vs ss os us ts ps (number_some n) e f g
 
 -- ---- the memory of a call
 
@@ -129,7 +143,7 @@ module _ (vs ss : List ℕ) (flag : Bool) (cs : List ℕ) (s : Session) (xs : Li
 
 -- the rows, the records and the scratch that the call is lent are those of the job
 -- so it comes to what the job's call comes to
-job_call_is : (vs ss cs xs : List ℕ) (j : Job) (os s64 s32 : List ℕ) (m n e : ℕ) → m ≡ set_words j → n ≡ candidate_words j → e ≡ 1024 + m → e ≤ length s64 → length os ≡ Layout.output_words → length s32 ≡ Layout.saved_words
+job_call_is : (vs ss cs xs : List ℕ) (j : Said) (os s64 s32 : List ℕ) (m n e : ℕ) → m ≡ set_words j → n ≡ candidate_words j → e ≡ 1024 + m → e ≤ length s64 → length os ≡ Layout.output_words → length s32 ≡ Layout.saved_words
     → outcome (call vs (take m ss) false cs j.session (take n xs) j.lvalue j.own os (take e s64) s32) ≡ outcome (job_call j (tables vs ss cs xs))
 unfolding job_call
 job_call_is vs ss cs xs j os s64 s32 m n e hm hn he l ho hs =
@@ -160,7 +174,7 @@ rest_cleared ss us m k l =
 
 -- what is left after the call, and after the rest of the rows is cleared
 -- the way through `run_tables`
-pub runs_job : (vs ss cs xs : List ℕ) (j : Job) (os s64 s32 : List ℕ) (m n e : ℕ) (a : Answered) (r : Shown) (ws us ds ps t64 t32 ts : List ℕ) → m ≡ set_words j → n ≡ candidate_words j → e ≡ 1024 + m → m ≤ length ss → e ≤ length s64 → length os ≡ Layout.output_words → length s32 ≡ Layout.saved_words
+pub runs_job : (vs ss cs xs : List ℕ) (j : Said) (os s64 s32 : List ℕ) (m n e : ℕ) (a : Answered) (r : Answer) (ws us ds ps t64 t32 ts : List ℕ) → m ≡ set_words j → n ≡ candidate_words j → e ≡ 1024 + m → m ≤ length ss → e ≤ length s64 → length os ≡ Layout.output_words → length s32 ≡ Layout.saved_words
     → given a ws us ds ps t64 t32 ≡ outcome (call vs (take m ss) false cs j.session (take n xs) j.lvalue j.own os (take e s64) s32)
     → length us ≡ length (take m ss)
     → (m ≤ length (us ++ drop m ss) → ts ≡ take m (us ++ drop m ss) ++ zeros (length (us ++ drop m ss) - m))
@@ -169,13 +183,12 @@ pub runs_job : (vs ss cs xs : List ℕ) (j : Job) (os s64 s32 : List ℕ) (m n e
 unfolding keeps
 runs_job vs ss cs xs j os s64 s32 m n e a r ws us ds ps t64 t32 ts hm hn he lm le ho hs h k c q =
     let f = length_front ss us m k in
-    ap₂ (λ (x : Shown) (y : List ℕ). left x ws y ps) q (c (omega arith) ∙ rest_cleared ss us m k lm)
+    ap₂ (λ (x : Answer) (y : List ℕ). left x ws y ps) q (c (omega arith) ∙ rest_cleared ss us m k lm)
     ∙ ap (keeps (length ss)) (h ∙ job_call_is vs ss cs xs j os s64 s32 m n e hm hn he le ho hs)
 
 -- ---- lengths
 
--- the three lengths, tested one after the other
--- one law for each way through `memory_wrong`
+-- the three lengths
 module _ (o p q : ℕ) where
   -- memory of the right lengths
   pub memory_right : memory_wrong o p q ≡ false → (o ≡ Layout.output_words) × (p ≡ 9216) × (q ≡ Layout.saved_words)
@@ -265,15 +278,15 @@ module _ (bs : List ℕ) (w : ℕ) (vs ss cs xs : List ℕ) (o p q : ℕ) where
   end_read h = ap (λ (x : Bool). ite (x || wrong) (empties 1) (ite (eqb (refusal_of bs) 0) ran (empties (refusal_of bs)))) h
 
   -- what a refusal leaves is cleared: nothing but its number
-  cleared : (n : ℕ) (os : List ℕ) (r : Shown) → r ≡ refused_as n → (n ≡ 0 → ⊥) → o ≡ length os → settled (left r vs ss os) ≡ empties n
+  cleared : (n : ℕ) (os : List ℕ) (r : Answer) → r ≡ refused_as n → (n ≡ 0 → ⊥) → o ≡ length os → settled (left r vs ss os) ≡ empties n
   unfolding settled
   cleared n os r e z h =
-      ap (λ (x : Shown). settled (left x vs ss os)) e
+      ap (λ (x : Answer). settled (left x vs ss os)) e
       ∙ ite_ne n 0 _ _ z
       ∙ ap (λ (k : ℕ). nothing n (length vs) (length ss) k) (sym h)
 
-  pub leaves_memory : (os : List ℕ) (r : Shown) → o ≡ length os → true ≡ memory_wrong o p q → r ≡ refused_as 1 → settled (left r vs ss os) ≡ end
-  leaves_memory os r h m e = cleared 1 os r e (λ z. omega arith) h ∙ end_memory m
+  pub leaves_memory : (os : List ℕ) → o ≡ length os → true ≡ memory_wrong o p q → settled (left (refused_as 1) vs ss os) ≡ end
+  leaves_memory os h m = cleared 1 os (refused_as 1) refl (λ z. omega arith) h ∙ end_memory m
 
   -- the number of what was read, where it is refused
   read_number : (r : Read) → r ≡ read_image bs w t → (r.job.refusal ≡ 0 → ⊥) → r.job.refusal ≡ read_class bs w t
@@ -313,12 +326,19 @@ module _ (bs : List ℕ) (w : ℕ) (vs ss cs xs : List ℕ) (o p q : ℕ) where
       go false h = ap empties h ∙ sym (ite_ne (refusal_of bs) 0 _ _ (λ y. z (h ∙ y)))
 
   -- a refused image: its number
-  pub leaves_refused : (r : Read) (os : List ℕ) (s : Shown) → o ≡ length os → false ≡ memory_wrong o p q → r ≡ read_image bs w t → (r.job.refusal ≡ 0 → ⊥) → s ≡ refused_as r.job.refusal → settled (left s r.tables.values r.tables.sets os) ≡ end
-  leaves_refused r os s ho m h n e =
+  leaves_number : (r : Read) (os : List ℕ) (s : Answer) → o ≡ length os → false ≡ memory_wrong o p q → r ≡ read_image bs w t → (r.job.refusal ≡ 0 → ⊥) → s ≡ refused_as r.job.refusal → settled (left s r.tables.values r.tables.sets os) ≡ end
+  leaves_number r os s ho m h n e =
       ap (λ (x : Tables). settled (left s x.values x.sets os)) (read_same r h n)
       ∙ cleared r.job.refusal os s e n ho
       ∙ by_number r.job.refusal (read_number r h n) n
       ∙ end_read m
+
+  -- the same of what the code answers
+  pub leaves_refused : (a : Result Job Refusal) (n : Refusal) (us ts ds ys os : List ℕ) → a ≡ Err n → o ≡ length os → false ≡ memory_wrong o p q → given_read (said_of a) us ts ds ys ≡ read_image bs w t → settled (left (answer_of (Err n)) us ts os) ≡ end
+  unfolding no_job
+  leaves_refused a n us ts ds ys os e ho m h =
+      leaves_number (given_read (no_job (number_of n)) us ts ds ys) os (answer_of (Err n)) ho m
+      (ap (λ (x : Result Job Refusal). given_read (said_of x) us ts ds ys) (sym e) ∙ h) (number_some n) refl
 
   -- an accepted image, with tables of the right lengths
   accepted : read_class bs w t ≡ 0 → (wrong ≡ false) × (refusal_of bs ≡ 0)
@@ -353,12 +373,12 @@ module _ (bs : List ℕ) (w : ℕ) (vs ss cs xs : List ℕ) (o p q : ℕ) where
       ∙ end_read m
 
   -- an accepted image: its call, and what that leaves
-  pub leaves_job : (r : Read) (os s64 s32 : List ℕ) (x : Left) → false ≡ memory_wrong o p q → o ≡ length os → p ≡ length s64 → q ≡ length s32 → r ≡ read_image bs w t → r.job.refusal ≡ 0
+  leaves_call : (r : Read) (os s64 s32 : List ℕ) (x : Left) → false ≡ memory_wrong o p q → o ≡ length os → p ≡ length s64 → q ≡ length s32 → r ≡ read_image bs w t → r.job.refusal ≡ 0
       → length r.tables.sets ≡ length ss → length r.tables.candidates ≡ length xs
       → (Fits r.tables.sets r.tables.candidates s64 r.job → length os ≡ Layout.output_words → length s32 ≡ Layout.saved_words → x ≡ keeps (length r.tables.sets) (outcome (job_call r.job r.tables)))
       → settled x ≡ end
   unfolding job_of
-  leaves_job r os s64 s32 x m ho hp hq h n ls lx f =
+  leaves_call r os s64 s32 x m ho hp hq h n ls lx f =
       let c = read_class_is r h n in
       let a = accepted c in
       let k = few bs a.1 in
@@ -373,3 +393,12 @@ module _ (bs : List ℕ) (w : ℕ) (vs ss cs xs : List ℕ) (o p q : ℕ) where
       ∙ ap (λ (x : Read). keeps (length ss) (outcome (job_call x.job x.tables))) g
       ∙ ap (λ (x : Tables). keeps (length ss) (outcome (job_call (job_of (words_of bs)) x))) (filled_empty (words_of bs) a.0))
       ∙ end_job m a.0 a.1
+
+  -- the same of what the code answers
+  pub leaves_job : (a : Result Job Refusal) (j : Job) (us ts ds ys os s64 s32 : List ℕ) (x : Left) → a ≡ Ok j → false ≡ memory_wrong o p q → o ≡ length os → p ≡ length s64 → q ≡ length s32
+      → given_read (said_of a) us ts ds ys ≡ read_image bs w t → length ts ≡ length ss → length ys ≡ length xs
+      → (Fits ts ys s64 (said_of (Ok j)) → length os ≡ Layout.output_words → length s32 ≡ Layout.saved_words → x ≡ keeps (length ts) (outcome (job_call (said_of (Ok j)) (tables us ts ds ys))))
+      → settled x ≡ end
+  leaves_job a j us ts ds ys os s64 s32 x e m ho hp hq h ls lx f =
+      leaves_call (given_read (said_of (Ok j)) us ts ds ys) os s64 s32 x m ho hp hq
+      (ap (λ (y : Result Job Refusal). given_read (said_of y) us ts ds ys) (sym e) ∙ h) refl ls lx f

@@ -18,7 +18,7 @@ use Rattle.call_outcome.specs.Calls.{Call, Outcome, call_class, lent_instruction
 use Rattle.laws_suffices.proofs.Laws.Whole.{nothing_lost}
 use Rattle.image_job.specs.Reading.{job_of}
 use Rattle.image_text.specs.Texts.{lent_listing}
-use Rattle.image_pieces.specs.declared.Shown.{Shown}
+use Rattle.image_pieces.specs.Pieces.{Answer}
 use Rattle.image_pieces.proofs.Laws.Whole.{pieces_listed, pieces_refused}
 use Rattle.image_outcome.specs.Inferring.{job_call, image_call, shown, inferred, any_wrong, written, left, refused_as, answered, keeps, settled, nothing, leaves, pieces_of}
 
@@ -77,12 +77,12 @@ shown_pieces n c l = go (outcome c) (count_most c l)
     go x m =
         ⊎_elim
         (λ z.
-        ap (λ (s : Shown). pieces_of (settled (left s x.values (x.sets ++ zeros (n - length x.sets)) x.output))) (ite_eq x.applied.refusal 0 _ _ z)
+        ap (λ (s : Answer). pieces_of (settled (left s x.values (x.sets ++ zeros (n - length x.sets)) x.output))) (ite_eq x.applied.refusal 0 _ _ z)
         ∙ pieces_listed (record { refusal = 0; count = x.applied.count; entries = x.applied.entries; access = x.applied.session.access }) x.values (x.sets ++ zeros (n - length x.sets)) x.output refl m
         ∙ rows_rest x.output x.applied.count x.applied.entries x.values x.sets (n - length x.sets) x.applied.session.access
         ∙ sym (ite_eq x.applied.refusal 0 _ _ z))
         (λ z.
-        ap (λ (s : Shown). pieces_of (settled (left s x.values (x.sets ++ zeros (n - length x.sets)) x.output))) (ite_ne x.applied.refusal 0 _ _ z)
+        ap (λ (s : Answer). pieces_of (settled (left s x.values (x.sets ++ zeros (n - length x.sets)) x.output))) (ite_ne x.applied.refusal 0 _ _ z)
         ∙ ap pieces_of (ite_ne x.applied.refusal 0 _ _ z)
         ∙ pieces_refused (refused_as x.applied.refusal) _ _ _ z
         ∙ sym (ite_ne x.applied.refusal 0 _ _ z))

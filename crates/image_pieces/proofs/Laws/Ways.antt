@@ -1,5 +1,5 @@
 -- Which lines a piece has by its number, and what is written of it: one law for each way through the functions that write it. Assumes nothing.
-use Rattle.std.specs.Prelude.{ℕ, ◌+◌, ◌-◌, ◌*◌, ◌≤◌, ◌<◌, ◌≡◌, refl, List, [], ◌∷◌, ◌++◌, length, take, drop, Option, Some}
+use Rattle.std.specs.Prelude.{ℕ, ◌+◌, ◌-◌, ◌*◌, ◌≤◌, ◌<◌, ◌≡◌, refl, List, [], ◌∷◌, ◌++◌, length, take, drop, Option, Some, Result, Ok, Err}
 use native.Mathlib.Omega.{arith}
 use Rattle.std.proofs.Math.Path.{sym, ap}
 use Rattle.std.proofs.Common.{◌∙◌}
@@ -14,8 +14,11 @@ use Rattle.def_image.specs.Listing.{ascii, line, lines_from, effect_row, value_l
 use Rattle.image_text.specs.Texts.{Cursor, cursor, put_all, head_line}
 use Rattle.image_text.proofs.Laws.Text.{put_fits}
 use Rattle.image_text.proofs.Laws.Loops.{not_shown}
+use Rattle.def_refusals.specs.declared.Refusal.{Refusal}
+use Rattle.def_refusals.specs.Verdicts.{number_of}
+use Rattle.def_refusals.proofs.Laws.Verdicts.{number_some}
 use Rattle.image_pieces.specs.declared.Shown.{Shown}
-use Rattle.image_pieces.specs.Pieces.{piece_bytes, effect_line, effect_run, value_run, listed_piece, refused_piece, piece, Writes, puts}
+use Rattle.image_pieces.specs.Pieces.{Answer, answer_of, piece_bytes, effect_line, effect_run, value_run, listed_piece, refused_piece, piece, Writes, puts}
 
 -- ---- the line of an effect
 
@@ -47,7 +50,7 @@ no_text c = record { bytes = refl; suffices = omega arith }
 
 -- ---- piece k of a listing
 
-module _ (s : Shown) (vs ss os : List ℕ) (k : ℕ) where
+module _ (s : Answer) (vs ss os : List ℕ) (k : ℕ) where
   -- the first line
   pub listed_head : k ≡ 0 → line (ascii "OK") (Some s.count ∷ Some s.entries ∷ []) ≡ listed_piece s vs ss os k
   unfolding listed_piece
@@ -128,14 +131,16 @@ puts_shows text bs us r l e =
     ap (λ (c : Cursor). take c.at c.bytes) (e ∙ ite_ge (length bs) piece_bytes (cursor 0 bs) (cursor (length text) (text ++ drop (length text) bs)) l)
     ∙ take-append_seam text (drop (length text) bs)
 
-module _ (s : Shown) (vs ss os : List ℕ) (k : ℕ) (bs us : List ℕ) (r : ℕ) where
+module _ (a : Result Shown Refusal) (vs ss os : List ℕ) (k : ℕ) (bs us : List ℕ) (r : ℕ) where
   -- a refusal
   -- one way through `put_piece`
-  pub puts_refused : piece_bytes ≤ length bs → (s.refusal ≡ 0 → ⊥) → Writes (refused_piece s.refusal k) (cursor 0 bs) (cursor r us) → cursor r us ≡ puts (piece s vs ss os k) bs
+  pub puts_refused : (e : Refusal) (n : ℕ) → a ≡ Err e → n ≡ number_of e → piece_bytes ≤ length bs → Writes (refused_piece n k) (cursor 0 bs) (cursor r us) → cursor r us ≡ puts (piece (answer_of a) vs ss os k) bs
   unfolding piece
-  puts_refused l h w = puts_whole _ bs us r l (as_text (sym (ite_ne s.refusal 0 (listed_piece s vs ss os k) (refused_piece s.refusal k) h)) w)
+  puts_refused e n h q l w =
+      puts_whole _ bs us r l (as_text (ap (λ (m : ℕ). refused_piece m k) q ∙ sym (ite_ne (number_of e) 0 (listed_piece (answer_of (Err e)) vs ss os k) (refused_piece (number_of e) k) (number_some e))) w)
+      ∙ ap (λ (x : Result Shown Refusal). puts (piece (answer_of x) vs ss os k) bs) (sym h)
 
   -- a listing
-  pub puts_listed : piece_bytes ≤ length bs → s.refusal ≡ 0 → Writes (listed_piece s vs ss os k) (cursor 0 bs) (cursor r us) → cursor r us ≡ puts (piece s vs ss os k) bs
+  pub puts_listed : (s : Shown) → a ≡ Ok s → piece_bytes ≤ length bs → Writes (listed_piece (answer_of (Ok s)) vs ss os k) (cursor 0 bs) (cursor r us) → cursor r us ≡ puts (piece (answer_of a) vs ss os k) bs
   unfolding piece
-  puts_listed l h w = puts_whole _ bs us r l (as_text (sym (ite_eq s.refusal 0 (listed_piece s vs ss os k) (refused_piece s.refusal k) h)) w)
+  puts_listed s h l w = puts_whole _ bs us r l w ∙ ap (λ (x : Result Shown Refusal). puts (piece (answer_of x) vs ss os k) bs) (sym h)

@@ -14,8 +14,7 @@ use Rattle.lent_layout.specs.Layout.{output}
 use Rattle.def_image.specs.Listing.{ascii, line, lines_from, effect_row, effect_lines, value_line, set_line, shown_lines, refusal_line}
 use Rattle.image_text.specs.Texts.{lent_listing}
 use Rattle.image_text.proofs.Laws.Loops.{effects_length}
-use Rattle.image_pieces.specs.declared.Shown.{Shown}
-use Rattle.image_pieces.specs.Pieces.{effect_line, effect_run, value_run, listed_piece, refused_piece, piece, all_pieces}
+use Rattle.image_pieces.specs.Pieces.{Answer, effect_line, effect_run, value_run, listed_piece, refused_piece, piece, all_pieces}
 use Rattle.image_pieces.proofs.Laws.Ways.{listed_head, listed_effects, listed_values, listed_set, listed_end, refused_line, refused_past}
 
 -- ---- counted lines
@@ -105,7 +104,7 @@ effects_listed os count (suc n) k h =
 
 -- ---- the whole
 
-module _ (s : Shown) (vs ss os : List ℕ) where
+module _ (s : Answer) (vs ss os : List ℕ) where
   -- piece k, where nothing is refused
   abbrev p : ℕ → List ℕ
   p = listed_piece s vs ss os

@@ -1,7 +1,7 @@
 -- `image_read::read_image` meets its contract: a law for each of its ways. Assumes nothing.
 use Rattle.lent_copies.proofs.Laws.Copy.{cleared}
 use Rattle.image_job.proofs.Laws.Reading.{read_lent, read_length, read_words_is, words_fit, whole_length}
-use mathlib.Core.Path.{sym, ap, ◌∙◌}
+use mathlib.Core.Path.{refl, sym, ap, ◌∙◌}
 use lib.Seq.{length-take-le}
 use Rattle.lent_copies.specs.Copies.{zeros}
 use Rattle.image_read.proofs.read_image.Goals as goal
@@ -10,8 +10,8 @@ use Rattle.image_read.proofs.read_image.Goals.{then-lent_wrong-via-then-lent_wro
 pub returns-then-lent_wrong : goal.returns-then-lent_wrong
 returns-then-lent_wrong c = (
   elim c.then-lent_wrong.branch [
-    | then-lent_wrong-via-then-lent_wrong w ↦ read_lent _ _ _ _ _ _ _ (sym w.if-lent_wrong.true ∙ c.lent_wrong.ensures) c.no_job.ensures
-    | then-lent_wrong-via-else-lent_wrong+then-length_wrong w ↦ read_length _ _ _ _ _ _ _ (sym w.if-lent_wrong.false ∙ c.lent_wrong.ensures) (sym w.if-length_wrong.true ∙ w.length_wrong.ensures) c.no_job.ensures
+    | then-lent_wrong-via-then-lent_wrong w ↦ read_lent _ _ _ _ _ _ _ (sym w.if-lent_wrong.true ∙ c.lent_wrong.ensures) refl
+    | then-lent_wrong-via-else-lent_wrong+then-length_wrong w ↦ read_length _ _ _ _ _ _ _ (sym w.if-lent_wrong.false ∙ c.lent_wrong.ensures) (sym w.if-length_wrong.true ∙ w.length_wrong.ensures) refl
   ],
   cleared _ _ (c.fill.ensures.after (λ y h. h)),
 )

@@ -3,4 +3,4 @@ use Rattle.lent_copies.proofs.Laws.Copy.{cleared}
 use Rattle.image_run.proofs.clear_read.Goals as goal
 
 pub returns : goal.returns
-returns c = (cleared _ _ (c.fill.ensures.after (λ y h. h)), cleared _ _ (c.fill-2.ensures.after (λ y h. h)), cleared _ _ (c.fill-3.ensures.after (λ y h. h)))
+returns c = record { words = cleared _ _ (c.fill.ensures.after (λ y h. h)); context = cleared _ _ (c.fill-2.ensures.after (λ y h. h)); candidates = cleared _ _ (c.fill-3.ensures.after (λ y h. h)) }

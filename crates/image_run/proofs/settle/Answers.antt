@@ -1,11 +1,12 @@
 -- `image_run::settle` meets its contract: nothing is cleared, or everything. Assumes nothing.
+use mathlib.Core.Path.{sym, ◌∙◌}
 use Rattle.lent_copies.proofs.Laws.Copy.{cleared}
-use Rattle.image_outcome.proofs.Laws.Inferring.{settled_same, settled_zero}
+use Rattle.image_outcome.proofs.Laws.Inferring.{settled_shown, settled_refused}
 use Rattle.image_run.proofs.settle.Goals as goal
 
-pub returns-else-shown-ne0 : goal.returns-else-shown-ne0
-returns-else-shown-ne0 c = settled_same _ _ _ _ c.if-shown-ne0.false
+pub returns-else-is_err : goal.returns-else-is_err
+returns-else-is_err c = settled_shown _ _ _ _ (sym c.is_err.ensures.value ∙ c.if-is_err.false)
 
-pub returns-then-shown-ne0 : goal.returns-then-shown-ne0
-returns-then-shown-ne0 c =
-    settled_zero _ _ _ _ _ _ _ c.if-shown-ne0.true (cleared _ _ (c.fill.ensures.after (λ y h. h))) (cleared _ _ (c.fill-then-shown-ne0.ensures.after (λ y h. h))) (cleared _ _ (c.fill-then-shown-ne0-2.ensures.after (λ y h. h)))
+pub returns-then-is_err : goal.returns-then-is_err
+returns-then-is_err c =
+    settled_refused _ _ _ _ _ _ _ (sym c.is_err.ensures.value ∙ c.if-is_err.true) (cleared _ _ (c.fill.ensures.after (λ y h. h))) (cleared _ _ (c.fill-then-is_err.ensures.after (λ y h. h))) (cleared _ _ (c.fill-then-is_err-2.ensures.after (λ y h. h)))

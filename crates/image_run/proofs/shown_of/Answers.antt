@@ -3,15 +3,17 @@ use mathlib.Core.Path.{refl, sym, ap, ◌∙◌}
 use Rattle.std.specs.Prelude.{Result, Ok, Err}
 use Rattle.def_refusals.specs.declared.Refusal.{Refusal}
 use Rattle.def_refusals.proofs.Laws.Verdicts.{number_some}
+use Rattle.laws_monad.proofs.Laws.Answers.{passes}
 use Rattle.call_outcome.specs.declared.Applied.{Applied}
 use Rattle.call_outcome.specs.Calls.{told}
-use Rattle.image_outcome.specs.Inferring.{answered, refused_as}
+use Rattle.image_outcome.specs.Inferring.{answered}
 use Rattle.image_outcome.proofs.Laws.Inferring.{answered_refused, answered_ran}
 use Rattle.image_run.proofs.shown_of.Goals as goal
 
-pub returns-in-Ok : goal.returns-in-Ok
-returns-in-Ok c = λ s f. answered_ran (told s f (Ok c.in-Ok.applied)) refl ∙ ap (λ (x : Result Applied Refusal). answered (told s f x)) (sym c.in-Ok.is)
+pub returns-in_err-applied : goal.returns-in_err-applied
+returns-in_err-applied c =
+    rw (passes _ _ c.from_residual.ensures.1) (λ s f. answered_refused (told s f (Err c.in_err-applied.field-0.0)) _ (number_some c.in_err-applied.field-0.0) refl ∙ ap (λ (x : Result Applied Refusal). answered (told s f x)) (sym c.in_err-applied.was))
 
-pub returns-in-Err : goal.returns-in-Err
-returns-in-Err c =
-    λ s f. answered_refused (told s f (Err c.in-Err.refusal)) _ (number_some c.in-Err.refusal) (c.refused.ensures ∙ ap refused_as c.number.ensures) ∙ ap (λ (x : Result Applied Refusal). answered (told s f x)) (sym c.in-Err.is)
+pub returns : goal.returns
+returns c =
+    λ s f. answered_ran (told s f (Ok c.in_ok-applied.applied)) refl ∙ ap (λ (x : Result Applied Refusal). answered (told s f x)) (sym c.in_ok-applied.was)

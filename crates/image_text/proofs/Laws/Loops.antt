@@ -3,10 +3,9 @@ use Rattle.std.specs.Prelude.{ℕ, zero, suc, ◌+◌, ◌-◌, ◌≤◌, ◌<�
 use Rattle.std.proofs.Common.{arith, ◌∙◌}
 use Rattle.std.proofs.Math.Path.{sym, ap}
 use mathlib.Core.List.{List, [], ◌∷◌, map}
-use Rattle.base_sets.specs.Members.{members, bits_of, values_of}
-use Rattle.lent_sets.specs.Rows.{set_at, next_member, left}
+use Rattle.base_sets.specs.Members.{members, values_of}
 use Rattle.base_tests.specs.Tests.{is_some}
-use Rattle.lent_sets.proofs.Laws.Row.{Walk, walk_start, walk_step, walk_end, none_of}
+use Rattle.lent_sets.proofs.Laws.Row.{none_of}
 use Rattle.def_effects.specs.declared.Place.{Place}
 use Rattle.lent_effects.specs.declared.AliasingEffect.{AliasingEffect as Head}
 use Rattle.lent_effects.specs.Records.{effect_with}
@@ -77,48 +76,35 @@ shown_columns [] c d e p q = q ∙ ap (put_all (newline ∷ [])) p
 shown_columns (x ∷ xs) c d e p q =
     line_column x xs c (put_all (column x) c) e refl (shown_columns xs (put_all (column x) c) d e (p ∙ put_append (column x) (columns xs) c) q)
 
--- the values of a set that is there
-values_of_is : (o : Option ℕ) → is_some o ≡ true → values_of o ≡ members (bits_of o)
-values_of_is None h = absurd (let z : ◌≡◌ {A = ℕ} 0 1 = cc in omega arith)
-values_of_is (Some s) h = refl
+-- the dash of an empty set, and no column of a value
+-- one way to the loop of `put_members`
+pub members_empty : (l : List ℕ) (c d : Cursor) → length l ≡ 0 → d ≡ put_all (column None) c → put_all (columns (map Some l)) d ≡ put_all (columns (or_absent l)) c
+unfolding columns column shown put_all
+members_empty [] c d h p = p
+members_empty (v ∷ l) c d h p = absurd (omega arith)
 
-module _ (ss : List ℕ) (i : ℕ) where
-  -- an identifier that is not defined has no values
-  -- one way through `put_members`
-  pub members_none : (c d : Cursor) → is_some (set_at ss i) ≡ false → d ≡ put_all (column None) c → d ≡ put_all (columns (or_absent (values_of (set_at ss i)))) c
-  unfolding columns column shown
-  members_none c d h p = p ∙ sym (ap (λ (o : Option ℕ). put_all (columns (or_absent (values_of o))) c) (none_of (set_at ss i) h))
+-- any other set has a column for each value
+members_some : (l : List ℕ) (c : Cursor) → (length l ≡ 0 → ⊥) → put_all (columns (map Some l)) c ≡ put_all (columns (or_absent l)) c
+members_some [] c h = absurd (h refl)
+members_some (v ∷ l) c h = refl
 
-  -- nor has one whose set is empty
-  -- "or `-` for an empty set"
-  pub members_empty : (u : ℕ) (c d : Cursor) → is_some (set_at ss i) ≡ true → u ≡ next_member ss i 1 → 1024 ≤ u → d ≡ put_all (column None) c → d ≡ put_all (columns (or_absent (values_of (set_at ss i)))) c
-  unfolding columns column shown
-  members_empty u c d h e l p =
-      let w = walk_start ss i u h e in
-      p ∙ sym (ap (λ (m : List ℕ). put_all (columns (or_absent m)) c) (values_of_is (set_at ss i) h ∙ w.1 ∙ walk_end ss i _ u w.0 l))
+-- so has the loop of `put_members`, as it begins
+pub members_start : (l : List ℕ) (n : ℕ) (c d : Cursor) → n ≡ length l → (n ≡ 0 → ⊥) → d ≡ c → put_all (columns (map Some l)) d ≡ put_all (columns (or_absent l)) c
+members_start l n c d e h p = ap (put_all (columns (map Some l))) p ∙ members_some l c (λ z. h (e ∙ z))
 
-  -- any other has them from the lowest on
-  pub members_start : (u : ℕ) (c : Cursor) → is_some (set_at ss i) ≡ true → u ≡ next_member ss i 1 → u < 1024 → put_all (columns (map Some (left (bits_of (set_at ss i)) u))) c ≡ put_all (columns (or_absent (values_of (set_at ss i)))) c
-  members_start u c h e l =
-      let w = walk_start ss i u h e in
-      let n = (walk_step ss i (bits_of (set_at ss i)) u (next_member ss i (u + 1)) w.0 l refl).2 in
-      ap (λ (m : List ℕ). put_all (columns (map Some m)) c) n
-      ∙ sym (ap (λ (m : List ℕ). put_all (columns (or_absent m)) c) (values_of_is (set_at ss i) h ∙ w.1 ∙ n))
+-- one value more
+pub members_turn : (l m : List ℕ) (v : ℕ) (z c d : Cursor) → l ≡ v ∷ m → d ≡ put_all (column (Some v)) c → put_all (columns (map Some l)) c ≡ z → put_all (columns (map Some m)) d ≡ z
+unfolding columns
+members_turn l m v z c d e p q =
+    ap (put_all (columns (map Some m))) p
+    ∙ sym (put_append (column (Some v)) (columns (map Some m)) c)
+    ∙ sym (ap (λ (k : List ℕ). put_all (columns (map Some k)) c) e) ∙ q
 
-  -- one value more
-  pub members_step : (v u : ℕ) (z c d : Cursor) → Walk ss i (bits_of (set_at ss i)) v → v < 1024 → u ≡ next_member ss i (v + 1) → d ≡ put_all (column (Some v)) c → put_all (columns (map Some (left (bits_of (set_at ss i)) v))) c ≡ z → put_all (columns (map Some (left (bits_of (set_at ss i)) u))) d ≡ z
-  unfolding columns
-  members_step v u z c d w l e p q =
-      let r = columns (map Some (left (bits_of (set_at ss i)) u)) in
-      ap (put_all r) p
-      ∙ sym (put_append (column (Some v)) r c)
-      ∙ sym (ap (λ (m : List ℕ). put_all (columns (map Some m)) c) (walk_step ss i (bits_of (set_at ss i)) v u w l e).2) ∙ q
-
-  -- no value is left
-  -- the loop's end
-  pub members_end : (v : ℕ) (z c : Cursor) → Walk ss i (bits_of (set_at ss i)) v → 1024 ≤ v → put_all (columns (map Some (left (bits_of (set_at ss i)) v))) c ≡ z → c ≡ z
-  unfolding columns put_all
-  members_end v z c w l q = sym (ap (λ (m : List ℕ). put_all (columns (map Some m)) c) (walk_end ss i (bits_of (set_at ss i)) v w l)) ∙ q
+-- no value is left
+-- the loop's end
+pub members_done : (l : List ℕ) (z c : Cursor) → l ≡ [] → put_all (columns (map Some l)) c ≡ z → c ≡ z
+unfolding columns put_all
+members_done l z c e q = sym (ap (λ (k : List ℕ). put_all (columns (map Some k)) c) e) ∙ q
 
 -- an identifier that is not defined has no line
 -- one way through `put_set_line`

@@ -4,7 +4,8 @@ use Rattle.std.proofs.Common.{arith, sym, ap, ◌∙◌, length-set, drop-cons}
 use Rattle.std.proofs.Math.ListN.{drop_of_length-le}
 use Rattle.std.proofs.lemmas.List.Edits.{sets, sets-eq}
 use Rattle.base_tests.proofs.Laws.Choice.{ite_lt, ite_ge}
-use Rattle.image_text.specs.Texts.{Cursor, cursor, put_byte, put_all}
+use Rattle.image_text.specs.declared.Text.{Text}
+use Rattle.image_text.specs.Texts.{Cursor, cursor, cursor_of, put_byte, put_all}
 
 -- a text and another after it are one text
 -- so that a function that calls two writes the one and then the other
@@ -44,6 +45,10 @@ put_sets (x ∷ xs) k bs h =
 -- a buffer that suffices holds the text and nothing else is changed
 pub put_fits : (xs : List ℕ) (k : ℕ) (bs : List ℕ) → k + length xs ≤ length bs → put_all xs (cursor k bs) ≡ cursor (k + length xs) (take k bs ++ xs ++ drop (k + length xs) bs)
 put_fits xs k bs h = put_sets xs k bs h ∙ ap (cursor (k + length xs)) (sets-eq xs bs k h)
+
+-- a text that is done with gives its buffer back as it left it
+pub given_back : (t : Text) (bs : List ℕ) (d : Cursor) → bs ≡ t.buffer.now → cursor_of t ≡ d → cursor t.at bs ≡ d
+given_back t bs d e p = ap (cursor t.at) e ∙ p
 
 -- ---- a text that is written byte by byte
 

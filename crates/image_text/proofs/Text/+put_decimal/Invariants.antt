@@ -1,4 +1,4 @@
-use Rattle.image_text.proofs.+put_decimal.Given as goal
+use Rattle.image_text.proofs.Text.+put_decimal.Given as goal
 
 abbrev pub decreases-put_decimal : goal.decreases-put_decimal
 decreases-put_decimal l = l.n

@@ -1,0 +1,8 @@
+use mathlib.Core.Path.{◌≡◌}
+use lib.ListN.{drop}
+use Rattle.def_image.specs.Listing.{shown_all}
+use Rattle.image_text.specs.Texts.{cursor_of, Kept, put_all}
+use Rattle.image_text.proofs.Text.put_line.Given as goal
+
+abbrev pub invariant-loop-x : goal.invariant-loop-x
+invariant-loop-x l = Kept l.initial.self l.self × (put_all (shown_all (drop l.x-index l.columns)) (cursor_of l.self) ≡ put_all (shown_all l.columns) (cursor_of l.initial.self))

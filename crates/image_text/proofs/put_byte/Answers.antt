@@ -1,8 +1,0 @@
-use Rattle.image_text.proofs.Laws.Text.{put_inside, put_outside}
-use Rattle.image_text.proofs.put_byte.Goals as goal
-
-pub returns-then-at-buffer : goal.returns-then-at-buffer
-returns-then-at-buffer c = put_inside _ _ _ c.if-at-buffer.true
-
-pub returns-else-at-buffer : goal.returns-else-at-buffer
-returns-else-at-buffer c = put_outside _ _ _ c.if-at-buffer.false
