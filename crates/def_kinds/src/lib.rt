@@ -25,7 +25,7 @@ const REASONS: u32 = 12;
 const REASON_SETS: u64 = 4096;
 
 // The joins of a kind with each of the six: document 01's table, a row for each kind and a column for each.
-const JOINS: [[u8; 6]; 6] = [
+const JOINS: [[u32; 6]; 6] = [
     [0, 3, 0, 3, 0, 5],
     [3, 1, 1, 3, 1, 3],
     [0, 1, 2, 3, 4, 5],
@@ -45,7 +45,7 @@ impl ValueKind {
 
     // The kind of a number, read back from a table.
     // A number above 5 is no kind and reads as MaybeFrozen, the top, so that the answer is total.
-    pub fn of_code(n: u8) -> ValueKind
+    pub fn of_code(n: u32) -> ValueKind
         ensures { result ≡ kind_at n }
     {
         match n {

@@ -3,7 +3,6 @@
 #![tactic(auto)]
 
 ghost use Rattle.std.specs.Prelude.{◌≡◌, ◌+◌};
-ghost use Rattle.def_kinds.specs.Kinds.{kind_at};
 ghost use Rattle.lent_tables.specs.Words.{put_places};
 ghost use Rattle.def_image.specs.Layout as Image;
 ghost use Rattle.def_image.specs.Layout.{count_of};
@@ -48,15 +47,6 @@ pub fn place_at(im: &[u32], k: u32) -> Place
     place_of(im, 0, k)
 }
 
-// The kind of a word; what is no kind reads as MaybeFrozen.
-// An image with such a word is refused before it is used.
-#[tactic(auto, using(def_kinds::proofs::Laws::Kinds::kind_at_rest))]
-pub fn kind_at(x: u32) -> ValueKind
-    ensures { result ≡ kind_at x }
-{
-    u8::try_from(x).map_or(ValueKind::MaybeFrozen, ValueKind::of_code)
-}
-
 // ---- the state
 
 // Value k of the image is put into the table of values.
@@ -67,7 +57,7 @@ fn decode_value(im: &[u32], k: u32, values: &mut [u64])
 {
     let number = cell(im, Section::Values, k, 0);
     let value = AbstractValue {
-        kind: kind_at(cell(im, Section::Values, k, 1)),
+        kind: ValueKind::of_code(cell(im, Section::Values, k, 1)),
         reason: cell(im, Section::Values, k, 2),
     };
     put_value(values, number as usize, value);

@@ -12,8 +12,9 @@ ghost use Rattle.image_decode.specs.Decoded.{decoded_candidate, decoded_candidat
 ghost use Rattle.lent_layout.specs.Layout.{candidate_table};
 
 use def_effects::{AliasingDiagnostic, Place};
+use def_kinds::ValueKind;
 use image_class2::{Section, cell, count_of, creates_function};
-use image_decode::{kind_at, place_at, put_run};
+use image_decode::{place_at, put_run};
 use lent_effect_write::put_effect;
 use lent_effects::AliasingEffect;
 use lent_layout::CANDIDATES;
@@ -70,7 +71,7 @@ fn head_at(im: &[u32], k: u32) -> AliasingEffect
         8 => AliasingEffect::Assign { from, into },
         9 => AliasingEffect::Create {
             into,
-            kind: kind_at(cell(im, Section::Candidates, k, 3)),
+            kind: ValueKind::of_code(cell(im, Section::Candidates, k, 3)),
             reason,
         },
         10 => AliasingEffect::CreateFrom { from, into },

@@ -2,7 +2,6 @@
 #![tactic(auto)]
 
 ghost use Rattle.std.specs.Prelude.{◌≡◌};
-ghost use Rattle.def_kinds.specs.Kinds.{kind_at};
 ghost use Rattle.def_effects.specs.Effects.{Create, CreateFunction};
 ghost use Rattle.lent_effects.specs.Records as Records;
 ghost use Rattle.lent_effects.specs.Records.{head_in};
@@ -11,17 +10,6 @@ use def_effects::AliasingDiagnostic;
 use def_kinds::ValueKind;
 use lent_effects::AliasingEffect;
 use lent_tables::Table;
-
-// The kind of a word; what is no kind reads as MaybeFrozen.
-// A record with such a word is refused before it is used.
-fn kind_of_word(x: u32) -> ValueKind
-    ensures { result ≡ kind_at x }
-{
-    match u8::try_from(x) {
-        Ok(n) => ValueKind::of_code(n),
-        Err(_) => ValueKind::MaybeFrozen,
-    }
-}
 
 // The diagnostic of record i.
 // Its identity is part of the key, its instance is its place in the table.
@@ -75,7 +63,7 @@ pub fn effect_in(t: Table, xs: &[u32], i: usize) -> AliasingEffect
         },
         9 => AliasingEffect::Create {
             into: t.place_in(xs, i, 6, 0),
-            kind: kind_of_word(t.field(xs, i, 11)),
+            kind: ValueKind::of_code(t.field(xs, i, 11)),
             reason: t.field(xs, i, 12),
         },
         10 => AliasingEffect::CreateFrom {

@@ -9,12 +9,12 @@ ghost use Rattle.lent_values.specs.Cells.{cell_of, word_of, value_at, put_value}
 use def_kinds::{AbstractValue, ValueKind};
 use lent_slices::{get_or, set};
 
-// The low bits of a number, as a byte.
+// The low bits of a number.
 // A kind's number is cut out of a word by it.
-fn low(x: u64) -> u8
+fn low(x: u64) -> u32
     ensures { result ≡ x % 8 }
 {
-    (x % 8) as u8
+    (x % 8) as u32
 }
 
 // The reasons of a word.

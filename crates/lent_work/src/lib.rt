@@ -5,7 +5,6 @@ ghost use Rattle.std.specs.Prelude.{◌≡◌};
 ghost use Rattle.lent_work.specs.Marks.{is_marked, marked};
 
 use def_effects::Session;
-use def_refusals::Refusal;
 
 // A bit for each identifier: whether its place was initialized in this instruction.
 // Document 01's refusals 6 and 7 ask for it.
@@ -25,10 +24,6 @@ pub struct Run {
     pub freeze: u32,
     pub entries: u32,
 }
-
-// Where a part of an instruction has come to: what it has by value then, or why it is refused.
-// Where it is refused nothing asks for what it had by value.
-pub type Ran = Result<Run, Refusal>;
 
 // Whether identifier i is marked.
 // There is no identifier past 511.

@@ -25,7 +25,7 @@ struct State {
 // An entry of a state: value number, kind, reasons.
 fn load_value(record: &mut Reading, values: &mut [u64]) {
     let v = record.word();
-    let kind = ValueKind::of_code((record.word() % 256) as u8);
+    let kind = ValueKind::of_code(record.word() % 256);
     let reason = record.word();
     put_value(values, v as usize, AbstractValue { kind, reason });
 }
@@ -199,7 +199,7 @@ fn run(
             }
         }
         3 => {
-            let kind = ValueKind::of_code((second % 256) as u8);
+            let kind = ValueKind::of_code(second % 256);
             let a = AbstractValue {
                 kind,
                 reason: third,

@@ -28,63 +28,8 @@ use Rattle.call_outcome.specs.Attempts.{at_most}
 
 -- ---- lengths
 
--- the test of the context and four more
-abbrev five : Bool → Bool → Bool → Bool → Bool → Bool
-five a b c d e = a || (not b || (not c || (not d || not e)))
-
 -- the lengths of five lists, and whether that of the context is wrong
 module _ (sets : ℕ) (context : Bool) (candidates output scratch64 scratch32 : ℕ) where
-  -- a context of a wrong length
-  -- nothing else is looked at
-  pub length_context : context ≡ true → true ≡ lengths_wrong sets context candidates output scratch64 scratch32
-  unfolding lengths_wrong
-  length_context n = sym (ap (λ (a : Bool). five a (eqb (candidates % 98) 0) (eqb output 109760) (eqb scratch32 25347) (eqb scratch64 (1024 + sets))) n)
-
-  -- the context is right
-  module _ (h : context ≡ false) where
-    -- no whole number of candidates
-    -- records of 98 words
-    pub length_candidates : (candidates % 98 ≡ 0 → ⊥) → true ≡ lengths_wrong sets context candidates output scratch64 scratch32
-    unfolding lengths_wrong
-    length_candidates n = sym (ap₂ (λ (a b : Bool). five a b (eqb output 109760) (eqb scratch32 25347) (eqb scratch64 (1024 + sets))) h (ne_eqb (candidates % 98) 0 n))
-
-    -- the candidates are right
-    module _ (g : candidates % 98 ≡ 0) where
-      -- what is left to test
-      rest : (c : Bool) → c ≡ eqb output 109760 → (not c || (not (eqb scratch32 25347) || not (eqb scratch64 (1024 + sets)))) ≡ lengths_wrong sets context candidates output scratch64 scratch32
-      unfolding lengths_wrong
-      rest c e =
-          ap (λ (x : Bool). not x || (not (eqb scratch32 25347) || not (eqb scratch64 (1024 + sets)))) e
-          ∙ sym (ap₂ (λ (a b : Bool). five a b (eqb output 109760) (eqb scratch32 25347) (eqb scratch64 (1024 + sets))) h (eq-eqb (candidates % 98) 0 g))
-
-      -- an output list of another length
-      -- 1,120 records
-      pub length_output : (output ≡ 109760 → ⊥) → true ≡ lengths_wrong sets context candidates output scratch64 scratch32
-      length_output n = rest false (sym (ne_eqb output 109760 n))
-
-      -- the output list is right
-      module _ (f : output ≡ 109760) where
-        -- scratch for a context, of another length
-        pub length_32 : (scratch32 ≡ 25347 → ⊥) → true ≡ lengths_wrong sets context candidates output scratch64 scratch32
-        length_32 n = sym (ap (λ (a : Bool). not a || not (eqb scratch64 (1024 + sets))) (ne_eqb scratch32 25347 n)) ∙ rest true (sym (eq-eqb output 109760 f))
-
-        -- scratch for a state, of another length
-        pub length_64 : (b : Bool) → scratch32 ≡ 25347 → b ≡ eqb scratch64 (1024 + sets) → not b ≡ lengths_wrong sets context candidates output scratch64 scratch32
-        length_64 b e k =
-            ap not k ∙ sym (ap (λ (a : Bool). not a || not (eqb scratch64 (1024 + sets))) (eq-eqb scratch32 25347 e)) ∙ rest true (sym (eq-eqb output 109760 f))
-
-        -- it is shorter than the values alone
-        pub length_short : scratch32 ≡ 25347 → scratch64 < 1024 → true ≡ lengths_wrong sets context candidates output scratch64 scratch32
-        length_short e l = length_64 false e (sym (ne_eqb scratch64 (1024 + sets) (λ z. omega arith)))
-
-        -- it is longer, and the rest is compared with the sets
-        pub length_rest : scratch32 ≡ 25347 → 1024 ≤ scratch64 → not (eqb (scratch64 - 1024) sets) ≡ lengths_wrong sets context candidates output scratch64 scratch32
-        length_rest e l = length_64 (eqb (scratch64 - 1024) sets) e
-            (⊎_elim
-            (λ z. eq-eqb (scratch64 - 1024) sets z ∙ sym (eq-eqb scratch64 (1024 + sets) (omega arith)))
-            (λ z. ne_eqb (scratch64 - 1024) sets z ∙ sym (ne_eqb scratch64 (1024 + sets) (λ y. z (omega arith))))
-            (same_or_not (scratch64 - 1024) sets))
-
   -- all lengths are right
   pub lengths_right : lengths_wrong sets context candidates output scratch64 scratch32 ≡ false
       → (context ≡ false) × (candidates % 98 ≡ 0) × (output ≡ 109760) × (scratch32 ≡ 25347) × (scratch64 ≡ 1024 + sets)
@@ -147,25 +92,6 @@ full_right cs xs e =
         (λ h. subst (λ (x : ℕ). x ≤ limit) (sym (ite_ge limit n limit n h)) h)
         (lt_or_ge limit n)
 
--- the test as the code makes it
-pub context_tested : (cs xs : List ℕ) (room : ℕ) (r b : Bool) → room ≡ room_for cs xs → r ≡ context_wrong room (length cs) → r ≡ b → wrong_context cs xs ≡ b
-context_tested cs xs room r b e h q = ap (λ (n : ℕ). context_wrong n (length cs)) (sym e) ∙ sym h ∙ q
-
--- the three tests of the code
-pub context_short : (room context : ℕ) → context < 37830 + room * 98 → true ≡ context_wrong room context
-unfolding context_wrong
-context_short room context h = sym (or_first (ltb context (37830 + room * 98)) _ (lt-ltb context (37830 + room * 98) h))
-
-pub context_long : (room context : ℕ) → 37830 + room * 98 ≤ context → 238534 < context → true ≡ context_wrong room context
-unfolding context_wrong
-context_long room context h g =
-    sym (or_second (ltb context (37830 + room * 98)) _ (le-ltb context (37830 + room * 98) h) ∙ or_first (ltb 238534 context) _ (lt-ltb 238534 context g))
-
-pub context_whole : (room context : ℕ) → 37830 + room * 98 ≤ context → context ≤ 238534 → not (eqb ((context - 37830) % 98) 0) ≡ context_wrong room context
-unfolding context_wrong
-context_whole room context h g =
-    sym (or_second (ltb context (37830 + room * 98)) _ (le-ltb context (37830 + room * 98) h) ∙ or_second (ltb 238534 context) _ (le-ltb 238534 context g))
-
 -- a length within its limit, and one past it
 pub most_past : (limit n : ℕ) → limit < n → limit ≡ at_most limit n
 most_past limit n l = sym (ite_lt limit n limit n l)
@@ -180,15 +106,6 @@ most_within limit n l = sym (ite_ge limit n limit n l)
 lower_1 : (x : ℕ) → 1 ≡ lower 1 x
 lower_1 zero = lower_alone 1 0 (λ z. omega arith) refl
 lower_1 (suc x) = lower_first 1 (suc x) (λ z. omega arith) (λ z. omega arith) (omega arith)
-
--- a state of which no length is wrong has a number of identifiers that a word holds
--- 16 words each
-pub identifiers_fit : (vs ss : List ℕ) (next access r : ℕ) → r ≡ state_refusal vs ss next access → (r ≡ 1 → ⊥) → length ss ≤ 8192
-identifiers_fit vs ss next access r e n = go (wrong_lengths vs ss) refl
-  where
-    go : (b : Bool) → wrong_lengths vs ss ≡ b → length ss ≤ 8192
-    go true h = absurd (n (e ∙ refused_1 vs ss next access h))
-    go false h = (lengths_fit vs ss h).2
 
 -- the class of a call, from the tests that it is made of
 -- each law is one way through the code

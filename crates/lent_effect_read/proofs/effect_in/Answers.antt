@@ -33,7 +33,7 @@ returns-in-8 c = head_8 _ _ _ _ c.field-code.ensures _ _ c.in-8.is c.place_in-in
 
 pub returns-in-9 : goal.returns-in-9
 returns-in-9 c =
-    head_9 _ _ _ _ c.field-code.ensures _ _ _ c.in-9.is c.place_in-in-9.ensures (c.kind_of_word.ensures ∙ ap kind_at c.field-in-9.ensures) c.field-in-9-2.ensures
+    head_9 _ _ _ _ c.field-code.ensures _ _ _ c.in-9.is c.place_in-in-9.ensures (c.of_code.ensures ∙ ap kind_at c.field-in-9.ensures) c.field-in-9-2.ensures
 
 pub returns-in-10 : goal.returns-in-10
 returns-in-10 c = head_10 _ _ _ _ c.field-code.ensures _ _ c.in-10.is c.place_in-in-10.ensures c.place_in-in-10-2.ensures

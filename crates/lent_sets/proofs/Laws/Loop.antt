@@ -25,16 +25,6 @@ pub seek_here : (f : ℕ → ℕ) (n v : ℕ) → f v ≡ 1 → seek f (suc n) v
 unfolding seek
 seek_here f n v h = ap (λ (b : ℕ). pick b v (seek f n (suc v))) h
 
--- what seek finds is not past the end, and f is not 0 there unless it is the end
-pub seek_le : (f : ℕ → ℕ) (n v : ℕ) → seek f n v ≤ v + n
-unfolding seek
-seek_le f zero v = omega arith
-seek_le f (suc n) v = go (seek_le f n (suc v)) (f v)
-  where
-    go : seek f n (suc v) ≤ suc v + n → (b : ℕ) → pick b v (seek f n (suc v)) ≤ v + suc n
-    go ih zero = omega arith
-    go ih (suc b) = omega arith
-
 pub seek_ge : (f : ℕ → ℕ) (n v : ℕ) → v ≤ seek f n v
 unfolding seek
 seek_ge f zero v = omega arith
@@ -118,7 +108,3 @@ module _ (g : ℕ → List ℕ → List ℕ) (a : ℕ) (f : ℕ → ℕ → ℕ)
           let len : length (g w l) ≡ length l = ap length (is w l) ∙ length-set l (a + w) x in
           ih r (omega arith) (omega arith)
           ∙ ap (f u) (ap (λ (m : List ℕ). get_or m (a + u) 0) (is w l) ∙ get_or-set_other l (a + w) (a + u) x 0 (λ d. omega arith))
-
-  -- past the end nothing changes
-  pub words_out : (n w : ℕ) (l : List ℕ) → length l ≤ a → upto g n w l ≡ l
-  words_out n w l h = upto_none g n w l (λ u p. is u l ∙ set_out l (a + u) (f u (get_or l (a + u) 0)) (omega arith))

@@ -85,13 +85,6 @@ module _ (rs : List ℕ) (i s : ℕ) (h : set_at rs i ≡ Some s) where
 
 -- ---- a loop over the members of a row, that goes from one to the next by `next_member`
 
--- where it goes on is at most 1,024
-pub next_le : (rs : List ℕ) (i v u : ℕ) → u ≡ next_member rs i v → v ≤ 1024 → u ≤ 1024
-unfolding next_member
-next_le rs i v u e h =
-    let l : u ≤ v + (1024 - v) = rw e (seek_le (member rs i) (1024 - v) v) in
-    omega arith
-
 -- and no lower than where it looked from
 pub next_ge : (rs : List ℕ) (i v u : ℕ) → u ≡ next_member rs i v → v ≤ u
 unfolding next_member
@@ -103,63 +96,6 @@ unfolding next_member
 next_is rs i v u e h l =
     let k : seek (member rs i) (1024 - v) v < v + (1024 - v) = rw (← e) (omega arith) in
     rw e (seek_at (member rs i) (1024 - v) v k)
-
-left_next : (rs : List ℕ) (i s v u : ℕ) → set_at rs i ≡ Some s → 0 < v → v ≤ 1024 → u ≡ next_member rs i v → left s v ≡ left s u
-unfolding next_member
-left_next rs i s v u h p l e = left_seek (member rs i) s (1024 - v) v u (λ k a b. sym (set_bit rs i s h k (omega arith) (omega arith))) e
-
--- the loop begins with all members
-pub start_members : (rs : List ℕ) (i s u : ℕ) → set_at rs i ≡ Some s → u ≡ next_member rs i 1 → members s ≡ left s u
-start_members rs i s u h e = members_left s ∙ left_skip s 0 (set_zero rs i s h) ∙ left_next rs i s 1 u h (zero-lt-suc 0) (omega arith) e
-
--- a turn takes the first of those that are left
-pub step_members : (rs : List ℕ) (i s v u : ℕ) → set_at rs i ≡ Some s → 0 < v → v < 1024 → 0 < member rs i v → u ≡ next_member rs i (v + 1) → left s v ≡ v ∷ left s u
-step_members rs i s v u h p l m e =
-    left_here s v (subst (λ (x : ℕ). 0 < x) (sym (set_bit rs i s h v p l)) m)
-    ∙ ap (λ (k : ℕ). v ∷ left s k) (sym (add-one v))
-    ∙ ap (λ (t : List ℕ). v ∷ t) (left_next rs i s (v + 1) u h (omega arith) (omega arith) e)
-
--- at 1,024 none is left
-pub end_members : (rs : List ℕ) (i s v : ℕ) → set_at rs i ≡ Some s → 1024 ≤ v → left s v ≡ []
-end_members rs i s v h l = left_none 1024 s v (set_fits rs i s h) l
-
--- where such a loop stands: at a member v of the set s of row i, or at 1,024, its end
--- a loop's invariant holds this and what is left to do, `left s v`; the laws below take it from turn to turn
-pub record Walk (rs : List ℕ) (i s v : ℕ) : Type 0 where
-  pub row : set_at rs i ≡ Some s
-  pub above : 0 < v
-  pub most : v ≤ 1024
-  pub found : v < 1024 → 0 < member rs i v
-
--- the loop begins, at a row that is defined
-pub walk_start : (rs : List ℕ) (i u : ℕ) → is_some (set_at rs i) ≡ true → u ≡ next_member rs i 1 → Walk rs i (bits_of (set_at rs i)) u × (members (bits_of (set_at rs i)) ≡ left (bits_of (set_at rs i)) u)
-walk_start rs i u h e = (
-  record {
-    row = some_of (set_at rs i) h;
-    above = next_ge rs i 1 u e;
-    most = next_le rs i 1 u e (omega arith);
-    found = next_is rs i 1 u e (omega arith);
-  },
-  start_members rs i (bits_of (set_at rs i)) u (some_of (set_at rs i) h) e,
-)
-
--- a turn takes v, and goes on at u above it
-pub walk_step : (rs : List ℕ) (i s v u : ℕ) → Walk rs i s v → v < 1024 → u ≡ next_member rs i (v + 1) → Walk rs i s u × (v < u) × (left s v ≡ v ∷ left s u)
-walk_step rs i s v u p l e =
-    let g : v + 1 ≤ u = next_ge rs i (v + 1) u e in (
-      record {
-        row = p.row;
-        above = omega arith;
-        most = next_le rs i (v + 1) u e (omega arith);
-        found = next_is rs i (v + 1) u e (omega arith);
-      },
-      omega arith,
-      step_members rs i s v u p.row p.above l (p.found l) e,
-    )
-
--- the loop ends
-pub walk_end : (rs : List ℕ) (i s v : ℕ) → Walk rs i s v → 1024 ≤ v → left s v ≡ []
-walk_end rs i s v p l = end_members rs i s v p.row l
 
 -- ---- a row that is stored
 
@@ -191,11 +127,6 @@ module _ (rs : List ℕ) (i m : ℕ) where
   pub put_other : (j : ℕ) → (i ≡ j → ⊥) → row_number (put_row rs i m) j ≡ row_number rs j
   unfolding row_number put_row
   put_other j n = number_same 16 (put_row rs i m) rs (j * 16) (j * 16) (λ k p. words_other (put_word i m) (i * 16) (λ w x. word_of m w) turn 16 0 rs (j * 16 + k) (λ u a b e. n (omega arith)))
-
-  -- a row past the end
-  pub put_out : length rs ≤ i * 16 → put_row rs i m ≡ rs
-  unfolding put_row
-  put_out h = words_out (put_word i m) (i * 16) (λ w x. word_of m w) turn 16 0 rs h
 
 -- ---- the rows as a table of sets, of n identifiers
 
@@ -240,21 +171,6 @@ set_same n rs i s f h l = set_cut n rs i s f h ∙ ap (λ (x : ℕ). Some (x - x
 pub set_other : (rs : List ℕ) (i s j : ℕ) → (i ≡ j → ⊥) → set_at (put_set rs i s) j ≡ set_at rs j
 unfolding set_at put_set
 set_other rs i s j n = ap (λ (x : ℕ). marked (x % 2) x) (put_other rs i (bit_or s 1) j n)
-
--- past the end it does nothing
-pub set_past : (n : ℕ) (rs : List ℕ) (i s : ℕ) → Fit n rs → n ≤ i → put_set rs i s ≡ rs
-unfolding put_set
-set_past n rs i s f h = put_out rs i (bit_or s 1) (omega arith)
-
--- what it leaves in a row follows from what stood in that row
-pub set_cong : (n : ℕ) (t u : List ℕ) (i s j : ℕ) → Fit n t → Fit n u → set_at t j ≡ set_at u j → set_at (put_set t i s) j ≡ set_at (put_set u i s) j
-set_cong n t u i s j f g e = ⊎_elim same (λ d. set_other t i s j d ∙ e ∙ sym (set_other u i s j d)) (same_or_not i j)
-  where
-    same : i ≡ j → set_at (put_set t i s) j ≡ set_at (put_set u i s) j
-    same p = ⊎_elim
-        (λ h. ap (set_at (put_set t i s)) (sym p) ∙ set_cut n t i s f h ∙ sym (set_cut n u i s g h) ∙ ap (set_at (put_set u i s)) p)
-        (λ h. ap (λ (l : List ℕ). set_at l j) (set_past n t i s f h) ∙ e ∙ sym (ap (λ (l : List ℕ). set_at l j) (set_past n u i s g h)))
-        (lt_or_ge i n)
 
 -- ---- what was written has no members but those given
 

@@ -21,14 +21,6 @@ use Rattle.lent_sets.proofs.Laws.Row.{Walk, walk_start, some_of, add_row}
 use Rattle.lent_sets.proofs.Laws.Code.{put_cut}
 use Rattle.state_ops.specs.Lists.{freeze_all, freezes, frozen_values, inserted, own_inserted, own_value, own_sets, set_or_own, assigned_values, assigned_sets, unions, phi_sets}
 
--- where a loop over the values of a place stands: at one of them, or past the last
-abbrev pub At : List ℕ → ℕ → ℕ → Type 0
-At ss i m = Walk ss i (bits_of (set_at ss i)) m
-
--- the values of a place that is defined are those of its row
-pub values_start : (ss : List ℕ) (i u : ℕ) → is_some (set_at ss i) ≡ true → u ≡ next_member ss i 1 → values_of (set_at ss i) ≡ left (bits_of (set_at ss i)) u
-values_start ss i u h e = ap values_of (some_of (set_at ss i) h) ∙ (walk_start ss i u h e).1
-
 -- ---- freezing the values of a place
 
 module _ (reason : ℕ) where
@@ -41,28 +33,6 @@ module _ (reason : ℕ) where
   pub freeze_done : (vs z l : List ℕ) → l ≡ [] → freeze_all reason l vs ≡ z → vs ≡ z
   unfolding freeze_all
   freeze_done vs z l e h = sym (ap (λ (m : List ℕ). freeze_all reason m vs) e) ∙ h
-
-module _ (reason : ℕ) (ss : List ℕ) (i : ℕ) where
-  -- the three ways through a freeze
-  pub freeze_undefined : (vs : List ℕ) → is_some (set_at ss i) ≡ false → (false ≡ freezes vs ss i) × (vs ≡ frozen_values vs ss i reason)
-  unfolding freezes frozen_values
-  freeze_undefined vs h =
-      let t : freezes vs ss i ≡ false = ap (λ (b : Bool). b && freezable (kind_of (value_at vs) (set_at ss i)).kind) h in
-      (sym t, ap (λ (x : Bool). elim x as (λ y. List ℕ) [ true ↦ freeze_all reason (values_of (set_at ss i)) vs | false ↦ vs ]) (sym t))
-
-  pub freeze_not : (vs : List ℕ) (a : AbstractValue) (b : Bool) → is_some (set_at ss i) ≡ true → a ≡ kind_of (value_at vs) (set_at ss i) → b ≡ freezable a.kind → b ≡ false → (false ≡ freezes vs ss i) × (vs ≡ frozen_values vs ss i reason)
-  unfolding freezes frozen_values
-  freeze_not vs a b h e f n =
-      let g : freezable (kind_of (value_at vs) (set_at ss i)).kind ≡ false = ap (λ (x : AbstractValue). freezable x.kind) (sym e) ∙ sym f ∙ n in
-      let t : freezes vs ss i ≡ false = and_false (is_some (set_at ss i)) (freezable (kind_of (value_at vs) (set_at ss i)).kind) g in
-      (sym t, ap (λ (x : Bool). elim x as (λ y. List ℕ) [ true ↦ freeze_all reason (values_of (set_at ss i)) vs | false ↦ vs ]) (sym t))
-
-  pub freeze_acts : (vs us : List ℕ) (a : AbstractValue) (b : Bool) → is_some (set_at ss i) ≡ true → a ≡ kind_of (value_at vs) (set_at ss i) → b ≡ freezable a.kind → b ≡ true → us ≡ freeze_all reason (values_of (set_at ss i)) vs → (true ≡ freezes vs ss i) × (us ≡ frozen_values vs ss i reason)
-  unfolding freezes frozen_values
-  freeze_acts vs us a b h e f n g =
-      let k : freezable (kind_of (value_at vs) (set_at ss i)).kind ≡ true = ap (λ (x : AbstractValue). freezable x.kind) (sym e) ∙ sym f ∙ n in
-      let t : freezes vs ss i ≡ true = and_true (is_some (set_at ss i)) (freezable (kind_of (value_at vs) (set_at ss i)).kind) h k in
-      (sym t, g ∙ ap (λ (x : Bool). elim x as (λ y. List ℕ) [ true ↦ freeze_all reason (values_of (set_at ss i)) vs | false ↦ vs ]) (sym t))
 
 -- ---- assignment
 

@@ -21,14 +21,6 @@ use Rattle.state_ops.specs.Lists.{freeze_all, freezes, frozen_values, inserted, 
 use Rattle.state_ops.specs.OnLists.{on_lists, lists}
 
 module _ (T : Tables) (flag : Bool) (r : Rest (on_lists T)) where
-  pub peek_lists : (vs ss : List ℕ) (i : ℕ) → peek i (lists T flag r vs ss) ≡ ok (kind_of (value_at vs) (set_at ss i)) (lists T flag r vs ss)
-  unfolding peek
-  peek_lists vs ss i = refl
-
-  pub set_lists : (vs ss : List ℕ) (i : ℕ) → set_of i (lists T flag r vs ss) ≡ ok (set_at ss i) (lists T flag r vs ss)
-  unfolding set_of
-  set_lists vs ss i = refl
-
   pub initialize_lists : (vs ss : List ℕ) (v : ℕ) (a : AbstractValue) → initialize v a (lists T flag r vs ss) ≡ ok tt (lists T flag r (put_value vs v a) ss)
   unfolding initialize
   initialize_lists vs ss v a = refl
@@ -36,10 +28,6 @@ module _ (T : Tables) (flag : Bool) (r : Rest (on_lists T)) where
   pub define_lists : (vs ss : List ℕ) (i v : ℕ) → define i v (lists T flag r vs ss) ≡ ok tt (lists T flag r vs (put_set ss i (2 ^ v)))
   unfolding define point
   define_lists vs ss i v = refl
-
-  pub defined_lists : (vs ss : List ℕ) (i : ℕ) → is_defined i (lists T flag r vs ss) ≡ ok (Rattle.base_tests.specs.Tests.is_some (set_at ss i)) (lists T flag r vs ss)
-  unfolding is_defined set_of ◌>>=◌ and_then return
-  defined_lists vs ss i = refl
 
   -- each of some values frozen
   pub each_frozen : (reason : ℕ) (ms vs ss : List ℕ) → each ms (freeze_value reason) (lists T flag r vs ss) ≡ ok tt (lists T flag r (freeze_all reason ms vs) ss)
