@@ -1,5 +1,5 @@
 -- The run of an instruction and what is put back after a refusal: together the definition's `apply_signature`. Assumes nothing.
-use Rattle.std.specs.Prelude.{ℕ, zero, suc, ◌≡◌, refl, Bool, List, length}
+use Rattle.std.specs.Prelude.{ℕ, ◌≡◌, Bool, List, length}
 use Rattle.std.proofs.Common.{arith, ap₂, ◌∙◌, subst}
 use Rattle.std.proofs.Math.Path.{sym, ap}
 use Rattle.lent_copies.specs.Copies.{zeros, copied}

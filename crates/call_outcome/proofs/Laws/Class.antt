@@ -4,8 +4,8 @@ use Rattle.std.proofs.Common.{arith, ◌∙◌, subst, ⊎_elim}
 use Rattle.std.proofs.Math.Path.{refl, sym, ap, ap₂}
 use Rattle.std.proofs.Math.Bool.{false, not}
 use Rattle.std.proofs.Math.ListN.{get_or-eq_default}
-use borrow.Author.Tests.{lt-ltb, le-ltb, eq-eqb, ne_eqb, eqb-true, ltb-false}
-use Rattle.base_tests.proofs.Laws.Bool.{not-false, or_first, or_second, or_neither, or_no_first, or_no_second}
+use borrow.Author.Tests.{le-ltb, eq-eqb, ne_eqb, eqb-true, ltb-false}
+use Rattle.base_tests.proofs.Laws.Bool.{not-false, or_neither, or_no_first, or_no_second}
 use Rattle.base_tests.proofs.Laws.Choice.{ite_lt, ite_ge, ite_yes, ite_no}
 use Rattle.base_tests.proofs.Laws.Order.{lt_or_ge, same_or_not}
 use Rattle.def_effects.specs.declared.Place.{Place}
@@ -14,8 +14,7 @@ use Rattle.lent_tables.specs.Words.{index}
 use Rattle.lent_layout.specs.Layout as Layout
 use Rattle.lent_context.specs.Lent.{interned_count, effects_in}
 use Rattle.laws_room.specs.Room.{needs}
-use Rattle.refuse_entries.specs.Words.{identifiers, wrong_lengths, state_refusal}
-use Rattle.refuse_entries.proofs.Laws.State.{lengths_fit, refused_1}
+use Rattle.refuse_entries.specs.Words.{identifiers, state_refusal}
 use Rattle.refuse_class.specs.Class.{lower}
 use Rattle.refuse_class.proofs.Laws.Class.{lower_none, lower_alone, lower_first, lower_0}
 use Rattle.refuse_words.specs.Classes.{lowest_below, earns, word_class, stray_from, stray_after}

@@ -1,5 +1,5 @@
 use native.Mathlib.Omega.{arith}
-use mathlib.Core.Path.{refl, ◌∙◌}
+use mathlib.Core.Path.{refl}
 use Rattle.laws_monad.proofs.Laws.Answers.{passes}
 use Rattle.effect_walk.proofs.Laws.Walk.{values_some, row_start, row_next}
 use Rattle.lent_world.proofs.Laws.Promise.{kept_then}

@@ -1,4 +1,4 @@
-use mathlib.Core.Path.{refl, ◌∙◌}
+use mathlib.Core.Path.{refl}
 use Rattle.lent_world.proofs.Laws.Promise.{kept_then}
 use Rattle.effect_function_context.proofs.Laws.Function.{updates_start, updates_more, updates_end}
 use Rattle.effect_function_context.proofs.update_places.Goals as goal

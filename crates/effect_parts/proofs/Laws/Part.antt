@@ -3,7 +3,7 @@ use Rattle.std.specs.Prelude.{ℕ, suc, ◌+◌, ◌-◌, ◌*◌, ◌^◌, ◌�
 use native.Mathlib.Omega.{arith}
 use Rattle.std.proofs.Common.{add-one, ◌∙◌}
 use Rattle.std.proofs.Math.Path.{refl, sym, ap, ap₂}
-use mathlib.Core.List.{List, ◌∷◌}
+use mathlib.Core.List.{List}
 use Rattle.base_tests.specs.Tests.{ite, is_some}
 use Rattle.base_tests.proofs.Laws.Choice.{ite_lt, ite_ge}
 use Rattle.def_kinds.specs.declared.AbstractValue.{AbstractValue}

@@ -1,4 +1,3 @@
-use Rattle.std.proofs.Common.{◌∙◌}
 use Rattle.effect_parts.proofs.Laws.Part.{written_not, written_is}
 use Rattle.effect_parts.proofs.is_written.Goals as goal
 

@@ -1,6 +1,6 @@
 -- Laws by which the functions that read an image meet their definitions: one for each way through. Assumes nothing.
-use Rattle.std.specs.Prelude.{ℕ, ◌/◌, ◌≤◌, ◌≡◌, Bool, not, ◌||◌, eqb, ltb, length, take, drop}
-use Rattle.std.proofs.Common.{arith, ◌∙◌, length-append, length-drop, length-take-le, eq-eqb, ne_eqb, eqb-true, ltb-false}
+use Rattle.std.specs.Prelude.{ℕ, ◌/◌, ◌≤◌, ◌≡◌, Bool, not, eqb, ltb, length, take, drop}
+use Rattle.std.proofs.Common.{arith, ◌∙◌, length-append, length-drop, length-take-le, eqb-true, ltb-false}
 use Rattle.std.proofs.Math.Path.{sym, ap}
 use Rattle.std.proofs.Math.Bool.{true, false}
 use mathlib.Core.List.{List, ◌++◌}

@@ -6,7 +6,7 @@ use Rattle.std.proofs.Math.Logic.{⊎_elim}
 use mathlib.Core.List.{List}
 use Prim.Native.Nat.{ℕ, zero, suc, ◌+◌, ◌-◌, ◌≤◌, ◌<◌, suc-le-suc}
 use Rattle.std.proofs.Math.ListN.{length, get_or, length-set}
-use Rattle.std.proofs.Math.Seq.{get_or-set_other, set_out}
+use Rattle.std.proofs.Math.Seq.{get_or-set_other}
 use Rattle.lent_sets.specs.Rows.{pick, seek, upto}
 
 -- ---- seek

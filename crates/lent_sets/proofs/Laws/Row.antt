@@ -1,7 +1,7 @@
 -- Laws of rows: loops over the members of a row, and the rows as a table of sets that is read and written. Assumes nothing.
-use Rattle.std.specs.Prelude.{◌≡◌, true, false, List, [], ◌∷◌, length, get_or, set, Option, None, Some}
+use Rattle.std.specs.Prelude.{◌≡◌, true, false, List, length, get_or, set, Option, None, Some}
 use Rattle.std.proofs.Math.Path.{refl, ap}
-use Rattle.std.proofs.Common.{sym, ap₂, ◌∙◌, subst, not-suc-le-zero, mod-eq_of_lt, lt_of_le_of_lt, sub-le, zero-lt-suc, lt_irrefl, lt_of_not-le, add-one, lit<}
+use Rattle.std.proofs.Common.{sym, ap₂, ◌∙◌, subst, not-suc-le-zero, mod-eq_of_lt, lt_of_le_of_lt, sub-le, zero-lt-suc, lt_irrefl, lt_of_not-le, lit<}
 use Rattle.std.proofs.Math.Logic.{⊎_elim}
 use Prim.Native.Nat.{ℕ, zero, suc, ◌+◌, ◌-◌, ◌*◌, ◌/◌, ◌%◌, ◌^◌, ◌≤◌, ◌<◌, max}
 use Rattle.std.proofs.Math.Nat.{mod-lt}
@@ -11,12 +11,12 @@ use Rattle.std.specs.Int.Bits.{bit_or, or_step, or_zero_r}
 use Rattle.std.proofs.lemmas.Nat.{or_mod, or_lt}
 use Rattle.base_sets.specs.Members.{members, bits_of, values_of}
 use Rattle.base_tests.specs.Tests.{All, is_some}
-use Rattle.lent_sets.specs.Rows.{bit, seek, upto, row_word, set_word, number, row_number, word_of, marked, set_at, copied, copy_set, appended, append_set, put_word, put_row, put_set, member, next_member, left, or_word, add_set}
+use Rattle.lent_sets.specs.Rows.{bit, seek, upto, row_word, set_word, number, row_number, word_of, marked, set_at, copied, copy_set, appended, append_set, put_word, put_row, put_set, member, next_member, or_word, add_set}
 use Rattle.base_tests.proofs.Laws.Order.{lt_or_ge, same_or_not}
 use Rattle.lent_sets.proofs.Laws.Bit.{bit_low, bit_zero, bit_high, bit_or_is, bit_one, bit_word, bit_even, bit_even_low}
-use Rattle.lent_sets.proofs.Laws.Loop.{seek_le, seek_ge, seek_at, words_length, words_other, words_at, words_out}
+use Rattle.lent_sets.proofs.Laws.Loop.{seek_ge, seek_at, words_length, words_other, words_at}
 use Rattle.lent_sets.proofs.Laws.Number.{number_fits, bit_number, number_words, number_same, word_number, word_fits, word_or}
-use Rattle.lent_sets.proofs.Laws.Set.{members_left, left_here, left_skip, left_none, left_seek, all_fewer, all_bits}
+use Rattle.lent_sets.proofs.Laws.Set.{all_fewer, all_bits}
 
 -- ---- a row as a number
 

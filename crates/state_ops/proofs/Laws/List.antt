@@ -1,25 +1,23 @@
 -- The laws by which the loops meet their definitions. Assumes nothing.
-use Rattle.std.specs.Prelude.{ℕ, ◌+◌, ◌-◌, ◌%◌, ◌^◌, ◌≤◌, ◌<◌, ◌≡◌, refl, Bool, ◌&&◌, eqb, length, get_or, drop, Option, None, Some}
+use Rattle.std.specs.Prelude.{ℕ, ◌+◌, ◌-◌, ◌%◌, ◌^◌, ◌≤◌, ◌<◌, ◌≡◌, refl, Bool, eqb, length, get_or, drop, Option, None, Some}
 use Rattle.std.proofs.Math.Nat.{mul-mod_left}
 use Rattle.std.proofs.Common.{add-one, arith, ◌∙◌, pow-add, drop-cons}
 use Rattle.std.proofs.Math.Path.{sym, ap, ap₂}
 use Rattle.std.proofs.Math.Bool.{true, false}
 use mathlib.Core.List.{List, [], ◌∷◌}
 use Rattle.std.proofs.Math.Seq.{drop-length}
-use Rattle.base_tests.proofs.Laws.Bool.{and_true, and_false, never}
-use Rattle.base_sets.specs.Members.{union, bits_of, values_of}
+use Rattle.base_tests.proofs.Laws.Bool.{never}
+use Rattle.base_sets.specs.Members.{union, bits_of}
 use Rattle.def_kinds.specs.declared.ValueKind.TheVariants.{Frozen}
 use Rattle.def_kinds.specs.declared.AbstractValue.{AbstractValue}
-use Rattle.def_kinds.specs.Kinds.{freezable}
 use Rattle.def_kinds.specs.Reasons.{single}
 use Rattle.def_kinds.specs.Values.{mk, or_default}
-use Rattle.def_transfer.specs.State.{kind_of}
 use Rattle.lent_values.specs.Cells.{value_at, put_value}
-use Rattle.lent_sets.specs.Rows.{set_at, left, next_member, number, add_set, put_set, copy_set, copied}
+use Rattle.lent_sets.specs.Rows.{set_at, number, add_set, put_set, copy_set, copied}
 use Rattle.base_tests.specs.Tests.{is_some}
-use Rattle.lent_sets.proofs.Laws.Row.{Walk, walk_start, some_of, add_row}
+use Rattle.lent_sets.proofs.Laws.Row.{add_row}
 use Rattle.lent_sets.proofs.Laws.Code.{put_cut}
-use Rattle.state_ops.specs.Lists.{freeze_all, freezes, frozen_values, inserted, own_inserted, own_value, own_sets, set_or_own, assigned_values, assigned_sets, unions, phi_sets}
+use Rattle.state_ops.specs.Lists.{freeze_all, inserted, own_inserted, own_value, own_sets, set_or_own, assigned_values, assigned_sets, unions, phi_sets}
 
 -- ---- freezing the values of a place
 

@@ -13,7 +13,7 @@ use Rattle.def_kinds.specs.Reasons.{single}
 use Rattle.def_kinds.specs.Values.{mk}
 use Rattle.def_transfer.specs.Monad.{Res, ok, Done, and_then, ◌>>=◌, ◌>>◌, return, done, when◌then◌else◌, each}
 use Rattle.def_transfer.specs.Tables.{Tables, Rest, World}
-use Rattle.def_transfer.specs.State.{kind_of, set_of, value_of, peek, initialize, point, is_defined, define, or_insert, assign_set, assign, append_sets, append_alias, freeze_value, to_freeze, freeze, union_of, infer_phi, from_identifier}
+use Rattle.def_transfer.specs.State.{kind_of, set_of, value_of, peek, initialize, point, define, or_insert, assign_set, assign, append_sets, append_alias, freeze_value, to_freeze, freeze, union_of, infer_phi, from_identifier}
 use Rattle.lent_values.specs.Cells.{value_at, put_value}
 use Rattle.lent_sets.specs.Rows.{set_at, put_set, append_set}
 use Rattle.base_tests.specs.Tests.{is_some}

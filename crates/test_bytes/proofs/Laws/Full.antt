@@ -1,10 +1,9 @@
 -- A turn of each loop that fills a state. Assumes nothing.
-use Rattle.std.specs.Prelude.{ℕ, ◌+◌, ◌-◌, ◌*◌, ◌^◌, ◌%◌, ◌<◌, ◌≤◌, ◌≡◌, refl, true, false, Bool, ◌&&◌, List, ltb, length, Some}
+use Rattle.std.specs.Prelude.{ℕ, ◌+◌, ◌-◌, ◌*◌, ◌^◌, ◌%◌, ◌<◌, ◌≡◌, Bool, ◌&&◌, List, ltb, length, Some}
 use Rattle.std.proofs.Common.{arith, sym, ap, ap₂, ◌∙◌, ⊎_elim, lt-ltb, le-ltb, lit<}
 use Rattle.base_tests.specs.Tests.{ite}
 use Rattle.base_tests.proofs.Laws.Order.{lt_or_ge, same_or_not}
 use Rattle.def_kinds.specs.declared.ValueKind.TheVariants.{Mutable}
-use Rattle.def_kinds.specs.declared.AbstractValue.{AbstractValue}
 use Rattle.def_kinds.specs.Values.{mk}
 use Rattle.lent_values.specs.Cells.{value_at, put_value}
 use Rattle.lent_values.proofs.Laws.Cell.{value_same, value_other, put_length}
