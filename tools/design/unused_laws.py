@@ -91,6 +91,10 @@ def unused(found):
     for key, file in found.items():
         if is_root(file.path):
             cite(key, WORD.findall("\n".join(file.text)))
+    # a name behind a dot, as `RowLaws.set_cong`, may be any module's
+    behind = {name for file in found.values() for name in re.findall(r"\.([^\s(){}\[\],;.`]+)", "\n".join(file.text))}
+    for key, file in found.items():
+        queue += [(*key, name) for name in file.laws if name in behind]
     for path in list((TOP / "crates").glob("*/specs/**/*.antt")):
         queue += [(c, m, n.strip()) for c, m, ns in USE.findall(path.read_text()) for n in ns.split(",")]
     for path in (TOP / "crates").glob("*/src/**/*.rt"):

@@ -45,18 +45,17 @@ pub fn modified_diagnostic(p: Place, name: u32, a: AbstractValue) -> Diagnostic
 }
 
 // The access span as a label: none where it equals the place's own.
+#[tactic(auto, unfolding(def_effects::specs::Places::eq_span))]
 fn access_label(access: Span, own: Span) -> Span
     ensures { result ≡ access_label access own }
 {
-    if access.start != own.start {
-        return access;
-    }
-    if access.end != own.end {
-        return access;
-    }
-    Span {
-        start: 4294967295,
-        end: 4294967295,
+    if access == own {
+        Span {
+            start: 4294967295,
+            end: 4294967295,
+        }
+    } else {
+        access
     }
 }
 

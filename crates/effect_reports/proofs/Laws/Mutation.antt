@@ -3,7 +3,7 @@ use Prim.Native.Nat.{ℕ, suc, ◌+◌, ◌≤◌, ◌<◌}
 use native.Mathlib.Omega.{arith}
 use Rattle.std.specs.Prelude.{◌≡◌, Bool, drop, get_or}
 use Rattle.std.proofs.Math.Path.{refl, sym, ap}
-use Rattle.std.proofs.Common.{◌∙◌, eq-eqb, ne_eqb}
+use Rattle.std.proofs.Common.{◌∙◌}
 use Rattle.std.proofs.Math.Bool.{true, false}
 use mathlib.Core.List.{List}
 use Rattle.std.proofs.lemmas.List.{at_drop_more}
@@ -26,7 +26,6 @@ use Rattle.def_transfer.specs.State.{ask, kind, kind_with_span}
 use Rattle.def_transfer.specs.Context.{intern_diagnostic}
 use Rattle.def_transfer.specs.Step.{modified, hoisted_access, mutate, report_modified, report_hoisted, report, mutating}
 use Rattle.lent_context.specs.Lent as Lent
-use Rattle.lent_diagnostics.proofs.Laws.Diagnostic.{span_differs, span_ends}
 use Rattle.lent_effects.specs.declared.AliasingEffect.TheVariants as Head
 use Rattle.lent_effects.specs.Records.{effect_with}
 use Rattle.laws_monad.proofs.Laws.Answers.{bind_ok, bind_fails, if_true, if_false}
@@ -80,26 +79,6 @@ module _ (s : ℕ) where
 pub modified_is : (p : Place) (name k : ℕ) (a : AbstractValue) → k ≡ get_write_error_reason a.reason
     → record { identifier = p.identifier; case = 0; sentence = k; name = name; access = record { start = 4294967295; end = 4294967295 }; own = p.span } ≡ modified p name a
 modified_is p name k a h = ap (λ (n : ℕ). record { identifier = p.identifier; case = 0; sentence = n; name = name; access = no_span; own = p.span }) h
-
-module _ (access own : Span) where
-  -- the label by whether the spans are equal
-  -- the definition's own choice
-  abbrev label_if : Bool → Span
-  label_if true = no_span
-  label_if false = access
-
-  -- spans of different starts
-  pub label_starts : (access.start ≡ own.start → ⊥) → access ≡ access_label access own
-  label_starts n = ap label_if (span_differs access own n)
-
-  -- spans of different ends
-  pub label_ends : access.start ≡ own.start → (access.end ≡ own.end → ⊥) → access ≡ access_label access own
-  label_ends e n = ap label_if (sym (ne_eqb access.end own.end n) ∙ span_ends access own e)
-
-  -- equal spans
-  -- the place's own is the one label
-  pub label_none : access.start ≡ own.start → access.end ≡ own.end → record { start = 4294967295; end = 4294967295 } ≡ access_label access own
-  label_none e h = ap label_if (sym (eq-eqb access.end own.end h) ∙ span_ends access own e)
 
 -- an access before the declaration
 -- its labels are the access span, unless it equals the place's, then the place's

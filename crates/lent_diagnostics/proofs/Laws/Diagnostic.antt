@@ -1,13 +1,11 @@
 -- Laws by which the code of diagnostics meets the definitions. Assumes nothing.
 use Rattle.std.specs.Prelude.{ℕ, suc, max, ◌+◌, ◌-◌, ◌≤◌, ◌<◌, ◌≡◌, Bool, ◌&&◌, eqb, get_or, Option, None, Some}
 use native.Mathlib.Omega.{arith}
-use Rattle.std.proofs.Common.{add-one, ◌∙◌, eq-eqb, ne_eqb}
-use Rattle.std.proofs.Math.Path.{refl, sym, ap}
+use Rattle.std.proofs.Common.{add-one, ◌∙◌}
+use Rattle.std.proofs.Math.Path.{sym, ap}
 use Rattle.std.proofs.Math.Bool.{true, false}
 use mathlib.Core.List.{List, [], ◌∷◌}
-use Rattle.def_effects.specs.declared.Span.{Span}
 use Rattle.def_effects.specs.declared.Diagnostic.{Diagnostic}
-use Rattle.def_effects.specs.Places.{eq_span}
 use Rattle.def_transfer.specs.Diagnostics.{same_identity, same_labels}
 use Rattle.def_transfer.specs.Pure.{Interned, identities, find_identity as first_identity, find_instance as first_instance}
 use Rattle.lent_tables.specs.Words.{field, put_field}
@@ -18,26 +16,7 @@ use Rattle.lent_diagnostics.specs.Numbered.{interned_of}
 
 -- ---- tests, one after the other
 
--- a test that failed ends a chain of tests
-stop : (p q : Bool) → p ≡ false → false ≡ (p && q)
-stop p q e = sym (ap (λ (b : Bool). b && q) e)
-
--- a test that passed leaves the rest of the chain
-pass : (p q r : Bool) → p ≡ true → r ≡ q → r ≡ (p && q)
-pass p q r e h = h ∙ sym (ap (λ (b : Bool). b && q) e)
-
 -- ---- equal diagnostics
-
-module _ (a b : Span) where
-  -- spans of different starts differ
-  pub span_differs : (a.start ≡ b.start → ⊥) → false ≡ eq_span a b
-  unfolding eq_span
-  span_differs n = stop (eqb a.start b.start) (eqb a.end b.end) (ne_eqb a.start b.start n)
-
-  -- spans of one start are equal where their ends are
-  pub span_ends : a.start ≡ b.start → eqb a.end b.end ≡ eq_span a b
-  unfolding eq_span
-  span_ends e = pass (eqb a.start b.start) (eqb a.end b.end) (eqb a.end b.end) (eq-eqb a.start b.start e) refl
 
 -- ---- records of diagnostics
 

@@ -10,6 +10,10 @@ use Rattle.std.specs.Int.Count.{count_trailing_zeros, under}
 use Rattle.base_orders.proofs.Laws.Union.{or_odd}
 use Rattle.lent_sets.specs.Rows.{bit, word_of}
 
+pub bit_lt : (x k : ℕ) → bit x k < 2
+unfolding bit
+bit_lt x k = mod-lt (x / 2 ^ k) (zero-lt-suc 1)
+
 -- a bit of a number that is shifted down
 pub bit_shr : (x j k : ℕ) → bit (x / 2 ^ j) k ≡ bit x (j + k)
 unfolding bit

@@ -6,7 +6,7 @@ use Rattle.std.proofs.Math.Logic.{⊎_elim}
 use mathlib.Core.List.{List}
 use Prim.Native.Nat.{ℕ, zero, suc, ◌+◌, ◌-◌, ◌≤◌, ◌<◌, suc-le-suc}
 use Rattle.std.proofs.Math.ListN.{length, get_or, length-set}
-use Rattle.std.proofs.Math.Seq.{get_or-set_other}
+use Rattle.std.proofs.Math.Seq.{get_or-set_other, set_out}
 use Rattle.lent_sets.specs.Rows.{pick, seek, upto}
 
 -- ---- seek
@@ -108,3 +108,7 @@ module _ (g : ℕ → List ℕ → List ℕ) (a : ℕ) (f : ℕ → ℕ → ℕ)
           let len : length (g w l) ≡ length l = ap length (is w l) ∙ length-set l (a + w) x in
           ih r (omega arith) (omega arith)
           ∙ ap (f u) (ap (λ (m : List ℕ). get_or m (a + u) 0) (is w l) ∙ get_or-set_other l (a + w) (a + u) x 0 (λ d. omega arith))
+
+  -- past the end nothing changes
+  pub words_out : (n w : ℕ) (l : List ℕ) → length l ≤ a → upto g n w l ≡ l
+  words_out n w l h = upto_none g n w l (λ u p. is u l ∙ set_out l (a + u) (f u (get_or l (a + u) 0)) (omega arith))

@@ -14,7 +14,7 @@ use Rattle.base_tests.specs.Tests.{All, is_some}
 use Rattle.lent_sets.specs.Rows.{bit, seek, upto, row_word, set_word, number, row_number, word_of, marked, set_at, copied, copy_set, appended, append_set, put_word, put_row, put_set, member, next_member, or_word, add_set}
 use Rattle.base_tests.proofs.Laws.Order.{lt_or_ge, same_or_not}
 use Rattle.lent_sets.proofs.Laws.Bit.{bit_low, bit_zero, bit_high, bit_or_is, bit_one, bit_word, bit_even, bit_even_low}
-use Rattle.lent_sets.proofs.Laws.Loop.{seek_ge, seek_at, words_length, words_other, words_at}
+use Rattle.lent_sets.proofs.Laws.Loop.{seek_ge, seek_at, words_length, words_other, words_at, words_out}
 use Rattle.lent_sets.proofs.Laws.Number.{number_fits, bit_number, number_words, number_same, word_number, word_fits, word_or}
 use Rattle.lent_sets.proofs.Laws.Set.{all_fewer, all_bits}
 
@@ -97,6 +97,14 @@ next_is rs i v u e h l =
     let k : seek (member rs i) (1024 - v) v < v + (1024 - v) = rw (← e) (omega arith) in
     rw e (seek_at (member rs i) (1024 - v) v k)
 
+-- where such a loop stands: at a member v of the set s of row i, or at 1,024, its end
+-- a loop's invariant holds this and what is left to do, `left s v`; the laws below take it from turn to turn
+pub record Walk (rs : List ℕ) (i s v : ℕ) : Type 0 where
+  pub row : set_at rs i ≡ Some s
+  pub above : 0 < v
+  pub most : v ≤ 1024
+  pub found : v < 1024 → 0 < member rs i v
+
 -- ---- a row that is stored
 
 -- a word past the end
@@ -127,6 +135,11 @@ module _ (rs : List ℕ) (i m : ℕ) where
   pub put_other : (j : ℕ) → (i ≡ j → ⊥) → row_number (put_row rs i m) j ≡ row_number rs j
   unfolding row_number put_row
   put_other j n = number_same 16 (put_row rs i m) rs (j * 16) (j * 16) (λ k p. words_other (put_word i m) (i * 16) (λ w x. word_of m w) turn 16 0 rs (j * 16 + k) (λ u a b e. n (omega arith)))
+
+  -- a row past the end
+  pub put_out : length rs ≤ i * 16 → put_row rs i m ≡ rs
+  unfolding put_row
+  put_out h = words_out (put_word i m) (i * 16) (λ w x. word_of m w) turn 16 0 rs h
 
 -- ---- the rows as a table of sets, of n identifiers
 
@@ -171,6 +184,21 @@ set_same n rs i s f h l = set_cut n rs i s f h ∙ ap (λ (x : ℕ). Some (x - x
 pub set_other : (rs : List ℕ) (i s j : ℕ) → (i ≡ j → ⊥) → set_at (put_set rs i s) j ≡ set_at rs j
 unfolding set_at put_set
 set_other rs i s j n = ap (λ (x : ℕ). marked (x % 2) x) (put_other rs i (bit_or s 1) j n)
+
+-- past the end it does nothing
+pub set_past : (n : ℕ) (rs : List ℕ) (i s : ℕ) → Fit n rs → n ≤ i → put_set rs i s ≡ rs
+unfolding put_set
+set_past n rs i s f h = put_out rs i (bit_or s 1) (omega arith)
+
+-- what it leaves in a row follows from what stood in that row
+pub set_cong : (n : ℕ) (t u : List ℕ) (i s j : ℕ) → Fit n t → Fit n u → set_at t j ≡ set_at u j → set_at (put_set t i s) j ≡ set_at (put_set u i s) j
+set_cong n t u i s j f g e = ⊎_elim same (λ d. set_other t i s j d ∙ e ∙ sym (set_other u i s j d)) (same_or_not i j)
+  where
+    same : i ≡ j → set_at (put_set t i s) j ≡ set_at (put_set u i s) j
+    same p = ⊎_elim
+        (λ h. ap (set_at (put_set t i s)) (sym p) ∙ set_cut n t i s f h ∙ sym (set_cut n u i s g h) ∙ ap (set_at (put_set u i s)) p)
+        (λ h. ap (λ (l : List ℕ). set_at l j) (set_past n t i s f h) ∙ e ∙ sym (ap (λ (l : List ℕ). set_at l j) (set_past n u i s g h)))
+        (lt_or_ge i n)
 
 -- ---- what was written has no members but those given
 
