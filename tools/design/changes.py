@@ -49,6 +49,12 @@ NOW = {
     "lent_values Entry join": "`lent_values::join_entries`", "lent_values Entry or_default": "`lent_values::or_default`",
     "refuse_instruction is_code": "`==`", "state_calls either": "the language's own or", "state_pairs merged_flag": "the contract of `state_merge_calls::merge`",
     "call_apply_lent without_session": "the contract of `call_apply_lent::apply`",
+    "effect_freeze with_entries": "the counts of `lent_world::World::run` are written where they stand: the contracts of `effect_freeze::walk` and `effect_walk::freeze_function_captures_transitive`",
+    "effect_parts with_session": "the session of `lent_world::World::run` is written where it stands: the contracts of the functions that change it",
+    "image_decode kind_at": "`def_kinds::ValueKind::of_code`", "image_job no_job": "`image_job` `Reading.antt`: `said_of`", "image_run refused": "`image_pieces` `Pieces.antt`: `answer_of`",
+    "lent_diagnostics larger": "`max` of the library", "refuse_order is_less": "`is_ge` of the library; the definition of that name stays",
+    **{f"image_text {n}": f"`image_text::Text::{n}`" for n in ("put_absent", "put_byte", "put_column", "put_newline", "put_number", "put_line", "put_decimal")}, "image_text put_text": "`image_text::Text::put_bytes`",
+    **{f"lent_tables {n}": f"`lent_tables::Table::{n}`" for n in ("field", "put_field", "place_in", "put_place")},
 }
 seen = set()
 for row in r["functions not found again"]:
@@ -61,8 +67,49 @@ for row in r["functions not found again"]:
         continue
     seen.add(key)
     out.append(f"| `{crate}::{'::'.join(name.split())}` | {NOW.get(key, 'the contracts of its callers: its body stands there as an operator, a closure or a method of the library')} |")
+DEFINED = {
+    "call_apply_lent answer_of": "`told_beside` (`call_apply_lent` `Answers.antt`)", "call_apply_lent applied_with": "the same",
+    "call_parts kept_entries": "`keep_entries` (`def_transfer` `Instruction.antt`), which the contract cites itself now",
+    "effect_acts sequel": "`follow` of the same file, and `answers` (`laws_monad` `Answers.antt`)",
+    "effect_flow refuses": "`flows` of the same file, by the kind of flow",
+    "effect_freeze with_entries": "`freezing` and `walk` of the definition, which the contracts cite themselves",
+    "effect_parts writes": "`is_written` (`def_transfer` `Step.antt`), which the contract cites itself now",
+    "effect_walk Enters": "the contract of `effect_walk::freeze_function_captures_transitive`: `Does` at each depth that suffices", "effect_walk Still": "`Walked` of the same file", "effect_walk walking": "the same contract",
+    "image_class3_candidates codes_of": "`used_words` (`def_image` `Refusals.antt`), whose columns it was",
+    "lent_keys option_of": "none needed: the definitions speak of the library's `Option`", "lent_values option_of": "the same",
+    "lent_world after": "`seen` (`lent_world` `Promise.antt`)", "lent_world before": "the same",
+    "refuse_words limit_of": "none needed: limits are `Option` in code and definitions",
+    "state_calls kind_answer": "`outcome` (`state_calls` `Answers.antt`)", "state_calls mutation_answer": "the same", "state_calls test_answer": "the same",
+}
 gone = r["definitions"]["gone"]
-out += ["", "### Definitions that are no longer there", ""] + [f"- `{' '.join(map(str, g[:2]))}`" for g in gone]
+out += ["", "### Definitions that are no longer there", "", "| definition | what states it now |", "|---|---|"]
+for g in gone:
+    name = " ".join(map(str, g[:2]))
+    out.append(f"| `{name}` | {DEFINED[name]} |")
+
+
+def lemmas(commit):
+    """The public lemmas of proofs/, by crate."""
+    found = {}
+    command = ["git", "ls-tree", "-r", "--name-only", commit] if commit else ["git", "ls-files"]
+    for name in subprocess.run(command, capture_output=True, text=True, check=True).stdout.split("\n"):
+        if not re.match(r"crates/\w+/proofs/.*\.antt$", name) or re.search(r"/(Answers|Invariants|Proof|Lib|Laws)\.antt$", name) or not commit and not os.path.exists(name):
+            continue
+        text = subprocess.run(["git", "show", f"{commit}:{name}"], capture_output=True, text=True).stdout if commit else open(name, encoding="utf-8").read()
+        for lemma in re.findall(r"^ *(?:abbrev |unfoldable )?pub (?:record |data )?([^\s:(]+)", text, re.M):
+            if lemma not in ("mod", "use", "record", "data"):
+                found.setdefault(lemma, set()).add(name.split("/")[1])
+    return found
+
+
+old, now = lemmas(COMMIT), lemmas(None)
+lost = {}
+for lemma, crates in old.items():
+    if lemma not in now:
+        for crate in crates:
+            lost.setdefault(crate, []).append(lemma)
+out += ["", "### Lemmas that are no longer there", "", f"{sum(map(len, lost.values()))} of {len(old)} names. None was a theorem that README or docs/ states (docs/NAMES.md has two of them, `one_more_is` and `wrong_context_is`, among the names that changed): each was a step in the proof of one function of its crate (a turn of a loop that is `any`, `all`, a `for` over members or a method now; a way through a `match` or an `if` that the check finds alone; a way in which a part was refused, said of lists), and the contract of that function, which stands, states what the step was for.", ""]
+out += [f"- `{crate}`: " + ", ".join(f"`{n}`" for n in sorted(names)) for crate, names in sorted(lost.items())]
 same = [d for d in r["definitions"]["changed"] if renamed(short(d[-2])) == renamed(short(d[-1]))]
 other = [d for d in r["definitions"]["changed"] if d not in same]
 out += ["", "### Definitions that differ only by the library's words", "", "`None`, `Some`, `Ordering` and `Result` in place of `none`, `some`, `Order`, `Found`, `Entry` and `Spot`, and without `option_of`:", "", ", ".join(f"`{d[0]} {d[1]}`" for d in same) + "."]
