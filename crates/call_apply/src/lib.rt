@@ -30,7 +30,8 @@ pub fn apply_signature(
     scratch32: &mut [u32],
 ) -> Result<Applied, Refusal>
     ensures { Meets
-        (lent_call values.old sets.old flag context.old session candidates.now lvalue own output.old scratch64.old scratch32.old)
+        (lent_call values.old sets.old flag context.old session candidates.now lvalue own output.old scratch64.old
+        scratch32.old)
         (left_by (told session flag result) values.new sets.new context.new output.new scratch64.new scratch32.new) }
 {
     let verdict = call_class(

@@ -36,7 +36,8 @@ pub fn apply(
     ensures { Meets
         (lent_call values.old sets.old flag context.old session.old candidates.now lvalue own output.old scratch64.old
         scratch32.old)
-        (left_by (told_beside session.new flag result) values.new sets.new context.new output.new scratch64.new scratch32.new) }
+        (left_by (told_beside session.new flag result) values.new sets.new context.new output.new scratch64.new
+        scratch32.new) }
 {
     let out = apply_signature(
         values, sets, flag, context, *session, candidates, lvalue, own, output, scratch64,

@@ -51,7 +51,8 @@ pub fn make_function(world: &mut World, function: u32, into: Place, taken: &[u32
     ensures kept { Kept world.old world.new }
     ensures does { (again : Effect → M (Worlds lent) Done)
         → Step.creating_function again (captures_of taken.now) function into (seen world.old)
-        ≡ answers result (λ a. each (captures_of taken.now) (λ c. again (Capture c into)) (seen world.new)) (seen world.new) }
+        ≡ answers result (λ a. each (captures_of taken.now) (λ c. again (Capture c into)) (seen world.new))
+        (seen world.new) }
 {
     begin(world, into.identifier)?;
     emit(

@@ -78,7 +78,8 @@ pub fn intern_effect(
     ensures kept { Kept world.old world.new }
     ensures does { Context.intern_effect (effect_with e (captures_of captures.now)) (seen world.old)
         ≡ answers result
-        (λ a. ok (effect_with a.effect (chosen world.new.context.now a.found (captures_of captures.now))) (seen world.new))
+        (λ a. ok (effect_with a.effect (chosen world.new.context.now a.found (captures_of captures.now)))
+        (seen world.new))
         (seen world.new) }
 {
     let context = &mut *world.context;

@@ -26,7 +26,8 @@ fn run_image(
     scratch32: &mut [u32],
 ) -> Result<Shown, Refusal>
     ensures { settled (left_by result values.new sets.new output.new)
-        ≡ leaves_for bytes.now words.old values.old sets.old context.old candidates.old output.old scratch64.old scratch32.old }
+        ≡ leaves_for bytes.now words.old values.old sets.old context.old candidates.old output.old scratch64.old
+        scratch32.old }
 {
     if memory_wrong(output, scratch64, scratch32) {
         return Err(Refusal::Length);
@@ -52,9 +53,11 @@ pub fn infer_image(
     scratch32: &mut [u32],
 ) -> Result<Shown, Refusal>
     ensures { (left_by result values.new sets.new output.new
-        ≡ leaves_for bytes.now words.old values.old sets.old context.old candidates.old output.old scratch64.old scratch32.old)
+        ≡ leaves_for bytes.now words.old values.old sets.old context.old candidates.old output.old scratch64.old
+        scratch32.old)
         × (pieces_of (left_by result values.new sets.new output.new)
-        ≡ written_for bytes.now words.old values.old sets.old context.old candidates.old output.old scratch64.old scratch32.old)
+        ≡ written_for bytes.now words.old values.old sets.old context.old candidates.old output.old scratch64.old
+        scratch32.old)
         × Cleared words.old words.new
         × Cleared context.old context.new
         × Cleared candidates.old candidates.new

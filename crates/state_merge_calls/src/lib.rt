@@ -47,7 +47,8 @@ pub fn merge(
     sets3: &mut [u64],
 ) -> Result<Option<bool>, Refusal>
     ensures { (merge_said result
-        ≡ merge_answer flag1 flag2 (merge_of values1.now sets1.now values2.now sets2.now session values3.old sets3.old))
+        ≡ merge_answer flag1 flag2
+        (merge_of values1.now sets1.now values2.now sets2.now session values3.old sets3.old))
         × (values3.new ≡ (merge_of values1.now sets1.now values2.now sets2.now session values3.old sets3.old).values)
         × (sets3.new ≡ (merge_of values1.now sets1.now values2.now sets2.now session values3.old sets3.old).sets)
         × MergesPlain (entries values1.now sets1.now) (entries values2.now sets2.now)
