@@ -91,7 +91,12 @@ pub fn creating_from(world: &mut World, depth: u32, from: Place, into: Place) ->
     ensures does { Does (Step.creating_from (Step.apply_effect depth) from into) world.old world.new result }
 {
     let next = create_from(world, from, into)?;
-    follow(world, depth, AliasingEffect::CreateFrom { from, into }, next)
+    follow(
+        world,
+        depth,
+        AliasingEffect::CreateFrom { from, into },
+        next,
+    )
 }
 
 // Assign: what is frozen is captured first, and takes its number afterwards.
@@ -103,7 +108,12 @@ pub fn assigning(world: &mut World, depth: u32, from: Place, into: Place) -> Ver
 {
     let a = begin_assign(world, from, into)?;
     if a.kind.is_frozen() {
-        apply_effect(world, depth, AliasingEffect::ImmutableCapture { from, into }, &[])?;
+        apply_effect(
+            world,
+            depth,
+            AliasingEffect::ImmutableCapture { from, into },
+            &[],
+        )?;
         return number_and_create(world, 18, from, into, a);
     }
     assign_rest(world, from, into, a)
