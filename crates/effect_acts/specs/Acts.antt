@@ -1,5 +1,6 @@
 -- What the step goes by, and what comes after the part of a step that is done. Assumes nothing: these are definitions.
-use Rattle.std.specs.Prelude.{[]}
+use Rattle.std.specs.Prelude.{List}
+use Rattle.def_effects.specs.declared.Place.{Place}
 use Rattle.def_effects.specs.declared.MutateVariant.TheVariants as Variant
 use Rattle.def_effects.specs.Effects.{AliasingEffect}
 use Rattle.def_transfer.specs.Monad.{M, Done, done}
@@ -35,9 +36,9 @@ act_of (Head.MutateGlobal p d) = Plain
 act_of (Head.Impure p d) = Plain
 act_of (Head.Render p) = Plain
 
--- what comes next, by the step of a derived effect: nothing, the effect itself is listed, or another is derived, which is no CreateFunction
+-- what comes next, by the step of a derived effect: nothing, the effect itself is listed, or another is derived
 -- "A derived effect goes through the same step as a candidate"
-unfoldable pub follow : (AliasingEffect → M (World lent) Done) → AliasingEffect → Next → M (World lent) Done
-follow again e Nothing = done
-follow again e Itself = emit e
-follow again e (Derived x) = again (effect_with x [])
+unfoldable pub follow : (AliasingEffect → M (World lent) Done) → AliasingEffect → List Place → Next → M (World lent) Done
+follow again e cs Nothing = done
+follow again e cs Itself = emit e
+follow again e cs (Derived x) = again (effect_with x cs)

@@ -2,7 +2,7 @@
 // call each other. After apply_effect of the Rust.
 #![tactic(auto)]
 
-ghost use Rattle.std.specs.Prelude.{◌≡◌, []};
+ghost use Rattle.std.specs.Prelude.{◌≡◌};
 ghost use Rattle.def_effects.specs.Effects.{Capture};
 ghost use Rattle.def_transfer.specs.Monad.{each};
 ghost use Rattle.def_transfer.specs.Step as Step;
@@ -29,20 +29,26 @@ use lent_layout::{ONE_RUN, RUN_WORDS};
 use lent_world::World;
 
 // What comes next: nothing, the effect itself is listed, or a derived effect goes through the same step.
-// The last part of the functions for what has no captures.
+// The last part of each function below.
 #[cycle(apply_effect)]
-pub fn follow(world: &mut World, depth: u32, e: AliasingEffect, next: Next) -> Verdict
+pub fn follow(
+    world: &mut World,
+    depth: u32,
+    e: AliasingEffect,
+    captures: &[u32],
+    next: Next,
+) -> Verdict
     ensures kept { Kept world.old world.new }
-    ensures does { Does (Acts.follow (Step.apply_effect depth) (effect_with e []) next) world.old world.new
-        result }
+    ensures does { Does (Acts.follow (Step.apply_effect depth) (effect_with e (captures_of captures.now))
+        (captures_of captures.now) next) world.old world.new result }
 {
     match next {
         Next::Nothing => Ok(()),
         Next::Itself => {
-            emit(world, e, &[]);
+            emit(world, e, captures);
             Ok(())
         }
-        Next::Derived(x) => apply_effect(world, depth, x, &[]),
+        Next::Derived(x) => apply_effect(world, depth, x, captures),
     }
 }
 
@@ -56,13 +62,14 @@ pub fn capturing(
     from: Place,
     into: Place,
     e: AliasingEffect,
+    captures: &[u32],
 ) -> Verdict
     ensures kept { Kept world.old world.new }
-    ensures does { Does (flows (Step.apply_effect depth) kind (effect_with e []) from into) world.old world.new
-        result }
+    ensures does { Does (flows (Step.apply_effect depth) kind (effect_with e (captures_of captures.now)) from
+        into) world.old world.new result }
 {
     let next = flow(world, kind, from, into)?;
-    follow(world, depth, e, next)
+    follow(world, depth, e, captures, next)
 }
 
 // A mutation: a MutateFrozen or a MutateGlobal may be derived.
@@ -74,13 +81,14 @@ pub fn mutating(
     variant: MutateVariant,
     place: Place,
     e: AliasingEffect,
+    captures: &[u32],
 ) -> Verdict
     ensures kept { Kept world.old world.new }
-    ensures does { Does (Step.mutating (Step.apply_effect depth) variant (effect_with e []) place) world.old
-        world.new result }
+    ensures does { Does (Step.mutating (Step.apply_effect depth) variant
+        (effect_with e (captures_of captures.now)) place) world.old world.new result }
 {
     let next = mutation(world, variant, place)?;
-    follow(world, depth, e, next)
+    follow(world, depth, e, captures, next)
 }
 
 // CreateFrom: an ImmutableCapture may be derived.
@@ -95,6 +103,7 @@ pub fn creating_from(world: &mut World, depth: u32, from: Place, into: Place) ->
         world,
         depth,
         AliasingEffect::CreateFrom { from, into },
+        &[],
         next,
     )
 }
@@ -190,8 +199,16 @@ pub fn apply_effect(world: &mut World, depth: u32, e: AliasingEffect, captures: 
     let x = interned.effect;
     match act_of(x) {
         Act::Plain => plain(world, x),
-        Act::Mutating { variant, place } => mutating(world, depth - 1, variant, place, x),
-        Act::Flowing { kind, from, into } => capturing(world, depth - 1, kind, from, into, x),
+        Act::Mutating { variant, place } => mutating(world, depth - 1, variant, place, x, captures),
+        Act::Flowing { kind, from, into } => capturing(
+            world,
+            depth - 1,
+            kind,
+            from,
+            into,
+            x,
+            captures,
+        ),
         Act::Assigning { from, into } => assigning(world, depth - 1, from, into),
         Act::CreatingFrom { from, into } => creating_from(world, depth - 1, from, into),
         Act::CreatingFunction { function, into } => creating_chosen(

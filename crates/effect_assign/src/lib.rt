@@ -9,7 +9,7 @@ ghost use Rattle.def_transfer.specs.Step as Step;
 ghost use Rattle.laws_monad.specs.Answers.{answers};
 ghost use Rattle.lent_world.specs.World.{lent};
 ghost use Rattle.effect_create.specs.Creations.{numbered, assigned, assigning};
-ghost use Rattle.lent_world.specs.Promise.{seen, Kept, Does};
+ghost use Rattle.lent_world.specs.Promise.{seen, Kept, Does, Untouched};
 
 use def_effects::Place;
 use def_kinds::AbstractValue;
@@ -69,6 +69,7 @@ pub fn assign_rest(world: &mut World, from: Place, into: Place, a: AbstractValue
 // 6 refuses a destination that already began.
 pub fn begin_assign(world: &mut World, from: Place, into: Place) -> Result<AbstractValue, Refusal>
     ensures kept { Kept world.old world.new }
+    ensures untouched { Untouched world.old world.new }
     ensures does { (again : Effect → M (Worlds lent) Done)
         → Step.assigning again from into (seen world.old)
         ≡ answers result (λ a. assigning again from into a (seen world.new)) (seen world.new) }

@@ -1,8 +1,9 @@
 // What initializes a place: Create, CreateFrom and Assign, as far as they derive no other effect. After the arms for them of the Rust.
 #![tactic(auto)]
 
-ghost use Rattle.std.specs.Prelude.{◌≡◌};
+ghost use Rattle.std.specs.Prelude.{◌≡◌, List};
 ghost use Rattle.def_kinds.specs.Reasons as Reasons;
+ghost use Rattle.def_effects.specs.declared.Place.{Place as APlace};
 ghost use Rattle.def_effects.specs.Effects.{AliasingEffect as Effect, CreateFrom};
 ghost use Rattle.def_transfer.specs.Monad.{M, Done};
 ghost use Rattle.def_transfer.specs.Tables.{World as Worlds};
@@ -62,9 +63,9 @@ pub fn creating(world: &mut World, into: Place, k: ValueKind, reason: u32) -> Ve
 // "The Create that CreateFrom emits" is not interned.
 pub fn list_created(world: &mut World, from: Place, into: Place, a: AbstractValue) -> Next
     ensures kept { Kept world.old world.new }
-    ensures does { (again : Effect → M (Worlds lent) Done)
+    ensures does { (again : Effect → M (Worlds lent) Done) (ps : List APlace)
         → Step.list_created again from into a (seen world.old)
-        ≡ follow again (CreateFrom from into) result (seen world.new) }
+        ≡ follow again (CreateFrom from into) ps result (seen world.new) }
 {
     let reason = primary_reason(a.reason);
     let created = AliasingEffect::Create {
@@ -87,9 +88,9 @@ pub fn list_created(world: &mut World, from: Place, into: Place, a: AbstractValu
 // 6 refuses a place that already began, 9 a fresh number at next 512.
 pub fn create_from(world: &mut World, from: Place, into: Place) -> Result<Next, Refusal>
     ensures kept { Kept world.old world.new }
-    ensures does { (again : Effect → M (Worlds lent) Done)
+    ensures does { (again : Effect → M (Worlds lent) Done) (ps : List APlace)
         → Step.creating_from again from into (seen world.old)
-        ≡ answers result (λ next. follow again (CreateFrom from into) next (seen world.new)) (seen world.new) }
+        ≡ answers result (λ next. follow again (CreateFrom from into) ps next (seen world.new)) (seen world.new) }
 {
     begin(world, into.identifier)?;
     let a = kind(world, from.identifier);

@@ -4,7 +4,7 @@
 ghost use Rattle.std.specs.Prelude.{◌≡◌};
 ghost use Rattle.def_transfer.specs.Context as Context;
 ghost use Rattle.lent_context.specs.Lent as Lent;
-ghost use Rattle.lent_world.specs.Promise.{seen, Kept, comes, Does};
+ghost use Rattle.lent_world.specs.Promise.{seen, Kept, comes, Does, Unwritten};
 
 use def_effects::{AliasingDiagnostic, Diagnostic};
 use def_refusals::Refusal;
@@ -34,6 +34,7 @@ pub fn identity_for(world: &World, d: Diagnostic) -> Result<u32, Refusal>
 // The place of an equal record, or of a new one; 10 refuses the 257th.
 pub fn instance_for(world: &mut World, identity: u32, d: Diagnostic) -> Result<u32, Refusal>
     ensures kept { Kept world.old world.new }
+    ensures unwritten { Unwritten world.old world.new }
     ensures does { Does
         (Context.new_instance identity d (Lent.find_instance world.old.context.now identity d))
         world.old world.new result }
@@ -55,6 +56,7 @@ pub fn instance_for(world: &mut World, identity: u32, d: Diagnostic) -> Result<u
 // This is intern_aliasing_diagnostic of the Rust.
 pub fn intern_diagnostic(world: &mut World, d: Diagnostic) -> Result<AliasingDiagnostic, Refusal>
     ensures kept { Kept world.old world.new }
+    ensures unwritten { Unwritten world.old world.new }
     ensures does { Does (Context.intern_diagnostic d) world.old world.new result }
 {
     let identity = identity_for(world, d)?;

@@ -1,7 +1,8 @@
 // Capture, Alias and MaybeAlias: what comes next, by the kinds of destination and source. After the arms for them of the Rust.
 #![tactic(auto)]
 
-ghost use Rattle.std.specs.Prelude.{◌≡◌};
+ghost use Rattle.std.specs.Prelude.{◌≡◌, List};
+ghost use Rattle.def_effects.specs.declared.Place.{Place as APlace};
 ghost use Rattle.def_effects.specs.Effects.{AliasingEffect as Effect, ImmutableCapture, MaybeAlias};
 ghost use Rattle.def_transfer.specs.Monad.{M, Done};
 ghost use Rattle.def_transfer.specs.Tables.{World as AWorld};
@@ -11,7 +12,7 @@ ghost use Rattle.def_transfer.specs.Step.{by_flow, flow_of, destination_of, sour
 ghost use Rattle.effect_acts.specs.Acts.{follow};
 ghost use Rattle.effect_flow.specs.Flows.{flows};
 ghost use Rattle.laws_monad.specs.Answers.{answers};
-ghost use Rattle.lent_world.specs.Promise.{seen, Kept};
+ghost use Rattle.lent_world.specs.Promise.{seen, Kept, Untouched};
 ghost use Rattle.lent_world.specs.World.{lent};
 
 use def_effects::Place;
@@ -32,10 +33,10 @@ pub fn flow_next(
     from: Place,
     into: Place,
 ) -> Next
-    ensures { (again : Effect → M (AWorld lent) Done) (e : Effect) (w : AWorld lent)
+    ensures { (again : Effect → M (AWorld lent) Done) (e : Effect) (cs : List APlace) (w : AWorld lent)
         → by_flow (flow_of maybe (destination_of destination) (source_of source))
         (again (ImmutableCapture from into)) (emit e) (again (MaybeAlias from into)) w
-        ≡ follow again e result w }
+        ≡ follow again e cs result w }
 {
     if let ValueKind::Frozen | ValueKind::MaybeFrozen = source {
         return Next::Derived(AliasingEffect::ImmutableCapture { from, into });
@@ -62,9 +63,10 @@ pub fn flow_next(
 // The destination's kind, then the source's, each with its span; what comes next.
 fn flowing(world: &mut World, maybe: bool, from: Place, into: Place) -> Next
     ensures kept { Kept world.old world.new }
-    ensures does { (again : Effect → M (AWorld lent) Done) (e : Effect)
+    ensures untouched { Untouched world.old world.new }
+    ensures does { (again : Effect → M (AWorld lent) Done) (e : Effect) (cs : List APlace)
         → Step.flowing again maybe e from into (seen world.old)
-        ≡ follow again e result (seen world.new) }
+        ≡ follow again e cs result (seen world.new) }
 {
     let destination = kind_with_span(world, into.identifier, into.span);
     let source = kind_with_span(world, from.identifier, from.span);
@@ -75,9 +77,10 @@ fn flowing(world: &mut World, maybe: bool, from: Place, into: Place) -> Next
 // An Alias into a place that was not initialized in this instruction is refused with 7; Capture and MaybeAlias ask nothing.
 pub fn flow(world: &mut World, kind: FlowKind, from: Place, into: Place) -> Result<Next, Refusal>
     ensures kept { Kept world.old world.new }
-    ensures does { (again : Effect → M (AWorld lent) Done) (e : Effect)
+    ensures untouched { Untouched world.old world.new }
+    ensures does { (again : Effect → M (AWorld lent) Done) (e : Effect) (cs : List APlace)
         → flows again kind e from into (seen world.old)
-        ≡ answers result (λ next. follow again e next (seen world.new)) (seen world.new) }
+        ≡ answers result (λ next. follow again e cs next (seen world.new)) (seen world.new) }
 {
     match kind {
         FlowKind::Capture => Ok(flowing(world, false, from, into)),

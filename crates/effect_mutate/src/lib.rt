@@ -1,14 +1,15 @@
 // Mutations: what comes next, by the result of the mutation, with the diagnostic of one that is an error. After the arms for them of the Rust.
 #![tactic(auto)]
 
-ghost use Rattle.std.specs.Prelude.{◌≡◌};
+ghost use Rattle.std.specs.Prelude.{◌≡◌, List};
+ghost use Rattle.def_effects.specs.declared.Place.{Place as APlace};
 ghost use Rattle.def_effects.specs.Effects.{AliasingEffect as Effect};
 ghost use Rattle.def_transfer.specs.Monad.{M, Done};
 ghost use Rattle.def_transfer.specs.Step as Step;
 ghost use Rattle.def_transfer.specs.Tables.{World as AWorld};
 ghost use Rattle.effect_acts.specs.Acts.{follow};
 ghost use Rattle.laws_monad.specs.Answers.{answers};
-ghost use Rattle.lent_world.specs.Promise.{seen, Kept};
+ghost use Rattle.lent_world.specs.Promise.{seen, Kept, Unwritten};
 ghost use Rattle.lent_world.specs.World.{lent};
 
 use def_effects::{MutateVariant, MutationResult, Place, is_strict, result_of};
@@ -26,9 +27,10 @@ use lent_world::World;
 // 10 refuses a 257th diagnostic or instance.
 pub fn report_modified(world: &mut World, p: Place, a: AbstractValue) -> Result<Next, Refusal>
     ensures kept { Kept world.old world.new }
-    ensures does { (again : Effect → M (AWorld lent) Done) (e : Effect)
+    ensures unwritten { Unwritten world.old world.new }
+    ensures does { (again : Effect → M (AWorld lent) Done) (e : Effect) (cs : List APlace)
         → Step.report_modified again p a (seen world.old)
-        ≡ answers result (λ next. follow again e next (seen world.new)) (seen world.new) }
+        ≡ answers result (λ next. follow again e cs next (seen world.new)) (seen world.new) }
 {
     let context = &mut *world.context;
     let name = name_of(context, p.identifier);
@@ -43,9 +45,10 @@ pub fn report_modified(world: &mut World, p: Place, a: AbstractValue) -> Result<
 // 10 refuses a 257th diagnostic or instance.
 pub fn report_hoisted(world: &mut World, p: Place) -> Result<Next, Refusal>
     ensures kept { Kept world.old world.new }
-    ensures does { (again : Effect → M (AWorld lent) Done) (e : Effect)
+    ensures unwritten { Unwritten world.old world.new }
+    ensures does { (again : Effect → M (AWorld lent) Done) (e : Effect) (cs : List APlace)
         → Step.report_hoisted again p (seen world.old)
-        ≡ answers result (λ next. follow again e next (seen world.new)) (seen world.new) }
+        ≡ answers result (λ next. follow again e cs next (seen world.new)) (seen world.new) }
 {
     let context = &mut *world.context;
     let name = name_of(context, p.identifier);
@@ -58,9 +61,10 @@ pub fn report_hoisted(world: &mut World, p: Place) -> Result<Next, Refusal>
 // Hoisted matters for Frozen and MaybeFrozen only.
 pub fn report_result(world: &mut World, p: Place, res: MutationResult) -> Result<Next, Refusal>
     ensures kept { Kept world.old world.new }
-    ensures does { (again : Effect → M (AWorld lent) Done) (e : Effect)
+    ensures unwritten { Unwritten world.old world.new }
+    ensures does { (again : Effect → M (AWorld lent) Done) (e : Effect) (cs : List APlace)
         → Step.report again e p res (seen world.old)
-        ≡ answers result (λ next. follow again e next (seen world.new)) (seen world.new) }
+        ≡ answers result (λ next. follow again e cs next (seen world.new)) (seen world.new) }
 {
     match res {
         MutationResult::None | MutationResult::MutateRef => Ok(Next::Nothing),
@@ -84,9 +88,10 @@ pub fn report_result(world: &mut World, p: Place, res: MutationResult) -> Result
 // A ref is not looked at further, and no access is recorded for it.
 pub fn mutation(world: &mut World, variant: MutateVariant, p: Place) -> Result<Next, Refusal>
     ensures kept { Kept world.old world.new }
-    ensures does { (again : Effect → M (AWorld lent) Done) (e : Effect)
+    ensures unwritten { Unwritten world.old world.new }
+    ensures does { (again : Effect → M (AWorld lent) Done) (e : Effect) (cs : List APlace)
         → Step.mutating again variant e p (seen world.old)
-        ≡ answers result (λ next. follow again e next (seen world.new)) (seen world.new) }
+        ≡ answers result (λ next. follow again e cs next (seen world.new)) (seen world.new) }
 {
     let context = &mut *world.context;
     if is_ref(context, p.identifier) {

@@ -10,7 +10,7 @@ ghost use Rattle.def_transfer.specs.Step as Step;
 ghost use Rattle.lent_values.specs.Cells.{value_at};
 ghost use Rattle.lent_sets.specs.Rows.{set_at};
 ghost use Rattle.lent_effects.specs.Records.{effect_with, captures_of};
-ghost use Rattle.lent_world.specs.Promise.{seen, Kept, Does};
+ghost use Rattle.lent_world.specs.Promise.{seen, Kept, Does, Untouched};
 
 use def_effects::{Place, Span};
 use def_kinds::AbstractValue;
@@ -42,6 +42,7 @@ pub fn emit(world: &mut World, e: AliasingEffect, captures: &[u32])
 // "Create, CreateFrom, CreateFunction or Assign into a place already initialized in this instruction."
 pub fn begin(world: &mut World, i: u32) -> Verdict
     ensures kept { Kept world.old world.new }
+    ensures untouched { Untouched world.old world.new }
     ensures does { Does (Context.begin i) world.old world.new result }
 {
     if is_marked(world.run.marks, i) {
@@ -62,6 +63,7 @@ fn peek(world: &World, i: u32) -> AbstractValue
 // This is kind_with_span of the Rust.
 pub fn kind_with_span(world: &mut World, i: u32, span: Span) -> AbstractValue
     ensures kept { Kept world.old world.new }
+    ensures untouched { Untouched world.old world.new }
     ensures does { State.kind_with_span i span (seen world.old) ≡ ok result (seen world.new) }
 {
     let session = world.run.session;
@@ -74,6 +76,7 @@ pub fn kind_with_span(world: &mut World, i: u32, span: Span) -> AbstractValue
 // ImmutableCapture and CreateFrom ask so.
 pub fn kind(world: &mut World, i: u32) -> AbstractValue
     ensures kept { Kept world.old world.new }
+    ensures untouched { Untouched world.old world.new }
     ensures does { State.kind i (seen world.old) ≡ ok result (seen world.new) }
 {
     let span = Span {

@@ -20,6 +20,14 @@ Same r s = (r.ghost_name ≡ s.ghost_name) × (length r.now ≡ length s.now)
 abbrev pub Kept : Lent → Lent → Type 0
 Kept v w = Same v.values w.values × Same v.sets w.sets × Same v.context w.context × Same v.output w.output
 
+-- nothing is written into the values, the sets and the output list
+abbrev pub Unwritten : Lent → Lent → Type 0
+Unwritten v w = (v.values.now ≡ w.values.now) × (v.sets.now ≡ w.sets.now) × (v.output.now ≡ w.output.now)
+
+-- nor into the context
+abbrev pub Untouched : Lent → Lent → Type 0
+Untouched v w = Unwritten v w × (v.context.now ≡ w.context.now)
+
 -- what a part answers, as what a computation comes to: it goes on with the answer, or is refused with the same number, in the world as it is left
 abbrev pub comes : {A : Type 0} → Result A Refusal → World lent → Res (World lent) A
 comes (Ok a) w = ok a w

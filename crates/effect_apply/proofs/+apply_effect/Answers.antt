@@ -37,21 +37,21 @@ capture_all-returns-clause-does t c =
     captures_start (Text.apply_effect c.args.depth) c.args.into _ _ _ c.field-n.ensures ∙ c.loop-k.invariant.1 ∙ captures_end (Text.apply_effect c.args.depth) c.args.into _ _ _ _ c.loop-k-test.false
 
 pub capturing-returns-in_err-next-clause-does : goal.capturing-returns-in_err-next-clause-does
-capturing-returns-in_err-next-clause-does t c = rw (passes _ _ c.from_residual.ensures.1) (c.in_err-next.ensures.does (Text.apply_effect _) _)
+capturing-returns-in_err-next-clause-does t c = rw (passes _ _ c.from_residual.ensures.1) (c.in_err-next.ensures.does (Text.apply_effect _) _ [])
 
 pub capturing-returns-clause-does : goal.capturing-returns-clause-does
-capturing-returns-clause-does t c = c.in_ok-next.ensures.does (Text.apply_effect _) _ ∙ c.follow.ensures.does
+capturing-returns-clause-does t c = c.in_ok-next.ensures.does (Text.apply_effect _) _ _ ∙ c.follow.ensures.does
 
 pub creating_chosen-returns-clause-does : goal.creating_chosen-returns-clause-does
 creating_chosen-returns-clause-does t c =
     chosen_copied _ _ _ _ _ _ _ (c.choose_captures.ensures refl) c.creating_function.ensures.does
 
 pub creating_from-returns-in_err-next-clause-does : goal.creating_from-returns-in_err-next-clause-does
-creating_from-returns-in_err-next-clause-does t c = rw (passes _ _ c.from_residual.ensures.1) (c.in_err-next.ensures.does (Text.apply_effect _))
+creating_from-returns-in_err-next-clause-does t c = rw (passes _ _ c.from_residual.ensures.1) (c.in_err-next.ensures.does (Text.apply_effect _) [])
 
 pub creating_from-returns-clause-does : goal.creating_from-returns-clause-does
 creating_from-returns-clause-does t c =
-    c.in_ok-next.ensures.does (Text.apply_effect _) ∙ created_follows _ _ _ _ _ _ c.follow.ensures.does
+    c.in_ok-next.ensures.does (Text.apply_effect _) _ ∙ created_follows _ _ _ _ _ _ _ c.follow.ensures.does
 
 pub creating_function-returns-in_err-make_function-clause-does : goal.creating_function-returns-in_err-make_function-clause-does
 creating_function-returns-in_err-make_function-clause-does t c = rw (passes _ _ c.from_residual.ensures.1) (c.in_err-make_function.ensures.does (Text.apply_effect _))
@@ -60,19 +60,19 @@ pub creating_function-returns-clause-does : goal.creating_function-returns-claus
 creating_function-returns-clause-does t c = c.in_ok-make_function.ensures.does (Text.apply_effect _) ∙ c.capture_all.ensures.does
 
 pub follow-returns-in-Nothing-clause-does : goal.follow-returns-in-Nothing-clause-does
-follow-returns-in-Nothing-clause-does t c = follow_nothing _ _ _ _ c.in-Nothing.is
+follow-returns-in-Nothing-clause-does t c = follow_nothing _ _ _ _ _ c.in-Nothing.is
 
 pub follow-returns-in-Itself-clause-does : goal.follow-returns-in-Itself-clause-does
-follow-returns-in-Itself-clause-does t c = follow_itself _ _ _ _ _ c.in-Itself.is c.emit.ensures.does
+follow-returns-in-Itself-clause-does t c = follow_itself _ _ _ _ _ _ c.in-Itself.is c.emit.ensures.does
 
 pub follow-returns-in-Derived-clause-does : goal.follow-returns-in-Derived-clause-does
-follow-returns-in-Derived-clause-does t c = follow_derived _ _ _ _ _ _ c.in-Derived.is c.apply_effect.ensures.does
+follow-returns-in-Derived-clause-does t c = follow_derived _ _ _ _ _ _ _ c.in-Derived.is c.apply_effect.ensures.does
 
 pub mutating-returns-in_err-next-clause-does : goal.mutating-returns-in_err-next-clause-does
-mutating-returns-in_err-next-clause-does t c = rw (passes _ _ c.from_residual.ensures.1) (c.in_err-next.ensures.does (Text.apply_effect _) _)
+mutating-returns-in_err-next-clause-does t c = rw (passes _ _ c.from_residual.ensures.1) (c.in_err-next.ensures.does (Text.apply_effect _) _ [])
 
 pub mutating-returns-clause-does : goal.mutating-returns-clause-does
-mutating-returns-clause-does t c = c.in_ok-next.ensures.does (Text.apply_effect _) _ ∙ c.follow.ensures.does
+mutating-returns-clause-does t c = c.in_ok-next.ensures.does (Text.apply_effect _) _ _ ∙ c.follow.ensures.does
 
 pub apply_effect-returns-then-depth-eq0-clause-does : goal.apply_effect-returns-then-depth-eq0-clause-does
 apply_effect-returns-then-depth-eq0-clause-does t c = step_none _ _ _ c.if-depth-eq0.true
@@ -87,11 +87,11 @@ apply_effect-returns-in-Plain-clause-does t c =
 
 pub apply_effect-returns-in-Mutating-clause-does : goal.apply_effect-returns-in-Mutating-clause-does
 apply_effect-returns-in-Mutating-clause-does t c =
-    step_acts _ _ _ c.if-depth-eq0.false _ _ _ c.in_ok-interned.ensures.does (arm_mutating _ _ _ [] _ _ _ c.act_of.ensures _ _ c.in-Mutating.is c.mutating.ensures.does)
+    step_acts _ _ _ c.if-depth-eq0.false _ _ _ c.in_ok-interned.ensures.does (arm_mutating _ _ _ _ _ _ _ c.act_of.ensures _ _ c.in-Mutating.is c.mutating.ensures.does)
 
 pub apply_effect-returns-in-Flowing-clause-does : goal.apply_effect-returns-in-Flowing-clause-does
 apply_effect-returns-in-Flowing-clause-does t c =
-    step_acts _ _ _ c.if-depth-eq0.false _ _ _ c.in_ok-interned.ensures.does (arm_flowing _ _ _ [] _ _ _ c.act_of.ensures _ _ _ c.in-Flowing.is c.capturing.ensures.does)
+    step_acts _ _ _ c.if-depth-eq0.false _ _ _ c.in_ok-interned.ensures.does (arm_flowing _ _ _ _ _ _ _ c.act_of.ensures _ _ _ c.in-Flowing.is c.capturing.ensures.does)
 
 pub apply_effect-returns-in-Assigning-clause-does : goal.apply_effect-returns-in-Assigning-clause-does
 apply_effect-returns-in-Assigning-clause-does t c =

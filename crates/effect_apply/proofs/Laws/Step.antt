@@ -1,5 +1,5 @@
 -- Laws by which the step and the functions that derive effects meet the definition. Assumes nothing.
-use Rattle.std.specs.Prelude.{ℕ, zero, suc, ◌+◌, ◌-◌, ◌*◌, ◌≤◌, ◌<◌, ◌≡◌, Bool, true, false, List, []}
+use Rattle.std.specs.Prelude.{ℕ, zero, suc, ◌+◌, ◌-◌, ◌*◌, ◌≤◌, ◌<◌, ◌≡◌, Bool, true, false, List}
 use native.Mathlib.Omega.{arith}
 use Rattle.std.proofs.Math.Path.{refl, sym, ap}
 use Rattle.std.proofs.Common.{◌∙◌}
@@ -13,7 +13,7 @@ use Rattle.def_transfer.specs.Monad.{Res, ok, refused, M, Done, ◌>>=◌, ◌>>
 use Rattle.def_transfer.specs.Tables.{World}
 use Rattle.def_transfer.specs.Context.{intern_effect, emit}
 use Rattle.def_transfer.specs.Step.{act, apply_effect, mutating, assigning, creating_from, creating_function}
-use Rattle.lent_tables.specs.Words.{within, index, field, place_in, places_in}
+use Rattle.lent_tables.specs.Words.{field, place_in, places_in}
 use Rattle.lent_tables.proofs.Laws.Word.{places_more, places_none}
 use Rattle.lent_effects.specs.declared.AliasingEffect.{AliasingEffect as Head}
 use Rattle.lent_effects.specs.declared.AliasingEffect.TheVariants as Head
@@ -137,32 +137,23 @@ module _ (again : AliasingEffect → M (World lent) Done) (x : Head) (ds cs : Li
 
 -- ---- what comes next
 
--- what is lent no words has no captures
-no_captures : captures_of [] ≡ []
-unfolding counted_places field within index places_in
-no_captures = refl
-
--- an effect that is lent none is the effect without captures
-pub without : (x : Head) → effect_with x (captures_of []) ≡ effect_with x []
-without x = ap (effect_with x) no_captures
-
-module _ (again : AliasingEffect → M (World lent) Done) (e : Head) (n : Next) (w : World lent) where
-  pub follow_nothing : n ≡ Nothing → follow again (effect_with e []) n w ≡ ok tt w
+module _ (again : AliasingEffect → M (World lent) Done) (e : AliasingEffect) (cs : List Place) (n : Next) (w : World lent) where
+  pub follow_nothing : n ≡ Nothing → follow again e cs n w ≡ ok tt w
   unfolding follow
-  follow_nothing h = ap (λ (m : Next). follow again (effect_with e []) m w) h ∙ done_ok w
+  follow_nothing h = ap (λ (m : Next). follow again e cs m w) h ∙ done_ok w
 
-  pub follow_itself : (u : World lent) → n ≡ Itself → emit (effect_with e (captures_of [])) w ≡ ok tt u → follow again (effect_with e []) n w ≡ ok tt u
+  pub follow_itself : (u : World lent) → n ≡ Itself → emit e w ≡ ok tt u → follow again e cs n w ≡ ok tt u
   unfolding follow
-  follow_itself u h g = ap (λ (m : Next). follow again (effect_with e []) m w) h ∙ ap (λ (x : AliasingEffect). emit x w) (sym (without e)) ∙ g
+  follow_itself u h g = ap (λ (m : Next). follow again e cs m w) h ∙ g
 
-  pub follow_derived : (x : Head) (y : Res (World lent) Done) → n ≡ Derived x → again (effect_with x (captures_of [])) w ≡ y → follow again (effect_with e []) n w ≡ y
+  pub follow_derived : (x : Head) (y : Res (World lent) Done) → n ≡ Derived x → again (effect_with x cs) w ≡ y → follow again e cs n w ≡ y
   unfolding follow
-  follow_derived x y h g = ap (λ (m : Next). follow again (effect_with e []) m w) h ∙ ap (λ (z : AliasingEffect). again z w) (sym (without x)) ∙ g
+  follow_derived x y h g = ap (λ (m : Next). follow again e cs m w) h ∙ g
 
 -- what a CreateFrom lists is itself
-pub created_follows : (again : AliasingEffect → M (World lent) Done) (f i : Place) (n : Next) (w : World lent) (y : Res (World lent) Done) → follow again (effect_with (Head.CreateFrom f i) []) n w ≡ y → follow again (CreateFrom f i) n w ≡ y
+pub created_follows : (again : AliasingEffect → M (World lent) Done) (f i : Place) (cs : List Place) (n : Next) (w : World lent) (y : Res (World lent) Done) → follow again (effect_with (Head.CreateFrom f i) cs) cs n w ≡ y → follow again (CreateFrom f i) cs n w ≡ y
 unfolding effect_with
-created_follows again f i n w y h = h
+created_follows again f i cs n w y h = h
 
 -- ---- Assign, once its source was looked at
 

@@ -177,10 +177,10 @@ module _ (w : World lent) (from into : Place) (again : AliasingEffect → M (Wor
 
 -- ---- what a CreateFrom lists
 
-module _ (w : World lent) (from into : Place) (a : AbstractValue) (again : AliasingEffect → M (World lent) Done) (b : Bool) (e : b ≡ copied a.kind) where
+module _ (w : World lent) (from into : Place) (a : AbstractValue) (again : AliasingEffect → M (World lent) Done) (ps : List Place) (b : Bool) (e : b ≡ copied a.kind) where
   -- the source is copied
   pub listed_copied : (q : ℕ) (hs : List Place) (t : World lent) → b ≡ true → q ≡ primary_reason a.reason → emit (effect_with (Head.Create into a.kind q) hs) w ≡ ok tt t
-      → Step.list_created again from into a w ≡ follow again (CreateFrom from into) Next.Nothing t
+      → Step.list_created again from into a w ≡ follow again (CreateFrom from into) ps Next.Nothing t
   unfolding Step.list_created effect_with follow done return
   listed_copied q hs t h s l =
       if_true _ _ _ _ _ (sym e ∙ h) (ap (λ (i : ℕ). emit (Create into a.kind i) w) (sym s) ∙ l)
@@ -189,14 +189,14 @@ module _ (w : World lent) (from into : Place) (a : AbstractValue) (again : Alias
     -- the source is frozen
     -- a Create is listed, and an ImmutableCapture derived
     pub listed_frozen : (q : ℕ) (hs : List Place) (t : World lent) → d ≡ true → q ≡ primary_reason a.reason → emit (effect_with (Head.Create into a.kind q) hs) w ≡ ok tt t
-        → Step.list_created again from into a w ≡ follow again (CreateFrom from into) (Next.Derived (Head.ImmutableCapture from into)) t
+        → Step.list_created again from into a w ≡ follow again (CreateFrom from into) ps (Next.Derived (Head.ImmutableCapture from into)) t
     unfolding Step.list_created effect_with follow
     listed_frozen q hs t k s l =
         if_false _ _ _ _ _ (sym e ∙ h) (if_true _ _ _ _ _ (sym g ∙ k)
         (then_ok _ _ _ _ _ _ (ap (λ (i : ℕ). emit (Create into a.kind i) w) (sym s) ∙ l) refl))
 
     -- any other source
-    pub listed_itself : d ≡ false → Step.list_created again from into a w ≡ follow again (CreateFrom from into) Next.Itself w
+    pub listed_itself : d ≡ false → Step.list_created again from into a w ≡ follow again (CreateFrom from into) ps Next.Itself w
     unfolding Step.list_created follow
     listed_itself k = if_false _ _ _ _ _ (sym e ∙ h) (if_false _ _ _ _ _ (sym g ∙ k) refl)
 

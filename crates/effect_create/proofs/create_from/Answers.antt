@@ -4,12 +4,12 @@ use Rattle.effect_create.proofs.Laws.Creation.{from_refused, from_full, from_lis
 use Rattle.effect_create.proofs.create_from.Goals as goal
 
 pub returns-in_err-begin-clause-does : goal.returns-in_err-begin-clause-does
-returns-in_err-begin-clause-does c = rw (passes _ _ c.from_residual.ensures.1) (λ again. from_refused _ _ _ again _ _ c.in_err-begin.ensures.does)
+returns-in_err-begin-clause-does c = rw (passes _ _ c.from_residual.ensures.1) (λ again ps. from_refused _ _ _ again _ _ c.in_err-begin.ensures.does)
 
 pub returns-in_err-number-clause-does : goal.returns-in_err-number-clause-does
 returns-in_err-number-clause-does c =
-    rw (passes _ _ c.from_residual-in_err-number.ensures.1) (λ again. from_full _ _ _ again _ c.in_ok-begin.ensures.does _ _ c.kind-a.ensures.does _ _ c.two_key.ensures _ _ c.in_err-number.ensures.does)
+    rw (passes _ _ c.from_residual-in_err-number.ensures.1) (λ again ps. from_full _ _ _ again _ c.in_ok-begin.ensures.does _ _ c.kind-a.ensures.does _ _ c.two_key.ensures _ _ c.in_err-number.ensures.does)
 
 pub returns-clause-does : goal.returns-clause-does
 returns-clause-does c =
-    λ again. from_listed _ _ _ again _ c.in_ok-begin.ensures.does _ _ c.kind-a.ensures.does _ _ c.two_key.ensures _ _ _ _ c.in_ok-number.ensures.does c.create.ensures.does (c.list_created.ensures.does again)
+    λ again ps. from_listed _ _ _ again _ c.in_ok-begin.ensures.does _ _ c.kind-a.ensures.does _ _ c.two_key.ensures _ _ _ _ c.in_ok-number.ensures.does c.create.ensures.does (c.list_created.ensures.does again ps)

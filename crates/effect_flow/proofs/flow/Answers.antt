@@ -2,13 +2,13 @@ use Rattle.effect_flow.proofs.Laws.Flow.{capture_goes, maybe_goes, alias_goes, a
 use Rattle.effect_flow.proofs.flow.Goals as goal
 
 pub returns-in-Capture-clause-does : goal.returns-in-Capture-clause-does
-returns-in-Capture-clause-does c = λ again e. capture_goes again e _ _ _ _ _ c.in-Capture.is (c.flowing.ensures.does again e)
+returns-in-Capture-clause-does c = λ again e cs. capture_goes again e cs _ _ _ _ _ c.in-Capture.is (c.flowing.ensures.does again e cs)
 
 pub returns-in-MaybeAlias-clause-does : goal.returns-in-MaybeAlias-clause-does
-returns-in-MaybeAlias-clause-does c = λ again e. maybe_goes again e _ _ _ _ _ c.in-MaybeAlias.is (c.flowing-in-MaybeAlias.ensures.does again e)
+returns-in-MaybeAlias-clause-does c = λ again e cs. maybe_goes again e cs _ _ _ _ _ c.in-MaybeAlias.is (c.flowing-in-MaybeAlias.ensures.does again e cs)
 
 pub returns-then-not-is_marked-clause-does : goal.returns-then-not-is_marked-clause-does
-returns-then-not-is_marked-clause-does c = λ again e. alias_refused again e _ _ _ _ c.in-Alias.is _ c.is_marked.ensures c.if-not-is_marked.true
+returns-then-not-is_marked-clause-does c = λ again e cs. alias_refused again e cs _ _ _ _ c.in-Alias.is _ c.is_marked.ensures c.if-not-is_marked.true
 
 pub returns-else-not-is_marked-clause-does : goal.returns-else-not-is_marked-clause-does
-returns-else-not-is_marked-clause-does c = λ again e. alias_goes again e _ _ _ _ _ c.in-Alias.is _ c.is_marked.ensures c.if-not-is_marked.false (c.flowing-in-Alias.ensures.does again e)
+returns-else-not-is_marked-clause-does c = λ again e cs. alias_goes again e cs _ _ _ _ _ c.in-Alias.is _ c.is_marked.ensures c.if-not-is_marked.false (c.flowing-in-Alias.ensures.does again e cs)

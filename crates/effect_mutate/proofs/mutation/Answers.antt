@@ -2,8 +2,8 @@ use Rattle.effect_reports.proofs.Laws.Mutation.{mutation_ref, mutation_goes}
 use Rattle.effect_mutate.proofs.mutation.Goals as goal
 
 pub returns-then-is_ref-clause-does : goal.returns-then-is_ref-clause-does
-returns-then-is_ref-clause-does c = λ again e. mutation_ref again e _ _ _ _ c.is_ref.ensures c.if-is_ref.true
+returns-then-is_ref-clause-does c = λ again e cs. mutation_ref again e cs _ _ _ _ c.is_ref.ensures c.if-is_ref.true
 
 pub returns-clause-does : goal.returns-clause-does
 returns-clause-does c =
-    λ again e. mutation_goes again e _ _ _ _ c.is_ref.ensures _ _ _ _ _ c.if-is_ref.false c.kind_with_span-a.ensures.does c.is_strict.ensures c.result_of.ensures (c.report_result.ensures.does again e)
+    λ again e cs. mutation_goes again e cs _ _ _ _ c.is_ref.ensures _ _ _ _ _ c.if-is_ref.false c.kind_with_span-a.ensures.does c.is_strict.ensures c.result_of.ensures (c.report_result.ensures.does again e cs)

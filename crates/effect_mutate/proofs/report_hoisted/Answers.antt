@@ -4,8 +4,8 @@ use Rattle.effect_mutate.proofs.report_hoisted.Goals as goal
 
 pub returns-in_err-error-clause-does : goal.returns-in_err-error-clause-does
 returns-in_err-error-clause-does c =
-    rw (passes _ _ c.from_residual.ensures.1) (λ again e. hoisted_refused again _ _ _ _ c.name_of-name.ensures _ c.access_span-access.ensures c.hoisted_diagnostic.ensures _ _ c.in_err-error.ensures.does)
+    rw (passes _ _ c.from_residual.ensures.1) (λ again e cs. hoisted_refused again _ _ _ _ c.name_of-name.ensures _ c.access_span-access.ensures c.hoisted_diagnostic.ensures _ _ c.in_err-error.ensures.does)
 
 pub returns-clause-does : goal.returns-clause-does
 returns-clause-does c =
-    λ again e. hoisted_goes again _ _ _ _ c.name_of-name.ensures _ c.access_span-access.ensures c.hoisted_diagnostic.ensures _ _ c.in_ok-error.ensures.does e
+    λ again e cs. hoisted_goes again _ _ _ _ c.name_of-name.ensures _ c.access_span-access.ensures c.hoisted_diagnostic.ensures _ _ c.in_ok-error.ensures.does e cs

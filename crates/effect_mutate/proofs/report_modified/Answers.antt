@@ -4,12 +4,12 @@ use Rattle.effect_mutate.proofs.report_modified.Goals as goal
 
 pub returns-in_err-error-clause-does : goal.returns-in_err-error-clause-does
 returns-in_err-error-clause-does c =
-    rw (passes _ _ c.from_residual.ensures.1) (λ again e. modified_refused again _ _ _ _ c.name_of-name.ensures _ c.modified_diagnostic.ensures _ _ c.in_err-error.ensures.does)
+    rw (passes _ _ c.from_residual.ensures.1) (λ again e cs. modified_refused again _ _ _ _ c.name_of-name.ensures _ c.modified_diagnostic.ensures _ _ c.in_err-error.ensures.does)
 
 pub returns-then-is_frozen-clause-does : goal.returns-then-is_frozen-clause-does
 returns-then-is_frozen-clause-does c =
-    λ again e. modified_frozen again _ _ _ _ c.name_of-name.ensures _ c.modified_diagnostic.ensures _ _ c.in_ok-error.ensures.does _ c.is_frozen.ensures e c.if-is_frozen.true
+    λ again e cs. modified_frozen again _ _ _ _ c.name_of-name.ensures _ c.modified_diagnostic.ensures _ _ c.in_ok-error.ensures.does _ c.is_frozen.ensures e cs c.if-is_frozen.true
 
 pub returns-clause-does : goal.returns-clause-does
 returns-clause-does c =
-    λ again e. modified_global again _ _ _ _ c.name_of-name.ensures _ c.modified_diagnostic.ensures _ _ c.in_ok-error.ensures.does _ c.is_frozen.ensures e c.if-is_frozen.false
+    λ again e cs. modified_global again _ _ _ _ c.name_of-name.ensures _ c.modified_diagnostic.ensures _ _ c.in_ok-error.ensures.does _ c.is_frozen.ensures e cs c.if-is_frozen.false

@@ -102,14 +102,14 @@ module _ (again : AliasingEffect → M (World lent) Done) (w : World lent) (p : 
     pub modified_refused : (n : ℕ) (u : World lent) → intern_diagnostic d w ≡ refused n u → report_modified again p a w ≡ refused n u
     modified_refused n u g = modified_rest _ (bind_fails _ _ _ _ _ g)
 
-    module _ (x : AliasingDiagnostic) (u : World lent) (g : intern_diagnostic d w ≡ ok x u) (b : Bool) (f : b ≡ is_frozen a.kind) (e : AliasingEffect) where
+    module _ (x : AliasingDiagnostic) (u : World lent) (g : intern_diagnostic d w ≡ ok x u) (b : Bool) (f : b ≡ is_frozen a.kind) (e : AliasingEffect) (cs : List Place) where
       -- a value that is surely Frozen
-      pub modified_frozen : b ≡ true → report_modified again p a w ≡ follow again e (Derived (Head.MutateFrozen p x)) u
+      pub modified_frozen : b ≡ true → report_modified again p a w ≡ follow again e cs (Derived (Head.MutateFrozen p x)) u
       unfolding follow effect_with
       modified_frozen h = modified_rest _ (bind_ok _ _ _ _ _ _ g (if_true _ _ _ _ _ (sym f ∙ h) refl))
 
       -- any other
-      pub modified_global : b ≡ false → report_modified again p a w ≡ follow again e (Derived (Head.MutateGlobal p x)) u
+      pub modified_global : b ≡ false → report_modified again p a w ≡ follow again e cs (Derived (Head.MutateGlobal p x)) u
       unfolding follow effect_with
       modified_global h = modified_rest _ (bind_ok _ _ _ _ _ _ g (if_false _ _ _ _ _ (sym f ∙ h) refl))
 
@@ -127,25 +127,25 @@ module _ (again : AliasingEffect → M (World lent) Done) (w : World lent) (p : 
     hoisted_refused n u g = hoisted_rest _ (bind_fails _ _ _ _ _ g)
 
     -- an access before the declaration
-    pub hoisted_goes : (x : AliasingDiagnostic) (u : World lent) → intern_diagnostic d w ≡ ok x u → (e : AliasingEffect) → report_hoisted again p w ≡ follow again e (Derived (Head.MutateFrozen p x)) u
+    pub hoisted_goes : (x : AliasingDiagnostic) (u : World lent) → intern_diagnostic d w ≡ ok x u → (e : AliasingEffect) (cs : List Place) → report_hoisted again p w ≡ follow again e cs (Derived (Head.MutateFrozen p x)) u
     unfolding follow effect_with
-    hoisted_goes x u g e = hoisted_rest _ (bind_ok _ _ _ _ _ _ g refl)
+    hoisted_goes x u g e cs = hoisted_rest _ (bind_ok _ _ _ _ _ _ g refl)
 
 -- ---- what a mutation lists, by its result
 
-module _ (again : AliasingEffect → M (World lent) Done) (e : AliasingEffect) (w : World lent) (p : Place) (y : MutationResult) where
+module _ (again : AliasingEffect → M (World lent) Done) (e : AliasingEffect) (cs : List Place) (w : World lent) (p : Place) (y : MutationResult) where
   -- no mutation
-  pub result_none : y ≡ Result.None → report again e p y w ≡ follow again e Nothing w
+  pub result_none : y ≡ Result.None → report again e p y w ≡ follow again e cs Nothing w
   unfolding report follow
   result_none h = ap (λ (k : MutationResult). report again e p k w) h
 
   -- a mutation of a ref
-  pub result_ref : y ≡ Result.MutateRef → report again e p y w ≡ follow again e Nothing w
+  pub result_ref : y ≡ Result.MutateRef → report again e p y w ≡ follow again e cs Nothing w
   unfolding report follow
   result_ref h = ap (λ (k : MutationResult). report again e p k w) h
 
   -- a mutation that may be
-  pub result_mutate : y ≡ Result.Mutate → report again e p y w ≡ follow again e Itself w
+  pub result_mutate : y ≡ Result.Mutate → report again e p y w ≡ follow again e cs Itself w
   unfolding report follow
   result_mutate h = ap (λ (k : MutationResult). report again e p k w) h
 
@@ -172,9 +172,9 @@ module _ (again : AliasingEffect → M (World lent) Done) (e : AliasingEffect) (
 
 -- ---- a mutation of a place
 
-module _ (again : AliasingEffect → M (World lent) Done) (e : AliasingEffect) (w : World lent) (variant : MutateVariant) (p : Place) (b : Bool) (q : b ≡ Lent.is_ref w.rest.context p.identifier) where
+module _ (again : AliasingEffect → M (World lent) Done) (e : AliasingEffect) (cs : List Place) (w : World lent) (variant : MutateVariant) (p : Place) (b : Bool) (q : b ≡ Lent.is_ref w.rest.context p.identifier) where
   -- a ref
-  pub mutation_ref : b ≡ true → mutating again variant e p w ≡ follow again e Nothing w
+  pub mutation_ref : b ≡ true → mutating again variant e p w ≡ follow again e cs Nothing w
   unfolding mutating mutate ask return report follow
   mutation_ref h =
       bind_ok _ _ _ _ _ _ (bind_ok _ _ _ _ _ _ refl (if_true _ _ _ _ _ (sym q ∙ h) refl)) refl
