@@ -6,7 +6,7 @@ ghost use Rattle.def_transfer.specs.Diagnostics.{same_identity, same_labels};
 ghost use Rattle.lent_context.specs.Lent as Lent;
 ghost use Rattle.lent_diagnostics.specs.Numbered.{interned_of};
 
-use def_effects::{Diagnostic, Span};
+use def_effects::{Diagnostic, NO_SPAN, Span};
 use lent_layout::{DIAGNOSTIC_COUNT, DIAGNOSTICS};
 use lent_slices::get_or;
 
@@ -16,12 +16,6 @@ pub struct Numbered {
     pub identity: u32,
     pub diagnostic: Diagnostic,
 }
-
-// No span: a label of which no place is known.
-const NO_SPAN: Span = Span {
-    start: 4294967295,
-    end: 4294967295,
-};
 
 // Whether two diagnostics have one identity: identifier, message and help.
 // The help of case 0 is the sentence, that of case 1 holds the name.
