@@ -102,10 +102,5 @@ pub fn any_written(world: &World, captures: &[u32]) -> bool
     ensures { Step.any_written (captures_of captures.now) (seen world.now) ≡ ok result (seen world.now) }
 {
     let n = ONE_RUN.field(captures, 0, 0);
-    for k in 0..n {
-        if is_written(world, ONE_RUN.place_in(captures, 0, 1, k)) {
-            return true;
-        }
-    }
-    false
+    (0..n).any(|k| is_written(world, ONE_RUN.place_in(captures, 0, 1, k)))
 }
