@@ -1,13 +1,13 @@
 -- Laws by which what the searches of diagnostics before one find is the definition. Assumes nothing.
-use Rattle.std.specs.Prelude.{ℕ, zero, suc, max, ◌+◌, ◌-◌, ◌≤◌, ◌<◌, ◌≡◌, refl, Bool, ◌&&◌, ◌||◌, eqb, Option, None, Some}
+use Rattle.std.specs.Prelude.{ℕ, suc, ◌≤◌, ◌≡◌, refl, Bool, ◌&&◌, eqb, Option, None, Some}
 use Rattle.std.specs.List.{list_any, range_with_len}
-use Rattle.std.proofs.Common.{arith, add-one, ◌∙◌, ⊎_elim}
+use Rattle.std.proofs.Common.{arith, ◌∙◌, ⊎_elim}
 use Rattle.std.proofs.Math.Path.{sym, ap, ap₂}
 use Rattle.std.proofs.Math.Bool.{true, false, not}
 use mathlib.Core.List.{List, [], ◌∷◌}
 use borrow.Author.Tests.{eq-eqb, ne_eqb}
 use Rattle.def_effects.specs.declared.Diagnostic.{Diagnostic}
-use Rattle.def_transfer.specs.Diagnostics.{same_identity, same_labels}
+use Rattle.def_transfer.specs.Diagnostics.{same_labels}
 use Rattle.base_tests.specs.Tests.{is_some}
 use Rattle.def_transfer.specs.Pure.{Interned, identities, find_identity, find_instance}
 use Rattle.lent_tables.specs.Words.{field}
@@ -29,6 +29,11 @@ module _ (c : List ℕ) (n : ℕ) (d : Diagnostic) (o : Option ℕ) (h : o ≡ f
   right_found : (x : ℕ) → o ≡ Some x → x ≡ right_identity c n d
   unfolding right_identity
   right_found x e = ap (number_or (identities (diagnostics_in c 0 n))) (sym e ∙ h)
+
+-- the library's test is the definitions'
+some_is : (o : Option ℕ) → Rattle.std.specs.Option.is_some o ≡ is_some o
+some_is None = refl
+some_is (Some a) = refl
 
 -- an identity that is not below those of some records is none of theirs
 none_yet : (i : ℕ) (ds : List Interned) (n : ℕ) (d : Diagnostic) → identities ds ≤ n → find_instance i ds n d ≡ None
@@ -85,5 +90,5 @@ module _ (c : List ℕ) (k : ℕ) (x : Numbered) (g : interned_of x ≡ diagnost
     pub diagnostic_other : (x.identity ≡ m → ⊥) → true ≡ diagnostic_twice c k
     diagnostic_other n = diagnostic_wrong m (right_found c k x.diagnostic o h m e) n
 
-    pub diagnostic_same : (r : Bool) → x.identity ≡ m → r ≡ is_some (find_instance 0 (diagnostics_in c 0 k) x.identity x.diagnostic) → r ≡ diagnostic_twice c k
-    diagnostic_same r z q = diagnostic_right m r (right_found c k x.diagnostic o h m e) z q
+    pub diagnostic_same : (i : Option ℕ) (r : Bool) → x.identity ≡ m → i ≡ find_instance 0 (diagnostics_in c 0 k) x.identity x.diagnostic → r ≡ Rattle.std.specs.Option.is_some i → r ≡ diagnostic_twice c k
+    diagnostic_same i r z g q = diagnostic_right m r (right_found c k x.diagnostic o h m e) z (q ∙ some_is i ∙ ap is_some g)
