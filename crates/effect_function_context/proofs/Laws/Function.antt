@@ -1,15 +1,13 @@
 -- Laws by which the code meets the definition. Assumes nothing.
 use Prim.Native.Nat.{ℕ, zero, suc, ◌+◌, ◌-◌, ◌*◌, ◌≤◌, ◌<◌}
-use Rattle.std.proofs.Common.{◌∙◌, eq-eqb, ne_eqb}
+use Rattle.std.proofs.Common.{add-one, ◌∙◌, eq-eqb, ne_eqb}
 use native.Mathlib.Omega.{arith}
 use Rattle.std.specs.Prelude.{◌≡◌, Bool, true, false, ◌&&◌, ◌||◌}
 use Rattle.std.proofs.Math.Path.{refl, sym, ap, ap₂}
 use mathlib.Core.List.{List, ◌∷◌}
 use Rattle.std.proofs.Math.Dec.{eqb}
-use Rattle.std.proofs.Math.ListN.{length, get_or}
-use Rattle.std.specs.Bool.{MatchBool}
-use Rattle.std.specs.List.{range_with_len, AllWithin, HoldsAt}
-use Rattle.std.proofs.lemmas.List.FromFn.{length-range_with_len, get_or-range_with_len}
+use Rattle.std.proofs.Math.ListN.{length}
+use Rattle.std.specs.List.{list_any, range_with_len}
 use Rattle.base_tests.proofs.Laws.Bool.{and_false}
 use Rattle.def_kinds.specs.declared.AbstractValue.{AbstractValue}
 use Rattle.def_kinds.specs.Kinds.{copied, is_frozen}
@@ -38,50 +36,24 @@ use Rattle.lent_layout.specs.Layout.{one_run}
 
 -- ---- context places that are refs
 
--- from place k of a function on
 module _ (w : World lent) (f : ℕ) where
   -- whether the place of a number is one
-  abbrev ref_at : ℕ → Bool
+  abbrev pub ref_at : ℕ → Bool
   ref_at k = Lent.is_ref w.rest.context (field Layout.contexts w.rest.context f (k * 5))
 
-  ref_yes : (k n j : ℕ) → j < n → ref_at (k + j) ≡ true → Step.any_ref (places_in Layout.contexts w.rest.context f 0 k n) w.rest ≡ true
+  -- a search of the places from one on finds what the definition does
+  ref_from : (n a : ℕ) → list_any ref_at (range_with_len a n) ≡ Step.any_ref (places_in Layout.contexts w.rest.context f 0 a n) w.rest
   unfolding Step.any_ref place_in places_in
-  ref_yes k zero j h e = absurd (omega arith)
-  ref_yes k (suc n) zero h e =
-      let z : 0 + k * 5 ≡ (k + 0) * 5 = omega arith in
-      ap (λ (x : ℕ). Lent.is_ref w.rest.context (field Layout.contexts w.rest.context f x) || Step.any_ref (places_in Layout.contexts w.rest.context f 0 (suc k) n) w.rest) z
-      ∙ ap (λ (x : Bool). x || Step.any_ref (places_in Layout.contexts w.rest.context f 0 (suc k) n) w.rest) e
-  ref_yes k (suc n) (suc j) h e =
-      let z : suc k + j ≡ k + suc j = omega arith in
-      ap (λ (x : Bool). Lent.is_ref w.rest.context (field Layout.contexts w.rest.context f (0 + k * 5)) || x) (ref_yes (suc k) n j (omega arith) (ap ref_at z ∙ e))
-      ∙ or_yes (Lent.is_ref w.rest.context (field Layout.contexts w.rest.context f (0 + k * 5)))
-    where
-      or_yes : (b : Bool) → (b || true) ≡ true
-      or_yes true = refl
-      or_yes false = refl
+  ref_from zero a = refl
+  ref_from (suc n) a =
+      let z : a * 5 ≡ 0 + a * 5 = omega arith in
+      ap₂ (λ (x : ℕ) (b : Bool). Lent.is_ref w.rest.context (field Layout.contexts w.rest.context f x) || b) z
+      (ap (λ (y : ℕ). list_any ref_at (range_with_len y n)) (add-one a) ∙ ref_from n (suc a))
 
-  ref_no : (k n : ℕ) → ((j : ℕ) → j < n → ref_at (k + j) ≡ false) → Step.any_ref (places_in Layout.contexts w.rest.context f 0 k n) w.rest ≡ false
-  unfolding Step.any_ref place_in places_in
-  ref_no k zero h = refl
-  ref_no k (suc n) h =
-      let z : 0 + k * 5 ≡ (k + 0) * 5 = omega arith in
-      ap (λ (x : ℕ). Lent.is_ref w.rest.context (field Layout.contexts w.rest.context f x) || Step.any_ref (places_in Layout.contexts w.rest.context f 0 (suc k) n) w.rest) z
-      ∙ ap₂ (λ (x y : Bool). x || y) (h 0 (omega arith)) (ref_no (suc k) n (λ j l. ap ref_at (let y : suc k + j ≡ k + suc j = omega arith in y) ∙ h (suc j) (omega arith)))
-
-  -- what the search of the places finds
-  pub ref_found : (n : ℕ) (r : Bool) → n ≡ field Layout.functions w.rest.context f 1
-      → MatchBool r ((k : ℕ) × (k < length (range_with_len 0 n)) × HoldsAt (λ x. ref_at x ≡ true) (range_with_len 0 n) k) (AllWithin (λ x. ref_at x ≡ false) (range_with_len 0 n) 0 (length (range_with_len 0 n)))
-      → Step.any_ref (Lent.context_of w.rest.context f) w.rest ≡ r
+  -- all places of a function are its context
+  pub ref_found : (n : ℕ) (r : Bool) → n ≡ field Layout.functions w.rest.context f 1 → r ≡ list_any ref_at (range_with_len 0 n) → Step.any_ref (Lent.context_of w.rest.context f) w.rest ≡ r
   unfolding Lent.context_of
-  ref_found n r e h = ap (λ (m : ℕ). Step.any_ref (places_in Layout.contexts w.rest.context f 0 0 m) w.rest) (sym e) ∙ found r h
-    where
-      at : (k : ℕ) → k < n → get_or (range_with_len 0 n) k 0 ≡ 0 + k
-      at k l = get_or-range_with_len 0 n k 0 l
-
-      found : (x : Bool) → MatchBool x ((k : ℕ) × (k < length (range_with_len 0 n)) × HoldsAt (λ y. ref_at y ≡ true) (range_with_len 0 n) k) (AllWithin (λ y. ref_at y ≡ false) (range_with_len 0 n) 0 (length (range_with_len 0 n)))
-          → Step.any_ref (places_in Layout.contexts w.rest.context f 0 0 n) w.rest ≡ x
-      found true q = let z = length-range_with_len 0 n in let m = q.1 in let l : q.0 < n = omega arith in ref_yes 0 n q.0 l (sym (ap ref_at (at q.0 l)) ∙ q.2 0)
-      found false q = let z = length-range_with_len 0 n in ref_no 0 n (λ j l. sym (ap ref_at (at j l)) ∙ q j 0 (omega arith) (omega arith))
+  ref_found n r e h = ap (λ (m : ℕ). Step.any_ref (places_in Layout.contexts w.rest.context f 0 0 m) w.rest) (sym e) ∙ sym (h ∙ ref_from n 0)
 
 -- ---- context places that were copied are read
 
