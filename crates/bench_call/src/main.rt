@@ -7,10 +7,10 @@ ghost use Rattle.std.specs.Prelude.{◌<◌};
 
 use call_apply::apply_signature;
 use def_effects::{Place, Span};
-use def_kinds::{AbstractValue, ValueKind};
+use def_kinds::{AbstractValue, DEFAULT, ValueKind};
 use lent_slices::set;
 use std::io;
-use test_bytes::{MUTABLE, fill_state, number, session};
+use test_bytes::{fill_state, number, session};
 
 // Repetitions: a power of ten, up to a million; 9 is none.
 fn power(e: u32) -> u32 {
@@ -47,8 +47,8 @@ fn lend_function(context: &mut [u32]) {
 // Case 18, f below g: p = {f}, f with context x = {f, g}, either option on; Freeze p never ends in the Rust.
 // p is identifier 0, x identifier 1, f value 1, g value 2.
 fn lend_walk(values: &mut [u64], sets: &mut [u64]) {
-    lent_values::put_value(values, 1, MUTABLE);
-    lent_values::put_value(values, 2, MUTABLE);
+    lent_values::put_value(values, 1, DEFAULT);
+    lent_values::put_value(values, 2, DEFAULT);
     lent_set_writes::define(sets, 0, 1);
     lent_set_writes::define(sets, 1, 1);
     let mut row = [0u64; 16];
@@ -105,7 +105,7 @@ fn middle_value(i: u32) -> AbstractValue {
             kind: ValueKind::Frozen,
             reason: 2,
         },
-        _ => MUTABLE,
+        _ => DEFAULT,
     }
 }
 

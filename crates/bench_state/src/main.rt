@@ -2,9 +2,10 @@
 // It prints a number that depends on the answers; `tools/bench_state.py` times it.
 #![tactic(auto)]
 
+use def_kinds::DEFAULT;
 use def_refusals::class_of;
 use std::io;
-use test_bytes::{MUTABLE, fill_state, number, session};
+use test_bytes::{fill_state, number, session};
 
 // Repetitions: a power of ten, up to a million.
 fn power(e: u32) -> u32 {
@@ -20,14 +21,14 @@ fn fill(values: &mut [u64], sets: &mut [u64], is_full: bool) {
         fill_state(values, sets);
         return;
     }
-    lent_values::put_value(values, 1, MUTABLE);
+    lent_values::put_value(values, 1, DEFAULT);
     lent_set_writes::define(sets, 0, 1);
     lent_set_writes::define(sets, 1, 1);
 }
 
 // Value 1 is Mutable {Other} again, so that the next freeze of its place acts: with frozen ones beside it the place is MaybeFrozen.
 fn thaw(values: &mut [u64]) {
-    lent_values::put_value(values, 1, MUTABLE);
+    lent_values::put_value(values, 1, DEFAULT);
 }
 
 // The first state is empty again, so that the next merge adds all of the second.

@@ -11,39 +11,32 @@ ghost use Rattle.lent_context.specs.Lent as Lent;
 ghost use Rattle.lent_world.specs.Promise.{seen, Kept};
 ghost use Rattle.call_parts.specs.Instructions.{copied_inside};
 
-use def_kinds::{AbstractValue, ValueKind};
+use def_kinds::DEFAULT;
 use lent_context::context_count;
 use lent_functions::{context_identifier, inside_count};
 use lent_layout::FUNCTIONS;
-use lent_set_writes::define;
 use lent_sets::is_defined;
 use lent_slices::set;
 use lent_values::put_value;
 use lent_world::World;
+use state_assign::define_own;
 
 // Whether an identifier is among the context places of a function.
 // A place that is mutated inside counts only if it comes from outside.
 pub fn is_near(context: &[u32], f: u32, i: u32) -> bool
     ensures { result ≡ Instruction.has i (identifiers (Lent.context_of context.now f)) }
 {
-    let n = context_count(context, f);
-    for k in 0..n {
-        if i == context_identifier(context, f, k) {
-            return true;
-        }
-    }
-    false
+    (0..context_count(context, f)).any(|k| i == context_identifier(context, f, k))
 }
 
 // The places that a function mutates inside are copied to a slice of 161 words: the count, then the places.
 // The context changes while they are gone through.
+#[tactic(auto, unfolding(crate::specs::Instructions::copied_inside))]
 pub fn copy_inside(context: &[u32], f: u32, out: &mut [u32])
     ensures { out.new ≡ copied_inside context.now f out.old }
 {
     set(out, 0, inside_count(context, f));
-    for k in 0usize..160 {
-        set(out, 1 + k, FUNCTIONS.field(context, f as usize, 3 + k));
-    }
+    FUNCTIONS.copy_words(context, f as usize, 3, 160, out, 1);
 }
 
 // An lvalue that is not defined becomes defined as its own value, Mutable {Other}.
@@ -56,16 +49,8 @@ pub fn define_lvalue(world: &mut World, i: u32)
     if is_defined(sets, i) {
         return;
     }
-    let value = AbstractValue {
-        kind: ValueKind::Mutable,
-        reason: 2048,
-    };
-    put_value(world.values, 512 + (i as usize), value);
-    if i < 512 {
-        define(world.sets, i, 512 + i);
-        return;
-    }
-    define(world.sets, i, 1024);
+    put_value(world.values, 512 + (i as usize), DEFAULT);
+    define_own(world.sets, i, i);
 }
 
 // The session keeps the entries of all Freezes of this instruction.

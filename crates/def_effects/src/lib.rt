@@ -13,6 +13,12 @@ pub struct Span {
     pub end: u32,
 }
 
+// No span: a use or a label of which no place is known.
+pub const NO_SPAN: Span = Span {
+    start: 4294967295,
+    end: 4294967295,
+};
+
 // A place: an identifier with what is done to it there (`Effect` by its number), and where.
 #[derive(Clone, Copy)]
 pub struct Place {

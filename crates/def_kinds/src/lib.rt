@@ -139,6 +139,12 @@ pub struct AbstractValue {
     pub reason: u32,
 }
 
+// Mutable {Other}: what an undefined place has, and one whose values have no entry.
+pub const DEFAULT: AbstractValue = AbstractValue {
+    kind: ValueKind::Mutable,
+    reason: 2048,
+};
+
 impl AbstractValue {
     // Kinds by the table, reasons by union.
     pub fn join(self, other: AbstractValue) -> AbstractValue

@@ -10,7 +10,6 @@ ghost use Rattle.lent_layout.specs.Layout.{one_run};
 use def_kinds::ValueKind;
 use lent_effects::copy_captures;
 use lent_layout::{INTERNED, ONE_RUN, RUN_WORDS};
-use lent_slices::set;
 
 // The kind of a new function: Mutable if it captures what can be written, has a tracked side effect or a ref in its context, else Frozen.
 pub fn function_kind(written: bool, tracked: bool, refs: bool) -> ValueKind
@@ -24,12 +23,11 @@ pub fn function_kind(written: bool, tracked: bool, refs: bool) -> ValueKind
 
 // The captures beside an effect are copied to another slice of 81 words.
 // A count, then sixteen places of five words.
+#[tactic(auto, using(lent_effects::proofs::Laws::Capture::run_copied))]
 fn copy_run(captures: &[u32], out: &mut [u32])
     ensures { length out.old ≡ one_run.width → captures_of out.new ≡ captures_of captures.now }
 {
-    for k in 0..RUN_WORDS {
-        set(out, k, ONE_RUN.field(captures, 0, k));
-    }
+    ONE_RUN.copy_words(captures, 0, 0, RUN_WORDS as u32, out, 0);
 }
 
 // The captures of the effect that stands for another are copied to a slice of 81 words: those of its record where it was found, else those given.

@@ -1,5 +1,5 @@
 -- The context places of a function copied to a slice, and which of them become Read. Assumes nothing: these are definitions.
-use Rattle.std.specs.Prelude.{ℕ, zero, suc, ◌+◌, List, set, Bool, ◌&&◌, ◌||◌, eqb}
+use Rattle.std.specs.Prelude.{ℕ, List, set, Bool, ◌&&◌, ◌||◌, eqb}
 use Rattle.base_tests.specs.Tests.{is_some}
 use Rattle.def_kinds.specs.Kinds.{copied, is_frozen}
 use Rattle.def_effects.specs.declared.Place.{Place}
@@ -7,18 +7,13 @@ use Rattle.def_effects.specs.Places as Places
 use Rattle.def_transfer.specs.State.{kind_of}
 use Rattle.lent_values.specs.Cells.{value_at}
 use Rattle.lent_sets.specs.Rows.{set_at}
-use Rattle.lent_tables.specs.Words.{field}
+use Rattle.lent_tables.specs.Words.{field, copied_words}
 use Rattle.lent_layout.specs.Layout as Layout
 
--- n words of the context places of a function from word k on, copied behind the count
--- the places change while they are gone through
-unfoldable pub copied_places : List ℕ → ℕ → ℕ → ℕ → List ℕ → List ℕ
-copied_places c f k zero ws = ws
-copied_places c f k (suc n) ws = copied_places c f (suc k) n (set ws (1 + k) (field Layout.contexts c f k))
-
 -- the count, then all eighty words
+-- the places change while they are gone through
 unfoldable pub copied_context : List ℕ → ℕ → List ℕ → List ℕ
-copied_context c f ws = copied_places c f 0 80 (set ws 0 (field Layout.functions c f 1))
+copied_context c f ws = copied_words Layout.contexts c f 0 80 (set ws 0 (field Layout.functions c f 1)) 1
 
 -- a Capture of a place that is defined and Primitive, Frozen or Global
 -- what the definition's `update_context` asks

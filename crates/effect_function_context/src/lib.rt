@@ -30,13 +30,12 @@ pub fn any_ref(world: &World, f: u32) -> bool
 
 // The context places of a function are copied to a slice of 81 words: the count, then the places.
 // They change while they are gone through, and what is gone through is what they were.
+#[tactic(auto, unfolding(crate::specs::Functions::copied_context))]
 pub fn copy_context(context: &[u32], f: u32, out: &mut [u32])
     ensures { out.new ≡ copied_context context.now f out.old }
 {
     set(out, 0, context_count(context, f));
-    for k in 0usize..80 {
-        set(out, 1 + k, CONTEXTS.field(context, f as usize, k));
-    }
+    CONTEXTS.copy_words(context, f as usize, 0, 80, out, 1);
 }
 
 // Whether a context place becomes Read: it is a Capture of a place that is defined and Primitive, Frozen or Global.

@@ -12,7 +12,7 @@ ghost use Rattle.lent_sets.specs.Rows.{set_at};
 ghost use Rattle.lent_effects.specs.Records.{effect_with, captures_of};
 ghost use Rattle.lent_world.specs.Promise.{seen, Kept, Does, Untouched};
 
-use def_effects::{Place, Span};
+use def_effects::{NO_SPAN, Place, Span};
 use def_kinds::AbstractValue;
 use def_refusals::{Refusal, Verdict};
 use lent_effect_write::put_effect;
@@ -79,11 +79,7 @@ pub fn kind(world: &mut World, i: u32) -> AbstractValue
     ensures untouched { Untouched world.old world.new }
     ensures does { State.kind i (seen world.old) ≡ ok result (seen world.new) }
 {
-    let span = Span {
-        start: 4294967295,
-        end: 4294967295,
-    };
-    kind_with_span(world, i, span)
+    kind_with_span(world, i, NO_SPAN)
 }
 
 // A place gets one value, of that kind and those reasons.
@@ -109,10 +105,5 @@ pub fn any_written(world: &World, captures: &[u32]) -> bool
     ensures { Step.any_written (captures_of captures.now) (seen world.now) ≡ ok result (seen world.now) }
 {
     let n = ONE_RUN.field(captures, 0, 0);
-    for k in 0..n {
-        if is_written(world, ONE_RUN.place_in(captures, 0, 1, k)) {
-            return true;
-        }
-    }
-    false
+    (0..n).any(|k| is_written(world, ONE_RUN.place_in(captures, 0, 1, k)))
 }

@@ -6,7 +6,7 @@ ghost use Rattle.def_kinds.specs.Reasons as Reasons;
 ghost use Rattle.def_transfer.specs.Step.{modified, hoisted_access};
 ghost use Rattle.effect_reports.specs.Mutations.{access_label};
 
-use def_effects::{Diagnostic, Place, Span};
+use def_effects::{Diagnostic, NO_SPAN, Place, Span};
 use def_kinds::{AbstractValue, has_reason};
 
 // The reasons that get_write_error_reason asks for, in turn.
@@ -36,10 +36,7 @@ pub fn modified_diagnostic(p: Place, name: u32, a: AbstractValue) -> Diagnostic
         case: 0,
         sentence: get_write_error_reason(a.reason),
         name,
-        access: Span {
-            start: 4294967295,
-            end: 4294967295,
-        },
+        access: NO_SPAN,
         own,
     }
 }
@@ -50,10 +47,7 @@ fn access_label(access: Span, own: Span) -> Span
     ensures { result ≡ access_label access own }
 {
     if access == own {
-        Span {
-            start: 4294967295,
-            end: 4294967295,
-        }
+        NO_SPAN
     } else {
         access
     }

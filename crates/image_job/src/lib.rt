@@ -4,7 +4,7 @@
 ghost use Rattle.std.specs.Prelude.{◌≡◌, Ok};
 ghost use Rattle.image_job.specs.Reading.{job_of, said_of};
 
-use def_effects::{Place, Session, Span};
+use def_effects::{NO_SPAN, Place, Session};
 use image_class2::{Section, count_of, word};
 use image_decode::place_at;
 
@@ -29,10 +29,7 @@ pub fn job_of(im: &[u32]) -> Job
         session: Session {
             next: word(im, 2),
             access: 0,
-            span: Span {
-                start: u32::MAX,
-                end: u32::MAX,
-            },
+            span: NO_SPAN,
             entries: 0,
         },
         lvalue: place_at(im, word(im, 3)),

@@ -3,10 +3,13 @@
 
 ghost use Rattle.std.specs.Prelude.{◌&&◌, ◌≡◌, eqb};
 ghost use Rattle.def_transfer.specs.Diagnostics.{same_identity, same_labels};
+ghost use Rattle.def_transfer.specs.Pure as Pure;
+ghost use Rattle.def_transfer.specs.Pure.{identities};
 ghost use Rattle.lent_context.specs.Lent as Lent;
+ghost use Rattle.lent_context.specs.Lent.{diagnostics_in};
 ghost use Rattle.lent_diagnostics.specs.Numbered.{interned_of};
 
-use def_effects::{Diagnostic, Span};
+use def_effects::{Diagnostic, NO_SPAN, Span};
 use lent_layout::{DIAGNOSTIC_COUNT, DIAGNOSTICS};
 use lent_slices::get_or;
 
@@ -16,12 +19,6 @@ pub struct Numbered {
     pub identity: u32,
     pub diagnostic: Diagnostic,
 }
-
-// No span: a label of which no place is known.
-const NO_SPAN: Span = Span {
-    start: 4294967295,
-    end: 4294967295,
-};
 
 // Whether two diagnostics have one identity: identifier, message and help.
 // The help of case 0 is the sentence, that of case 1 holds the name.
@@ -90,12 +87,11 @@ pub fn diagnostic_in(context: &[u32], k: u32) -> Numbered
     }
 }
 
-// How many identities there are: one more than the highest, 0 without diagnostics.
+// How many identities the first n diagnostics have: one more than the highest, 0 without diagnostics.
 // Any words are read, so the number is as wide as one more than a word needs.
-pub fn identity_count(context: &[u32]) -> u64
-    ensures { result ≡ Lent.identity_count context.now }
+pub fn identities_before(context: &[u32], n: u32) -> u64
+    ensures { result ≡ identities (diagnostics_in context.now 0 n) }
 {
-    let n = instance_count(context);
     let mut most: u64 = 0;
     for k in 0..n {
         let identity = DIAGNOSTICS.field(context, k as usize, 0);
@@ -104,12 +100,10 @@ pub fn identity_count(context: &[u32]) -> u64
     most
 }
 
-// The identity of the first diagnostic with the same identifier, message and help.
-// This is the first look-up of intern_aliasing_diagnostic.
-pub fn find_identity(context: &[u32], d: Diagnostic) -> Option<u32>
-    ensures { result ≡ Lent.find_identity context.now d }
+// The identity of the first of n diagnostics with the same identifier, message and help.
+pub fn identity_before(context: &[u32], n: u32, d: Diagnostic) -> Option<u32>
+    ensures { result ≡ Pure.find_identity (diagnostics_in context.now 0 n) d }
 {
-    let n = instance_count(context);
     for k in 0..n {
         let x = diagnostic_in(context, k);
         if same_identity(d, x.diagnostic) {
@@ -126,18 +120,42 @@ pub fn is_instance(x: Numbered, identity: u32, d: Diagnostic) -> bool
     identity == x.identity && same_labels(d, x.diagnostic)
 }
 
-// The place of the first record with an identity and the labels of a diagnostic.
-// This is the second look-up of intern_aliasing_diagnostic.
-pub fn find_instance(context: &[u32], identity: u32, d: Diagnostic) -> Option<u32>
-    ensures { result ≡ Lent.find_instance context.now identity d }
+// The place of the first of n records with an identity and the labels of a diagnostic.
+pub fn instance_before(context: &[u32], n: u32, identity: u32, d: Diagnostic) -> Option<u32>
+    ensures { result ≡ Pure.find_instance 0 (diagnostics_in context.now 0 n) identity d }
 {
-    let n = instance_count(context);
     for k in 0..n {
         if is_instance(diagnostic_in(context, k), identity, d) {
             return Some(k);
         }
     }
     None
+}
+
+// How many identities there are.
+#[tactic(auto, unfolding(lent_context::specs::Lent::identity_count))]
+pub fn identity_count(context: &[u32]) -> u64
+    ensures { result ≡ Lent.identity_count context.now }
+{
+    identities_before(context, instance_count(context))
+}
+
+// The identity of the first diagnostic with the same identifier, message and help.
+// This is the first look-up of intern_aliasing_diagnostic.
+#[tactic(auto, unfolding(lent_context::specs::Lent::find_identity))]
+pub fn find_identity(context: &[u32], d: Diagnostic) -> Option<u32>
+    ensures { result ≡ Lent.find_identity context.now d }
+{
+    identity_before(context, instance_count(context), d)
+}
+
+// The place of the first record with an identity and the labels of a diagnostic.
+// This is the second look-up of intern_aliasing_diagnostic.
+#[tactic(auto, unfolding(lent_context::specs::Lent::find_instance))]
+pub fn find_instance(context: &[u32], identity: u32, d: Diagnostic) -> Option<u32>
+    ensures { result ≡ Lent.find_instance context.now identity d }
+{
+    instance_before(context, instance_count(context), identity, d)
 }
 
 // A diagnostic with its identity is written as record k.

@@ -1,15 +1,14 @@
 -- An effect as a record of 98 words: candidates, interned effects and the output list have the same. Assumes nothing: these are definitions.
 -- Word 0 is the code; 1 to 5 the place, or the source; 6 to 10 the destination; 11 kind; 12 reason; 13 mutation reason; 14 function;
 -- 15 and 16 identity and instance of a diagnostic; 17 the count of captures; 18 to 97 sixteen captures. Words that an effect has no use for are zero.
-use Rattle.std.specs.Prelude.{ℕ, zero, suc, ◌+◌, List, [], ◌∷◌, get_or, set, length}
+use Rattle.std.specs.Prelude.{ℕ, ◌+◌, List, [], ◌∷◌, get_or, length}
 use Rattle.def_kinds.specs.Kinds as Kinds
 use Rattle.def_effects.specs.declared.Place.{Place}
 use Rattle.def_effects.specs.declared.AliasingDiagnostic.{AliasingDiagnostic}
 use Rattle.def_effects.specs.Effects.{AliasingEffect, Freeze, Mutate, MutateConditionally, MutateTransitive, MutateTransitiveConditionally, Capture, Alias, MaybeAlias, Assign, Create, CreateFrom, ImmutableCapture, CreateFunction, MutateFrozen, MutateGlobal, Impure, Render}
 use Rattle.lent_tables.specs.declared.Table.{Table}
-use Rattle.lent_tables.specs.Words.{field, put_field, place_in, put_place, places_in, put_places}
+use Rattle.lent_tables.specs.Words.{field, put_field, copied_words, place_in, put_place, places_in, put_places}
 use Rattle.lent_effects.specs.declared.AliasingEffect.{AliasingEffect as Head}
-use Rattle.lent_effects.specs.declared.AliasingEffect.TheVariants as Head
 use Rattle.lent_layout.specs.Layout.{one_run}
 
 -- the words of one record, in their order
@@ -48,16 +47,10 @@ captures = 17
 unfoldable pub counted_places : Table → List ℕ → ℕ → ℕ → List Place
 counted_places t c i w = places_in t c i (w + 1) 0 (field t c i w)
 
--- the slice with the count and the captures of record i copied into it, from word k on
+-- the slice with the count and the captures of record i copied into it: 81 words
 -- the record may change while they are gone through
-unfoldable pub copied_from : Table → List ℕ → ℕ → ℕ → ℕ → List ℕ → List ℕ
-copied_from t c i k zero ws = ws
-copied_from t c i k (suc n) ws = copied_from t c i (suc k) n (set ws k (field t c i (captures + k)))
-
--- the slice with all 81 words copied
--- what `copy_captures` leaves in it
 abbrev pub copied_captures : Table → List ℕ → ℕ → List ℕ → List ℕ
-copied_captures t c i ws = copied_from t c i 0 one_run.width ws
+copied_captures t c i ws = copied_words t c i captures one_run.width ws 0
 
 -- the places of such a slice
 abbrev pub captures_of : List ℕ → List Place

@@ -12,7 +12,6 @@ ghost use Rattle.lent_effects.specs.Records.{effect_in, captures_of, copied_capt
 use def_effects::{AliasingDiagnostic, Place};
 use def_kinds::ValueKind;
 use lent_layout::{ONE_RUN, RUN_WORDS};
-use lent_slices::set;
 use lent_tables::Table;
 
 // An effect, without the captures of a CreateFunction: AliasingEffect of the Rust.
@@ -142,7 +141,5 @@ pub fn put_captures(t: Table, xs: &mut [u32], i: usize, captures: &[u32])
 pub fn copy_captures(t: Table, xs: &[u32], i: usize, out: &mut [u32])
     ensures { out.new ≡ copied_captures t xs.now i out.old }
 {
-    for k in 0..RUN_WORDS {
-        set(out, k, t.field(xs, i, 17 + k));
-    }
+    t.copy_words(xs, i, 17, RUN_WORDS as u32, out, 0);
 }

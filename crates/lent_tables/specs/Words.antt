@@ -33,6 +33,12 @@ field t c i w = ite (within t i w) (get_or c (index t i w) 0) 0
 unfoldable pub put_field : Table → List ℕ → ℕ → ℕ → ℕ → List ℕ
 put_field t c i w x = ite (within t i w) (set c (index t i w) x) c
 
+-- the list vs with n words of record i copied into it: word w of the record to word v, and so on
+-- what vs has no room for is not written
+unfoldable pub copied_words : Table → List ℕ → ℕ → ℕ → ℕ → List ℕ → ℕ → List ℕ
+copied_words t c i w zero vs v = vs
+copied_words t c i w (suc n) vs v = copied_words t c i (suc w) n (set vs v (field t c i w)) (suc v)
+
 -- ---- places: "identifier, `Effect` in declared order from 0, reactive 0 or 1, start, end"
 
 -- the place that begins at word w of record i

@@ -3,7 +3,7 @@
 #![tactic(auto)]
 
 ghost use Rattle.std.specs.Prelude.{◌≡◌, ◌+◌, ◌*◌};
-ghost use Rattle.lent_tables.specs.Words.{field, put_field, place_in, put_place};
+ghost use Rattle.lent_tables.specs.Words.{field, put_field, copied_words, place_in, put_place};
 
 use def_effects::{Place, Span};
 use lent_slices::{get_or, set};
@@ -43,6 +43,17 @@ impl Table {
             return;
         }
         set(xs, self.base as usize + i * (self.width as usize) + w, x);
+    }
+
+    // The n words of record i from word w on are copied to a slice, from its word `at` on.
+    // Words that the table does not have are copied as 0.
+    pub fn copy_words(self, xs: &[u32], i: usize, w: u32, n: u32, out: &mut [u32], at: u32)
+        ensures { out.new ≡ copied_words self xs.now i w n out.old at }
+    {
+        for k in 0..n {
+            let word = self.field(xs, i, w as usize + k as usize);
+            set(out, at as usize + k as usize, word);
+        }
     }
 
     // Place k of a run of places that begins at word `first` of record i.

@@ -6,7 +6,7 @@ ghost use Rattle.base_orders.specs.Options.{join_option};
 ghost use Rattle.def_kinds.specs.Values.{join, or_default};
 ghost use Rattle.lent_values.specs.Cells.{cell_of, word_of, value_at, put_value};
 
-use def_kinds::{AbstractValue, ValueKind};
+use def_kinds::{AbstractValue, DEFAULT, ValueKind};
 use lent_slices::{get_or, set};
 
 // The low bits of a number.
@@ -87,8 +87,5 @@ pub fn join_entries(
 pub fn or_default(entry: Option<AbstractValue>) -> AbstractValue
     ensures { result ≡ or_default entry }
 {
-    entry.unwrap_or(AbstractValue {
-        kind: ValueKind::Mutable,
-        reason: 2048,
-    })
+    entry.unwrap_or(DEFAULT)
 }

@@ -8,6 +8,7 @@ ghost use Rattle.refuse_words.specs.Classes.{record_class};
 ghost use Rattle.lent_layout.specs.Layout as Layout;
 ghost use Rattle.refuse_tables.specs.TableClasses.{identifier_limit, identifier_class, function_limit, needs_known, places_class, function_class, link_limit, link_class, diagnostic_limit, label_class, message_class};
 
+use def_effects::{NO_SPAN, Span};
 use def_refusals::{Refusal, Verdict};
 use lent_layout::{CONTEXTS, DIAGNOSTICS, FUNCTIONS, IDENTIFIERS, LINKS};
 use refuse_class::lower;
@@ -137,13 +138,10 @@ fn diagnostic_limit(identifiers: u32, case: u32, w: usize) -> Option<u64>
 }
 
 // Order where a diagnostic of case 0 has an access label.
-fn label_class(case: u32, start: u32, end: u32) -> Verdict
-    ensures { class_of result ≡ label_class case start end }
+fn label_class(case: u32, access: Span) -> Verdict
+    ensures { class_of result ≡ label_class case access.start access.end }
 {
-    earns(
-        Refusal::Order,
-        case == 0 && !(start == u32::MAX && end == u32::MAX),
-    )
+    earns(Refusal::Order, case == 0 && access != NO_SPAN)
 }
 
 // What a diagnostic earns by its words.
@@ -160,5 +158,5 @@ pub fn message_class(context: &[u32], k: usize, identifiers: u32) -> Verdict
         k,
         |w| diagnostic_limit(identifiers, case, w),
     );
-    lower(words, label_class(case, start, end))
+    lower(words, label_class(case, Span { start, end }))
 }

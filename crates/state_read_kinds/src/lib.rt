@@ -10,7 +10,7 @@ ghost use Rattle.state_calls.specs.Calls.{used};
 ghost use Rattle.state_calls.specs.Answers.{kind_outcome, test_outcome, mutation_outcome};
 ghost use Rattle.state_calls.specs.Plain.{MeansPlain};
 
-use def_effects::{MutateVariant, MutationResult, Session, Span, is_strict, result_of};
+use def_effects::{MutateVariant, MutationResult, NO_SPAN, Session, Span, is_strict, result_of};
 use def_refusals::Refusal;
 use state_calls::{KindAnswer, MutationAnswer};
 use state_ops;
@@ -48,11 +48,7 @@ pub fn kind(values: &[u64], sets: &[u64], session: Session, i: u32) -> Result<Ki
         × MeansPlain false (State.kind i) values.now sets.now session
         (kind_outcome values.now sets.now session result) }
 {
-    let span = Span {
-        start: 4294967295,
-        end: 4294967295,
-    };
-    kind_with_span(values, sets, session, i, span)
+    kind_with_span(values, sets, session, i, NO_SPAN)
 }
 
 // Whether a place may be written: its kind is Mutable or Context.

@@ -7,7 +7,7 @@ ghost use Rattle.test_bytes.specs.Reads.{counted, front, has, word};
 ghost use Rattle.test_bytes.specs.Full.{ValuesFilled, SetsFilled};
 
 use def_effects::{Session, Span};
-use def_kinds::{AbstractValue, ValueKind};
+use def_kinds::DEFAULT;
 use std::io;
 use std::io::Read;
 use std::rt::Env;
@@ -133,20 +133,13 @@ pub fn session(next: u32) -> Session
     }
 }
 
-// A value that is Mutable {Other}.
-// As an undefined lvalue becomes defined.
-pub const MUTABLE: AbstractValue = AbstractValue {
-    kind: ValueKind::Mutable,
-    reason: 2048,
-};
-
 // Full tables of a state: one entry for each value number, Mutable {Other}, and every value in the set of every identifier.
 pub fn fill_state(values: &mut [u64], sets: &mut [u64])
     ensures values { ValuesFilled 1024 values.old values.new }
     ensures sets { SetsFilled 512 sets.old sets.new }
 {
     for v in 1..1024 {
-        lent_values::put_value(values, v, MUTABLE);
+        lent_values::put_value(values, v, DEFAULT);
     }
     for i in 0..512 {
         lent_set_writes::put_set(sets, i, &[u64::MAX; 16]);

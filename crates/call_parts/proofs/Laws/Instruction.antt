@@ -1,14 +1,13 @@
 -- Laws by which the code of an instruction meets the definition. Assumes nothing.
-use Prim.Native.Nat.{ℕ, zero, suc, ◌+◌, ◌-◌, ◌*◌, ◌^◌, ◌≤◌, ◌<◌}
-use Rattle.std.proofs.Common.{eq-or-lt_of_le, ◌∙◌, inl, inr, ltb-true, ltb-false, eq-eqb, ne_eqb}
+use Prim.Native.Nat.{ℕ, zero, suc, ◌+◌, ◌-◌, ◌*◌, ◌≤◌, ◌<◌}
+use Rattle.std.specs.List.{list_any, range_with_len}
+use Rattle.std.proofs.Common.{add-one, ◌∙◌}
 use native.Mathlib.Omega.{arith}
-use Rattle.std.specs.Prelude.{◌≡◌, Bool, true, false, ◌&&◌, ◌||◌, ◌⊎◌, ltb, set}
+use Rattle.std.specs.Prelude.{◌≡◌, Bool, true, false, ◌&&◌, ◌||◌}
 use Rattle.std.proofs.Math.Path.{refl, sym, ap, ap₂}
-use Rattle.std.proofs.Math.Logic.{⊎_elim}
-use mathlib.Core.List.{List, ◌∷◌}
+use mathlib.Core.List.{List}
 use Rattle.std.proofs.Math.Dec.{eqb}
-use Rattle.std.proofs.Math.ListN.{length, get_or, length-set}
-use Rattle.std.proofs.Math.Seq.{get_or-set_same, get_or-set_other}
+use Rattle.std.proofs.Math.ListN.{length}
 use Rattle.base_tests.proofs.Laws.Bool.{and_true, and_false}
 use Rattle.def_kinds.specs.declared.AbstractValue.{AbstractValue}
 use Rattle.def_kinds.specs.Kinds.{is_frozen}
@@ -27,13 +26,13 @@ use Rattle.def_transfer.specs.Context as Context
 use Rattle.def_transfer.specs.Step as Step
 use Rattle.def_transfer.specs.Instruction as Instruction
 use Rattle.lent_values.specs.Cells.{value_at, put_value}
-use Rattle.lent_sets.specs.Rows.{set_at, put_set}
+use Rattle.lent_sets.specs.Rows.{set_at}
 use Rattle.state_ops.specs.Lists.{own_sets}
-use Rattle.lent_tables.specs.Words.{index, field, place_in, places_in}
-use Rattle.lent_tables.proofs.Laws.Word.{within_yes, within_no_word, field_in, field_out, place_of_is, places_more, places_none}
+use Rattle.lent_tables.specs.Words.{field, place_in, places_in}
+use Rattle.lent_tables.proofs.Laws.Word.{places_more, places_none}
 use Rattle.lent_effects.specs.declared.AliasingEffect.{AliasingEffect as Head}
 use Rattle.lent_effects.specs.Records.{effect_in, effect_with, head_in, captures_of, copied_captures, counted_places}
-use Rattle.lent_effects.proofs.Laws.Capture.{captures_copied}
+use Rattle.lent_effects.proofs.Laws.Capture.{captures_copied, places_copied}
 use Rattle.lent_work.specs.declared.Run.{Run}
 use Rattle.lent_layout.specs.Layout as Layout
 use Rattle.lent_context.specs.Lent as Lent
@@ -42,46 +41,26 @@ use Rattle.lent_context.proofs.Laws.Search.{effects_more, effects_none}
 use Rattle.laws_monad.proofs.Laws.Answers.{bind_ok, bind_fails, then_ok, then_fails, if_true, if_false, done_ok}
 use Rattle.laws_monad.proofs.Laws.Each.{each_ok, each_fails, each_done}
 use Rattle.lent_world.specs.World.{lent, world}
-use Rattle.call_parts.specs.Instructions.{instruction_of, inside_places, copied_inside_from, copied_inside}
+use Rattle.call_parts.specs.Instructions.{instruction_of, inside_places, copied_inside}
 use Rattle.def_transfer.specs.Instruction.{own_of}
 use Rattle.lent_layout.specs.Layout.{candidate_table, inside_run}
 
 -- ---- an identifier among the context places of a function
 
--- a function with n context places, of which k are asked
-module _ (c : List ℕ) (f i n k : ℕ) where
-  -- a place is asked for its own identifier, then the rest
-  near_asks : (j : ℕ) → k < n → j ≡ field Layout.contexts c f (k * 5)
-      → Instruction.has i (identifiers (places_in Layout.contexts c f 0 k (n - k))) ≡ (eqb i j || Instruction.has i (identifiers (places_in Layout.contexts c f 0 (k + 1) (n - (k + 1)))))
-  unfolding Instruction.has place_in
-  near_asks j h g =
-      let z : 0 + k * 5 ≡ k * 5 = omega arith in
-      ap (λ (l : List Place). Instruction.has i (identifiers l)) (places_more Layout.contexts c f 0 k n h)
-      ∙ ap (λ (x : ℕ). eqb i x || Instruction.has i (identifiers (places_in Layout.contexts c f 0 (k + 1) (n - (k + 1))))) (ap (field Layout.contexts c f) z ∙ sym g)
+module _ (c : List ℕ) (f i : ℕ) where
+  -- a search of the places from one on finds the identifier where it is among theirs
+  near_from : (n a : ℕ) → list_any (λ k. eqb i (field Layout.contexts c f (k * 5))) (range_with_len a n) ≡ Instruction.has i (identifiers (places_in Layout.contexts c f 0 a n))
+  unfolding Instruction.has places_in place_in
+  near_from zero a = refl
+  near_from (suc n) a =
+      let z : a * 5 ≡ 0 + a * 5 = omega arith in
+      ap₂ (λ (x : ℕ) (b : Bool). eqb i (field Layout.contexts c f x) || b) z
+      (ap (λ (y : ℕ). list_any (λ k. eqb i (field Layout.contexts c f (k * 5))) (range_with_len y n)) (add-one a) ∙ near_from n (suc a))
 
-  -- a place of another identifier
-  pub near_more : (j : ℕ) → k < n → j ≡ field Layout.contexts c f (k * 5) → (i ≡ j → ⊥)
-      → Instruction.has i (identifiers (places_in Layout.contexts c f 0 k (n - k))) ≡ Instruction.has i (identifiers (places_in Layout.contexts c f 0 (k + 1) (n - (k + 1))))
-  near_more j h g d =
-      near_asks j h g ∙ ap (λ (x : Bool). x || Instruction.has i (identifiers (places_in Layout.contexts c f 0 (k + 1) (n - (k + 1))))) (ne_eqb i j d)
-
-  -- from what the loop holds
-  module _ (e : n ≡ field Layout.functions c f 1) (a : Instruction.has i (identifiers (places_in Layout.contexts c f 0 0 (n - 0))) ≡ Instruction.has i (identifiers (places_in Layout.contexts c f 0 k (n - k)))) where
-    -- all places of a function are its context
-    near_left : Instruction.has i (identifiers (places_in Layout.contexts c f 0 k (n - k))) ≡ Instruction.has i (identifiers (Lent.context_of c f))
-    unfolding Lent.context_of
-    near_left = let z : n - 0 ≡ n = omega arith in sym a ∙ ap (λ (m : ℕ). Instruction.has i (identifiers (places_in Layout.contexts c f 0 0 m))) (z ∙ e)
-
-    -- the identifier is found
-    pub near_yes : (j : ℕ) → k < n → j ≡ field Layout.contexts c f (k * 5) → i ≡ j → true ≡ Instruction.has i (identifiers (Lent.context_of c f))
-    near_yes j h g d =
-        sym (ap (λ (x : Bool). x || Instruction.has i (identifiers (places_in Layout.contexts c f 0 (k + 1) (n - (k + 1))))) (eq-eqb i j d))
-        ∙ sym (near_asks j h g) ∙ near_left
-
-    -- no place is left
-    pub near_no : n ≤ k → false ≡ Instruction.has i (identifiers (Lent.context_of c f))
-    unfolding Instruction.has
-    near_no h = sym (ap (λ (l : List Place). Instruction.has i (identifiers l)) (places_none Layout.contexts c f 0 k n h)) ∙ near_left
+  -- all places of a function are its context
+  pub near_is : (n : ℕ) → n ≡ field Layout.functions c f 1 → list_any (λ k. eqb i (field Layout.contexts c f (k * 5))) (range_with_len 0 n) ≡ Instruction.has i (identifiers (Lent.context_of c f))
+  unfolding Lent.context_of
+  near_is n e = near_from n 0 ∙ ap (λ (m : ℕ). Instruction.has i (identifiers (places_in Layout.contexts c f 0 0 m))) e
 
 -- ---- a place that the own function mutates inside
 
@@ -142,109 +121,12 @@ module _ (w : World lent) (p : Place) where
     unfolding Instruction.early_error State.ask Context.function_context
     early_near y h g = bind_ok _ _ _ _ _ _ refl (if_true _ _ _ _ _ (sym e ∙ h) g)
 
--- ---- the places that a function mutates inside are copied
+-- ---- the places that a function mutates inside were copied
 
--- a number is below another, or it is not
--- a law of a word goes by whether the record has it
-lower_or_not : (a b : ℕ) → (a < b) ⊎ (b ≤ a)
-lower_or_not a b = told (ltb a b) (λ e. ltb-true a b e) (λ e. ltb-false a b e)
-  where
-    -- what the test says, either way
-    told : (d : Bool) → (d ≡ true → a < b) → (d ≡ false → b ≤ a) → (a < b) ⊎ (b ≤ a)
-    told true p q = inl (p refl)
-    told false p q = inr (q refl)
-
--- into a slice, behind the count
-module _ (c : List ℕ) (f : ℕ) where
-  -- a turn of the loop that copies them writes one word
-  pub inside_more : (k i : ℕ) (ws us : List ℕ) (x : ℕ) → k < 160 → i ≡ f → x ≡ field Layout.functions c i (3 + k) → us ≡ set ws (1 + k) x → copied_inside_from c f (k + 1) (160 - (k + 1)) us ≡ copied_inside_from c f k (160 - k) ws
-  unfolding copied_inside_from
-  inside_more k i ws us x l m e g =
-      let s : k + 1 ≡ suc k = omega arith in
-      let n : suc (160 - (k + 1)) ≡ 160 - k = omega arith in
-      ap₂ (λ (y : ℕ) (z : List ℕ). copied_inside_from c f y (160 - (k + 1)) z) s (g ∙ ap (set ws (1 + k)) (e ∙ ap (λ (j : ℕ). field Layout.functions c j (3 + k)) m))
-      ∙ ap (λ (y : ℕ). copied_inside_from c f k y ws) n
-
-  -- at the end none is left, and the first word was the count
-  pub inside_done : (k : ℕ) (ws us vs : List ℕ) (x : ℕ) → 160 ≤ k → x ≡ field Layout.functions c f 2 → us ≡ set ws 0 x → copied_inside_from c f k (160 - k) vs ≡ copied_inside_from c f 0 160 us → vs ≡ copied_inside c f ws
-  unfolding copied_inside_from copied_inside
-  inside_done k ws us vs x l e g h =
-      let m : 0 ≡ 160 - k = omega arith in
-      ap (λ (y : ℕ). copied_inside_from c f k y vs) m ∙ h ∙ ap (copied_inside_from c f 0 160) (g ∙ ap (set ws 0) e)
-
-  -- a word before those that are copied stays
-  inside_before : (k n : ℕ) (ws : List ℕ) (v : ℕ) → v < 1 + k → get_or (copied_inside_from c f k n ws) v 0 ≡ get_or ws v 0
-  unfolding copied_inside_from
-  inside_before k zero ws v l = refl
-  inside_before k (suc n) ws v l =
-      inside_before (suc k) n (set ws (1 + k) (field Layout.functions c f (3 + k))) v (omega arith)
-      ∙ get_or-set_other ws (1 + k) v (field Layout.functions c f (3 + k)) 0 (λ e. omega arith)
-
-  -- a word that is copied is the record's
-  inside_at : (k n : ℕ) (ws : List ℕ) (v : ℕ) → 1 + (k + n) ≤ length ws → k ≤ v → v < k + n → get_or (copied_inside_from c f k n ws) (1 + v) 0 ≡ field Layout.functions c f (3 + v)
-  unfolding copied_inside_from
-  inside_at k zero ws v r l u = absurd (let z : v < k + 0 = u in omega arith)
-  inside_at k (suc n) ws v r l u =
-      ⊎_elim
-      (λ e. inside_before (suc k) n (set ws (1 + k) (field Layout.functions c f (3 + k))) (1 + v) (let z : k ≡ v = e in omega arith)
-      ∙ ap (λ (m : ℕ). get_or (set ws (1 + k) (field Layout.functions c f (3 + k))) (1 + m) 0) (sym e)
-      ∙ get_or-set_same ws (1 + k) (field Layout.functions c f (3 + k)) 0 (omega arith)
-      ∙ ap (λ (m : ℕ). field Layout.functions c f (3 + m)) e)
-      (λ g. inside_at (suc k) n (set ws (1 + k) (field Layout.functions c f (3 + k))) v
-      (let z : length (set ws (1 + k) (field Layout.functions c f (3 + k))) ≡ length ws = length-set ws (1 + k) (field Layout.functions c f (3 + k)) in omega arith)
-      (omega arith)
-      (omega arith))
-      (eq-or-lt_of_le l)
-
-  -- every word of the slice but the first is the record's, two words later
-  -- past the end both are 0
-  inside_word : (ws : List ℕ) → length ws ≡ 161 → (v : ℕ) → field inside_run (copied_inside c f ws) 0 (1 + v) ≡ field Layout.functions c f (3 + v)
-  unfolding index copied_inside
-  inside_word ws b v =
-      ⊎_elim
-      (λ l. field_in inside_run (copied_inside c f ws) 0 (1 + v) (within_yes inside_run 0 (1 + v) (omega arith) (omega arith))
-      ∙ ap (λ (m : ℕ). get_or (copied_inside c f ws) m 0) (let z : 0 + 0 * 161 + (1 + v) ≡ 1 + v = omega arith in z)
-      ∙ inside_at 0 160 (set ws 0 (field Layout.functions c f 2)) v
-      (let z : length (set ws 0 (field Layout.functions c f 2)) ≡ length ws = length-set ws 0 (field Layout.functions c f 2) in omega arith)
-      (omega arith)
-      (omega arith))
-      (λ l. field_out inside_run (copied_inside c f ws) 0 (1 + v) (within_no_word inside_run 0 (1 + v) (omega arith))
-      ∙ sym (field_out Layout.functions c f (3 + v) (within_no_word Layout.functions f (3 + v) (omega arith))))
-      (lower_or_not v 160)
-
-  -- the first word is the count
-  -- it stands in the function's record
-  inside_count_is : (ws : List ℕ) → length ws ≡ 161 → field inside_run (copied_inside c f ws) 0 0 ≡ field Layout.functions c f 2
-  unfolding index copied_inside
-  inside_count_is ws b =
-      field_in inside_run (copied_inside c f ws) 0 0 (within_yes inside_run 0 0 (omega arith) (omega arith))
-      ∙ inside_before 0 160 (set ws 0 (field Layout.functions c f 2)) 0 (omega arith)
-      ∙ get_or-set_same ws 0 (field Layout.functions c f 2) 0 (omega arith)
-
-  -- a place of the slice is the record's, two words later
-  inside_place : (d : List ℕ) → ((v : ℕ) → field inside_run d 0 (1 + v) ≡ field Layout.functions c f (3 + v)) → (w x u : ℕ) → w ≡ 1 + u → x ≡ 3 + u → place_in inside_run d 0 w ≡ place_in Layout.functions c f x
-  unfolding place_in
-  inside_place d h w x u e g =
-      place_of_is Layout.functions c f x _ _ _ _ _
-      (ap (field inside_run d 0) e ∙ h u ∙ ap (field Layout.functions c f) (sym g))
-      (ap (field inside_run d 0) (let z : w + 1 ≡ 1 + (u + 1) = omega arith in z) ∙ h (u + 1) ∙ ap (field Layout.functions c f) (let z : 3 + (u + 1) ≡ x + 1 = omega arith in z))
-      (ap (field inside_run d 0) (let z : w + 2 ≡ 1 + (u + 2) = omega arith in z) ∙ h (u + 2) ∙ ap (field Layout.functions c f) (let z : 3 + (u + 2) ≡ x + 2 = omega arith in z))
-      (ap (field inside_run d 0) (let z : w + 3 ≡ 1 + (u + 3) = omega arith in z) ∙ h (u + 3) ∙ ap (field Layout.functions c f) (let z : 3 + (u + 3) ≡ x + 3 = omega arith in z))
-      (ap (field inside_run d 0) (let z : w + 4 ≡ 1 + (u + 4) = omega arith in z) ∙ h (u + 4) ∙ ap (field Layout.functions c f) (let z : 3 + (u + 4) ≡ x + 4 = omega arith in z))
-
-  -- and so is a run of places
-  inside_places_is : (d : List ℕ) → ((v : ℕ) → field inside_run d 0 (1 + v) ≡ field Layout.functions c f (3 + v)) → (k n : ℕ) → places_in inside_run d 0 1 k n ≡ places_in Layout.functions c f 3 k n
-  unfolding places_in
-  inside_places_is d h k zero = refl
-  inside_places_is d h k (suc n) =
-      ap₂ (λ (p : Place) (ps : List Place). p ∷ ps) (inside_place d h (1 + k * 5) (3 + k * 5) (k * 5) refl refl) (inside_places_is d h (suc k) n)
-
-  -- the places of a slice that they were copied to are those that the function mutates inside
-  pub inside_copied : (ws : List ℕ) → length ws ≡ 161 → inside_places (copied_inside c f ws) ≡ Lent.mutated_inside c f
-  unfolding counted_places Lent.mutated_inside
-  inside_copied ws b =
-      inside_places_is (copied_inside c f ws) (inside_word ws b) 0 (field inside_run (copied_inside c f ws) 0 0)
-      ∙ ap (places_in Layout.functions c f 3 0) (inside_count_is ws b)
+-- the places of a slice that they were copied to are those that the function mutates inside
+inside_copied : (c : List ℕ) (f : ℕ) (ws : List ℕ) → length ws ≡ 161 → inside_places (copied_inside c f ws) ≡ Lent.mutated_inside c f
+unfolding Lent.mutated_inside copied_inside
+inside_copied c f ws b = places_copied Layout.functions c f 3 160 161 ws (field Layout.functions c f 2) refl b refl
 
 -- ---- each of these places
 
@@ -341,11 +223,6 @@ module _ (vs ss cs os : List ℕ) (r : Run) (i : ℕ) (b : Bool) (e : b ≡ is_s
   lvalue_own x a us ts h p d g t =
       if_false _ _ _ _ _ (sym e ∙ h)
       (ap₂ (λ (y z : List ℕ). ok tt (world y z cs os r)) (sym (g ∙ ap₂ (λ (n : ℕ) (v : AbstractValue). put_value vs (512 + n) v) p d)) (sym t))
-
--- the set of an own value, below 1,024
-pub own_below : (ss us : List ℕ) (i : ℕ) → us ≡ put_set ss i (2 ^ (512 + i)) → us ≡ own_sets ss i i
-unfolding own_sets
-own_below ss us i e = e
 
 -- ---- the whole run
 

@@ -1,17 +1,15 @@
--- `call_parts::is_near` meets its contract: the loop asks one of the context places that are left. Assumes nothing.
-use mathlib.Core.Path.{refl, ◌∙◌}
-use Rattle.call_parts.proofs.Laws.Instruction.{near_more, near_yes, near_no}
+-- `call_parts::is_near` meets its contract: what the search of the context places finds. Assumes nothing.
+use Rattle.std.specs.Prelude.{◌*◌, eqb}
+use Rattle.std.proofs.Common.{arith, rules, refl, ◌∙◌}
+use Rattle.std.proofs.lemmas.Iterator.{YieldsList-from_range}
+use Rattle.std.proofs.lemmas.Iterator.Search.{any_from_yields_List}
+use Rattle.lent_tables.specs.Words.{field}
+use Rattle.lent_layout.specs.Layout as Layout
+use Rattle.call_parts.proofs.Laws.Instruction.{near_is}
 use Rattle.call_parts.proofs.is_near.Goals as goal
 
-pub loop-k-init : goal.loop-k-init
-loop-k-init c = refl
-
-pub returns-then-i-context_identifier : goal.returns-then-i-context_identifier
-returns-then-i-context_identifier c =
-    near_yes _ _ _ _ _ c.context_count-n.ensures c.loop-k.invariant _ c.loop-k-test.true c.context_identifier.ensures c.if-i-context_identifier.true
-
-pub loop-k-preserved : goal.loop-k-preserved
-loop-k-preserved c = c.loop-k.invariant ∙ near_more _ _ _ _ _ _ c.loop-k-test.true c.context_identifier.ensures c.if-i-context_identifier.false
-
 pub returns : goal.returns
-returns c = near_no _ _ _ _ _ c.context_count-n.ensures c.loop-k.invariant c.loop-k-test.false
+returns c =
+    any_from_yields_List (λ k. eqb c.args.i (field Layout.contexts c.args.context.now c.args.f (k * 5))) _ _ c.any.result c.any.ensures.ran (YieldsList-from_range 0 c.context_count.result c.context_count.result refl (omega arith))
+    (λ x b q k. (search rules, search rules))
+    ∙ near_is c.args.context.now c.args.f c.args.i _ c.context_count.ensures

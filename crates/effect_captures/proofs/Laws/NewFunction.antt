@@ -1,6 +1,6 @@
 -- Laws by which the code of new functions meets the definition. Assumes nothing.
-use Rattle.std.specs.Prelude.{ℕ, ◌+◌, ◌*◌, ◌≤◌, ◌<◌, ◌≡◌, Bool, true, false, ◌⊎◌, ltb, length, get_or, set, Option, None, Some, Result, Ok, Err}
-use Rattle.std.proofs.Common.{arith, ◌∙◌, inl, inr, ⊎_elim, length-set, get_or-set_same, get_or-set_other, ltb-true, ltb-false}
+use Rattle.std.specs.Prelude.{ℕ, ◌≡◌, Bool, length, Option, None, Some, Result, Ok, Err}
+use Rattle.std.proofs.Common.{◌∙◌}
 use Rattle.std.proofs.Math.Path.{refl, sym, ap}
 use mathlib.Core.List.{List}
 use Rattle.def_kinds.specs.declared.ValueKind.{ValueKind}
@@ -16,8 +16,6 @@ use Rattle.def_transfer.specs.State.{ask, change}
 use Rattle.def_transfer.specs.Context.{get_or_create_value_id, link_to, emit, begin, function_context}
 use Rattle.def_transfer.specs.Step as Step
 use Rattle.def_transfer.specs.Step.{create, any_written, any_ref, update_context}
-use Rattle.lent_tables.specs.Words.{index, field, places_in}
-use Rattle.lent_tables.proofs.Laws.Word.{within_yes, within_no_word, field_in, field_out, places_cong}
 use Rattle.lent_effects.specs.declared.AliasingEffect.TheVariants as Head
 use Rattle.lent_effects.specs.Records.{effect_with, captures_of, counted_places, copied_captures}
 use Rattle.lent_effects.proofs.Laws.Capture.{captures_copied}
@@ -103,55 +101,6 @@ module _ (ps : List Place) (f : ℕ) (into : Place) (again : AliasingEffect → 
       ∙ then_answers (each ps (λ c. again (Capture c into))) r x)))))))
 
 -- ---- the captures of the effect that stands for another
-
--- a number is below another, or it is not
--- a law of a word goes by whether the record has it
-lower_or_not : (a b : ℕ) → (a < b) ⊎ (b ≤ a)
-lower_or_not a b = told (ltb a b) (λ e. ltb-true a b e) (λ e. ltb-false a b e)
-  where
-    -- what the test says, either way
-    told : (d : Bool) → (d ≡ true → a < b) → (d ≡ false → b ≤ a) → (a < b) ⊎ (b ≤ a)
-    told true p q = inl (p refl)
-    told false p q = inr (q refl)
-
--- the words before word k are those of another slice
-pub record Copied (ws us : List ℕ) (k : ℕ) : Type 0 where
-  pub word : (v : ℕ) → v < k → v < length us → get_or us v 0 ≡ field one_run ws 0 v
-
--- nothing is copied yet
-pub copied_start : (ws us : List ℕ) → Copied ws us 0
-copied_start ws us = record { word = λ v l m. absurd (omega arith) }
-
--- one more word is copied
-pub copied_turn : (ws us ts : List ℕ) (k x : ℕ) → Copied ws us k → x ≡ field one_run ws 0 k → ts ≡ set us k x → Copied ws ts (k + 1)
-copied_turn ws us ts k x a e g = record { word = λ v l m. ap (λ (d : List ℕ). get_or d v 0) g ∙ at v l (let z : length ts ≡ length us = ap length g ∙ length-set us k x in omega arith) }
-  where
-    -- the word that is written, or one before it
-    at : (v : ℕ) → v < k + 1 → v < length us → get_or (set us k x) v 0 ≡ field one_run ws 0 v
-    at v l m =
-        ⊎_elim
-        (λ b. get_or-set_other us k v x 0 (λ q. omega arith) ∙ a.word v b m)
-        (λ b. let q : v ≡ k = omega arith in
-        ap (λ (i : ℕ). get_or (set us k x) i 0) q ∙ get_or-set_same us k x 0 (omega arith) ∙ e ∙ ap (field one_run ws 0) (sym q))
-        (lower_or_not v k)
-
--- a write keeps the slice's length
-pub copied_kept : (us ts : List ℕ) (k x : ℕ) → ts ≡ set us k x → length ts ≡ length us
-copied_kept us ts k x e = ap length e ∙ length-set us k x
-
--- all 81 words are copied
-pub copied_run : (ws us : List ℕ) (k : ℕ) → Copied ws us k → 81 ≤ k → length us ≡ 81 → captures_of us ≡ captures_of ws
-unfolding counted_places index
-copied_run ws us k a l b = ap (places_in one_run us 0 1 0) (at 0) ∙ places_cong one_run ws us 0 1 0 (field one_run ws 0 0) at
-  where
-    -- each word of the one is that of the other
-    -- past the end both are 0
-    at : (v : ℕ) → field one_run us 0 v ≡ field one_run ws 0 v
-    at v =
-        ⊎_elim
-        (λ m. field_in one_run us 0 v (within_yes one_run 0 v (omega arith) m) ∙ ap (λ (i : ℕ). get_or us i 0) (let z : 0 + 0 * 81 + v ≡ v = omega arith in z) ∙ a.word v (omega arith) (omega arith))
-        (λ m. field_out one_run us 0 v (within_no_word one_run 0 v m) ∙ sym (field_out one_run ws 0 v (within_no_word one_run 0 v m)))
-        (lower_or_not v 81)
 
 -- the effect was interned before
 -- its captures are the record's

@@ -1,17 +1,13 @@
 -- Laws by which the code meets the definition. Assumes nothing.
 use Prim.Native.Nat.{ℕ, zero, suc, ◌+◌, ◌-◌, ◌*◌, ◌≤◌, ◌<◌}
-use Rattle.std.proofs.Common.{eq-or-lt_of_le, ◌∙◌, inl, inr, ltb-true, ltb-false, eq-eqb, ne_eqb}
+use Rattle.std.proofs.Common.{add-one, ◌∙◌, eq-eqb, ne_eqb}
 use native.Mathlib.Omega.{arith}
-use Rattle.std.specs.Prelude.{◌≡◌, Bool, true, false, ◌&&◌, ◌||◌, ◌⊎◌, ltb, set}
+use Rattle.std.specs.Prelude.{◌≡◌, Bool, true, false, ◌&&◌, ◌||◌}
 use Rattle.std.proofs.Math.Path.{refl, sym, ap, ap₂}
-use Rattle.std.proofs.Math.Logic.{⊎_elim}
 use mathlib.Core.List.{List, ◌∷◌}
 use Rattle.std.proofs.Math.Dec.{eqb}
-use Rattle.std.proofs.Math.ListN.{length, get_or, length-set}
-use Rattle.std.proofs.Math.Seq.{get_or-set_same, get_or-set_other}
-use Rattle.std.specs.Bool.{MatchBool}
-use Rattle.std.specs.List.{range_with_len, AllWithin, HoldsAt}
-use Rattle.std.proofs.lemmas.List.FromFn.{length-range_with_len, get_or-range_with_len}
+use Rattle.std.proofs.Math.ListN.{length}
+use Rattle.std.specs.List.{list_any, range_with_len}
 use Rattle.base_tests.proofs.Laws.Bool.{and_false}
 use Rattle.def_kinds.specs.declared.AbstractValue.{AbstractValue}
 use Rattle.def_kinds.specs.Kinds.{copied, is_frozen}
@@ -24,9 +20,10 @@ use Rattle.def_transfer.specs.Context as Context
 use Rattle.def_transfer.specs.Step as Step
 use Rattle.lent_values.specs.Cells.{value_at}
 use Rattle.lent_sets.specs.Rows.{set_at}
-use Rattle.lent_tables.specs.Words.{index, field, place_in, places_in}
-use Rattle.lent_tables.proofs.Laws.Word.{within_yes, within_no_word, field_in, field_out, place_of_is, places_more, places_none}
+use Rattle.lent_tables.specs.Words.{field, place_in, places_in}
+use Rattle.lent_tables.proofs.Laws.Word.{places_more, places_none}
 use Rattle.lent_effects.specs.Records.{captures_of, counted_places}
+use Rattle.lent_effects.proofs.Laws.Capture.{places_copied}
 use Rattle.lent_work.specs.declared.Run.{Run}
 use Rattle.lent_layout.specs.Layout as Layout
 use Rattle.lent_context.specs.Lent as Lent
@@ -34,164 +31,36 @@ use Rattle.laws_monad.proofs.Laws.Answers.{if_true, if_false}
 use Rattle.laws_monad.proofs.Laws.Each.{each_ok, each_done}
 use Rattle.def_transfer.specs.Tables.{World}
 use Rattle.lent_world.specs.World.{lent, world}
-use Rattle.effect_function_context.specs.Functions.{copied_places, copied_context, becomes_read}
+use Rattle.effect_function_context.specs.Functions.{copied_context, becomes_read}
 use Rattle.lent_layout.specs.Layout.{one_run}
 
 -- ---- context places that are refs
 
--- from place k of a function on
 module _ (w : World lent) (f : ℕ) where
   -- whether the place of a number is one
-  abbrev ref_at : ℕ → Bool
+  abbrev pub ref_at : ℕ → Bool
   ref_at k = Lent.is_ref w.rest.context (field Layout.contexts w.rest.context f (k * 5))
 
-  ref_yes : (k n j : ℕ) → j < n → ref_at (k + j) ≡ true → Step.any_ref (places_in Layout.contexts w.rest.context f 0 k n) w.rest ≡ true
+  -- a search of the places from one on finds what the definition does
+  ref_from : (n a : ℕ) → list_any ref_at (range_with_len a n) ≡ Step.any_ref (places_in Layout.contexts w.rest.context f 0 a n) w.rest
   unfolding Step.any_ref place_in places_in
-  ref_yes k zero j h e = absurd (omega arith)
-  ref_yes k (suc n) zero h e =
-      let z : 0 + k * 5 ≡ (k + 0) * 5 = omega arith in
-      ap (λ (x : ℕ). Lent.is_ref w.rest.context (field Layout.contexts w.rest.context f x) || Step.any_ref (places_in Layout.contexts w.rest.context f 0 (suc k) n) w.rest) z
-      ∙ ap (λ (x : Bool). x || Step.any_ref (places_in Layout.contexts w.rest.context f 0 (suc k) n) w.rest) e
-  ref_yes k (suc n) (suc j) h e =
-      let z : suc k + j ≡ k + suc j = omega arith in
-      ap (λ (x : Bool). Lent.is_ref w.rest.context (field Layout.contexts w.rest.context f (0 + k * 5)) || x) (ref_yes (suc k) n j (omega arith) (ap ref_at z ∙ e))
-      ∙ or_yes (Lent.is_ref w.rest.context (field Layout.contexts w.rest.context f (0 + k * 5)))
-    where
-      or_yes : (b : Bool) → (b || true) ≡ true
-      or_yes true = refl
-      or_yes false = refl
+  ref_from zero a = refl
+  ref_from (suc n) a =
+      let z : a * 5 ≡ 0 + a * 5 = omega arith in
+      ap₂ (λ (x : ℕ) (b : Bool). Lent.is_ref w.rest.context (field Layout.contexts w.rest.context f x) || b) z
+      (ap (λ (y : ℕ). list_any ref_at (range_with_len y n)) (add-one a) ∙ ref_from n (suc a))
 
-  ref_no : (k n : ℕ) → ((j : ℕ) → j < n → ref_at (k + j) ≡ false) → Step.any_ref (places_in Layout.contexts w.rest.context f 0 k n) w.rest ≡ false
-  unfolding Step.any_ref place_in places_in
-  ref_no k zero h = refl
-  ref_no k (suc n) h =
-      let z : 0 + k * 5 ≡ (k + 0) * 5 = omega arith in
-      ap (λ (x : ℕ). Lent.is_ref w.rest.context (field Layout.contexts w.rest.context f x) || Step.any_ref (places_in Layout.contexts w.rest.context f 0 (suc k) n) w.rest) z
-      ∙ ap₂ (λ (x y : Bool). x || y) (h 0 (omega arith)) (ref_no (suc k) n (λ j l. ap ref_at (let y : suc k + j ≡ k + suc j = omega arith in y) ∙ h (suc j) (omega arith)))
-
-  -- what the search of the places finds
-  pub ref_found : (n : ℕ) (r : Bool) → n ≡ field Layout.functions w.rest.context f 1
-      → MatchBool r ((k : ℕ) × (k < length (range_with_len 0 n)) × HoldsAt (λ x. ref_at x ≡ true) (range_with_len 0 n) k) (AllWithin (λ x. ref_at x ≡ false) (range_with_len 0 n) 0 (length (range_with_len 0 n)))
-      → Step.any_ref (Lent.context_of w.rest.context f) w.rest ≡ r
+  -- all places of a function are its context
+  pub ref_found : (n : ℕ) (r : Bool) → n ≡ field Layout.functions w.rest.context f 1 → r ≡ list_any ref_at (range_with_len 0 n) → Step.any_ref (Lent.context_of w.rest.context f) w.rest ≡ r
   unfolding Lent.context_of
-  ref_found n r e h = ap (λ (m : ℕ). Step.any_ref (places_in Layout.contexts w.rest.context f 0 0 m) w.rest) (sym e) ∙ found r h
-    where
-      at : (k : ℕ) → k < n → get_or (range_with_len 0 n) k 0 ≡ 0 + k
-      at k l = get_or-range_with_len 0 n k 0 l
-
-      found : (x : Bool) → MatchBool x ((k : ℕ) × (k < length (range_with_len 0 n)) × HoldsAt (λ y. ref_at y ≡ true) (range_with_len 0 n) k) (AllWithin (λ y. ref_at y ≡ false) (range_with_len 0 n) 0 (length (range_with_len 0 n)))
-          → Step.any_ref (places_in Layout.contexts w.rest.context f 0 0 n) w.rest ≡ x
-      found true q = let z = length-range_with_len 0 n in let m = q.1 in let l : q.0 < n = omega arith in ref_yes 0 n q.0 l (sym (ap ref_at (at q.0 l)) ∙ q.2 0)
-      found false q = let z = length-range_with_len 0 n in ref_no 0 n (λ j l. sym (ap ref_at (at j l)) ∙ q j 0 (omega arith) (omega arith))
-
--- ---- context places are copied
-
--- into a slice, behind the count
-module _ (c : List ℕ) (f : ℕ) where
-  -- a turn of the loop that copies them writes one word
-  pub copied_more : (k i : ℕ) (ws us : List ℕ) (x : ℕ) → k < 80 → i ≡ f → x ≡ field Layout.contexts c i k → us ≡ set ws (1 + k) x → copied_places c f (k + 1) (80 - (k + 1)) us ≡ copied_places c f k (80 - k) ws
-  unfolding copied_places
-  copied_more k i ws us x l m e g =
-      let s : k + 1 ≡ suc k = omega arith in
-      let n : suc (80 - (k + 1)) ≡ 80 - k = omega arith in
-      ap₂ (λ (y : ℕ) (z : List ℕ). copied_places c f y (80 - (k + 1)) z) s (g ∙ ap (set ws (1 + k)) (e ∙ ap (λ (j : ℕ). field Layout.contexts c j k) m))
-      ∙ ap (λ (y : ℕ). copied_places c f k y ws) n
-
-  -- at the end none is left, and the first word was the count
-  pub copied_done : (k : ℕ) (ws us vs : List ℕ) (x : ℕ) → 80 ≤ k → x ≡ field Layout.functions c f 1 → us ≡ set ws 0 x → copied_places c f k (80 - k) vs ≡ copied_places c f 0 80 us → vs ≡ copied_context c f ws
-  unfolding copied_places copied_context
-  copied_done k ws us vs x l e g h =
-      let m : 0 ≡ 80 - k = omega arith in
-      ap (λ (y : ℕ). copied_places c f k y vs) m ∙ h ∙ ap (copied_places c f 0 80) (g ∙ ap (set ws 0) e)
+  ref_found n r e h = ap (λ (m : ℕ). Step.any_ref (places_in Layout.contexts w.rest.context f 0 0 m) w.rest) (sym e) ∙ sym (h ∙ ref_from n 0)
 
 -- ---- context places that were copied are read
 
--- a number is below another, or it is not
--- a law of a word goes by whether the record has it
-lower_or_not : (a b : ℕ) → (a < b) ⊎ (b ≤ a)
-lower_or_not a b = told (ltb a b) (λ e. ltb-true a b e) (λ e. ltb-false a b e)
-  where
-    -- what the test says, either way
-    told : (d : Bool) → (d ≡ true → a < b) → (d ≡ false → b ≤ a) → (a < b) ⊎ (b ≤ a)
-    told true p q = inl (p refl)
-    told false p q = inr (q refl)
-
--- the slice that the context places of a function were copied to
--- word by word
-module _ (c : List ℕ) (f : ℕ) where
-  -- a word before those that are copied stays
-  copied_before : (k n : ℕ) (ws : List ℕ) (v : ℕ) → v < 1 + k → get_or (copied_places c f k n ws) v 0 ≡ get_or ws v 0
-  unfolding copied_places
-  copied_before k zero ws v l = refl
-  copied_before k (suc n) ws v l =
-      copied_before (suc k) n (set ws (1 + k) (field Layout.contexts c f k)) v (omega arith)
-      ∙ get_or-set_other ws (1 + k) v (field Layout.contexts c f k) 0 (λ e. omega arith)
-
-  -- a word that is copied is the record's
-  copied_at : (k n : ℕ) (ws : List ℕ) (v : ℕ) → 1 + (k + n) ≤ length ws → k ≤ v → v < k + n → get_or (copied_places c f k n ws) (1 + v) 0 ≡ field Layout.contexts c f v
-  unfolding copied_places
-  copied_at k zero ws v r l u = absurd (let z : v < k + 0 = u in omega arith)
-  copied_at k (suc n) ws v r l u =
-      ⊎_elim
-      (λ e. copied_before (suc k) n (set ws (1 + k) (field Layout.contexts c f k)) (1 + v) (let z : k ≡ v = e in omega arith)
-      ∙ ap (λ (m : ℕ). get_or (set ws (1 + k) (field Layout.contexts c f k)) (1 + m) 0) (sym e)
-      ∙ get_or-set_same ws (1 + k) (field Layout.contexts c f k) 0 (omega arith)
-      ∙ ap (field Layout.contexts c f) e)
-      (λ g. copied_at (suc k) n (set ws (1 + k) (field Layout.contexts c f k)) v
-      (let z : length (set ws (1 + k) (field Layout.contexts c f k)) ≡ length ws = length-set ws (1 + k) (field Layout.contexts c f k) in omega arith)
-      (omega arith)
-      (omega arith))
-      (eq-or-lt_of_le l)
-
-  -- every word of the slice but the first is the record's, one word before
-  -- past the end both are 0
-  copied_word : (ws : List ℕ) → length ws ≡ 81 → (v : ℕ) → field one_run (copied_context c f ws) 0 (1 + v) ≡ field Layout.contexts c f v
-  unfolding index copied_context
-  copied_word ws b v =
-      ⊎_elim
-      (λ l. field_in one_run (copied_context c f ws) 0 (1 + v) (within_yes one_run 0 (1 + v) (omega arith) (omega arith))
-      ∙ ap (λ (m : ℕ). get_or (copied_context c f ws) m 0) (let z : 0 + 0 * 81 + (1 + v) ≡ 1 + v = omega arith in z)
-      ∙ copied_at 0 80 (set ws 0 (field Layout.functions c f 1)) v
-      (let z : length (set ws 0 (field Layout.functions c f 1)) ≡ length ws = length-set ws 0 (field Layout.functions c f 1) in omega arith)
-      (omega arith)
-      (omega arith))
-      (λ l. field_out one_run (copied_context c f ws) 0 (1 + v) (within_no_word one_run 0 (1 + v) (omega arith))
-      ∙ sym (field_out Layout.contexts c f v (within_no_word Layout.contexts f v l)))
-      (lower_or_not v 80)
-
-  -- the first word is the count
-  -- it stands in the function's record
-  copied_count : (ws : List ℕ) → length ws ≡ 81 → field one_run (copied_context c f ws) 0 0 ≡ field Layout.functions c f 1
-  unfolding index copied_context
-  copied_count ws b =
-      field_in one_run (copied_context c f ws) 0 0 (within_yes one_run 0 0 (omega arith) (omega arith))
-      ∙ copied_before 0 80 (set ws 0 (field Layout.functions c f 1)) 0 (omega arith)
-      ∙ get_or-set_same ws 0 (field Layout.functions c f 1) 0 (omega arith)
-
-  -- a place of the slice is the record's, one word before
-  copied_place : (d : List ℕ) → ((v : ℕ) → field one_run d 0 (1 + v) ≡ field Layout.contexts c f v) → (w u : ℕ) → w ≡ 1 + u → place_in one_run d 0 w ≡ place_in Layout.contexts c f u
-  unfolding place_in
-  copied_place d h w u e =
-      place_of_is Layout.contexts c f u _ _ _ _ _
-      (ap (field one_run d 0) e ∙ h u)
-      (ap (field one_run d 0) (let z : w + 1 ≡ 1 + (u + 1) = omega arith in z) ∙ h (u + 1))
-      (ap (field one_run d 0) (let z : w + 2 ≡ 1 + (u + 2) = omega arith in z) ∙ h (u + 2))
-      (ap (field one_run d 0) (let z : w + 3 ≡ 1 + (u + 3) = omega arith in z) ∙ h (u + 3))
-      (ap (field one_run d 0) (let z : w + 4 ≡ 1 + (u + 4) = omega arith in z) ∙ h (u + 4))
-
-  -- and so is a run of places
-  copied_places_is : (d : List ℕ) → ((v : ℕ) → field one_run d 0 (1 + v) ≡ field Layout.contexts c f v) → (k n : ℕ) → places_in one_run d 0 1 k n ≡ places_in Layout.contexts c f 0 k n
-  unfolding places_in
-  copied_places_is d h k zero = refl
-  copied_places_is d h k (suc n) =
-      ap₂ (λ (p : Place) (ps : List Place). p ∷ ps) (copied_place d h (1 + k * 5) (0 + k * 5) (omega arith)) (copied_places_is d h (suc k) n)
-
-  -- the places of a slice that a function's context was copied to are that context
-  pub context_copied : (ws : List ℕ) → length ws ≡ 81 → captures_of (copied_context c f ws) ≡ Lent.context_of c f
-  unfolding counted_places Lent.context_of
-  context_copied ws b =
-      copied_places_is (copied_context c f ws) (copied_word ws b) 0 (field one_run (copied_context c f ws) 0 0)
-      ∙ ap (places_in Layout.contexts c f 0 0) (copied_count ws b)
+-- the places of a slice that a function's context was copied to are that context
+context_copied : (c : List ℕ) (f : ℕ) (ws : List ℕ) → length ws ≡ 81 → captures_of (copied_context c f ws) ≡ Lent.context_of c f
+unfolding Lent.context_of copied_context
+context_copied c f ws b = places_copied Layout.contexts c f 0 80 81 ws (field Layout.functions c f 1) refl b refl
 
 -- ---- a Capture context place becomes Read
 

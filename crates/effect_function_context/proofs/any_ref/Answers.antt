@@ -1,15 +1,13 @@
-use native.Mathlib.Omega.{arith}
-use Rattle.std.specs.Prelude.{◌≡◌, ◌-◌, ◌*◌, refl, true, false}
-use Rattle.std.proofs.Common.{rules}
-use Rattle.std.proofs.lemmas.Iterator.{cases_from_any, YieldsList-from_range}
-use Rattle.lent_tables.specs.Words.{field}
-use Rattle.lent_layout.specs.Layout as Layout
-use Rattle.lent_context.specs.Lent.{is_ref}
+-- `effect_function_context::any_ref` meets its contract: what the search of the context places finds. Assumes nothing.
+use Rattle.std.proofs.Common.{arith, rules, refl}
+use Rattle.std.proofs.lemmas.Iterator.{YieldsList-from_range}
+use Rattle.std.proofs.lemmas.Iterator.Search.{any_from_yields_List}
 use Rattle.lent_world.specs.Promise.{seen}
-use Rattle.effect_function_context.proofs.Laws.Function.{ref_found}
+use Rattle.effect_function_context.proofs.Laws.Function.{ref_at, ref_found}
 use Rattle.effect_function_context.proofs.any_ref.Goals as goal
 
 pub returns : goal.returns
-returns c = ref_found (seen c.args.world.now) _ _ _ c.context_count.ensures
-    (cases_from_any _ _ _ (λ k. is_ref c.args.world.now.context.now (field Layout.contexts c.args.world.now.context.now c.args.f (k * 5)) ≡ true) (λ k. is_ref c.args.world.now.context.now (field Layout.contexts c.args.world.now.context.now c.args.f (k * 5)) ≡ false) c.any.ensures.ran (YieldsList-from_range 0 c.context_count.result c.context_count.result refl (let z : c.context_count.result - 0 ≡ c.context_count.result = omega arith in z))
-    (λ x q k. search rules) (λ x q k. (search rules, search rules)))
+returns c =
+    ref_found (seen c.args.world.now) c.args.f _ _ c.context_count.ensures
+    (any_from_yields_List (ref_at (seen c.args.world.now) c.args.f) _ _ c.any.result c.any.ensures.ran (YieldsList-from_range 0 c.context_count.result c.context_count.result refl (omega arith))
+    (λ x b q k. (search rules, search rules)))

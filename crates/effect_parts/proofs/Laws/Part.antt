@@ -1,6 +1,6 @@
 -- Laws by which the code of the parts meets the definition. Assumes nothing.
-use Rattle.std.specs.Prelude.{ℕ, suc, ◌+◌, ◌-◌, ◌*◌, ◌^◌, ◌≤◌, ◌<◌, ◌≡◌, Bool, true, false, ◌&&◌, eqb, ltb}
-use native.Mathlib.Omega.{arith}
+use Rattle.std.specs.List.{list_any, range_with_len}
+use Rattle.std.specs.Prelude.{ℕ, zero, suc, ◌||◌, ◌+◌, ◌*◌, ◌^◌, ◌≤◌, ◌<◌, ◌≡◌, Bool, true, false, ◌&&◌, eqb, ltb}
 use Rattle.std.proofs.Common.{add-one, ◌∙◌}
 use Rattle.std.proofs.Math.Path.{refl, sym, ap, ap₂}
 use mathlib.Core.List.{List}
@@ -22,7 +22,6 @@ use Rattle.def_transfer.specs.Step as Step
 use Rattle.lent_values.specs.Cells.{value_at, put_value}
 use Rattle.lent_sets.specs.Rows.{set_at, put_set}
 use Rattle.lent_tables.specs.Words.{field, place_in, places_in}
-use Rattle.lent_tables.proofs.Laws.Word.{places_more, places_none}
 use Rattle.lent_effects.specs.Records.{put_effect, captures_of, counted_places}
 use Rattle.lent_work.specs.declared.Run.{Run}
 use Rattle.lent_work.specs.declared.Marks.{Marks}
@@ -108,34 +107,39 @@ module _ (vs ss cs os : List ℕ) (r : Run) (p : Place) where
       ap (λ (y : Bool). ok (y && writable (kind_of (value_at vs) (set_at ss p.identifier)).kind) (world vs ss cs os r)) (sym e ∙ h)
       ∙ ap (λ (y : Bool). ok y (world vs ss cs os r)) (sym (f ∙ ap (λ (y : AbstractValue). writable y.kind) g))
 
--- what a loop over the captures has still to ask
-pub record Asks (w : World lent) (ws : List ℕ) (n k : ℕ) : Type 0 where
-  pub equal : Step.any_written (places_in one_run ws 0 1 0 (n - 0)) w ≡ Step.any_written (places_in one_run ws 0 1 k (n - k)) w
+-- the places of captures, in a world
+module _ (w : World lent) where
+  -- whether a place is defined and can be written
+  -- the definition's test
+  abbrev pub writes : Place → Bool
+  writes p = is_some (set_at w.state.sets p.identifier) && writable (kind_of (value_at w.state.values) (set_at w.state.sets p.identifier)).kind
 
-module _ (w : World lent) (ws : List ℕ) (n k : ℕ) where
-  whole : n ≡ field one_run ws 0 0 → places_in one_run ws 0 1 0 (n - 0) ≡ captures_of ws
-  unfolding counted_places
-  whole e = let z : n - 0 ≡ n = omega arith in ap (places_in one_run ws 0 1 0) (z ∙ e)
+  writes_is : (p : Place) → Step.is_written p w ≡ ok (writes p) w
+  unfolding Step.is_written State.set_of State.peek return ◌>>=◌ and_then
+  writes_is p = refl
 
-  pub asks_start : Asks w ws n 0
-  asks_start = record { equal = refl }
+  -- what a test of a place said is that
+  pub writes_told : (p : Place) (b : Bool) → Step.is_written p w ≡ ok b w → b ≡ writes p
+  writes_told p b h = ap said (sym h ∙ writes_is p)
+    where
+      said : Res (World lent) Bool → Bool
+      said (ok x u) = x
+      said (refused n u) = false
 
-  module _ (a : Asks w ws n k) (p : Place) (b : Bool) (h : k < n) (g : p ≡ place_in one_run ws 0 (1 + k * 5)) (e : Step.is_written p w ≡ ok b w) where
-    -- one more of them is asked
-    asked : (x : Res (World lent) Bool) → (when b then return true else Step.any_written (places_in one_run ws 0 1 (k + 1) (n - (k + 1)))) w ≡ x → Step.any_written (places_in one_run ws 0 1 0 (n - 0)) w ≡ x
-    unfolding Step.any_written
-    asked x f =
-        a.equal ∙ ap (λ (l : List Place). Step.any_written l w) (places_more one_run ws 0 1 k n h)
-        ∙ bind_ok _ _ _ _ _ _ (ap (λ (q : Place). Step.is_written q w) (sym g) ∙ e) f
+  module _ (ws : List ℕ) where
+    -- a search of the captures from one on finds what the definition does
+    written_from : (n a : ℕ) → Step.any_written (places_in one_run ws 0 1 a n) w ≡ ok (list_any (λ k. writes (place_in one_run ws 0 (1 + k * 5))) (range_with_len a n)) w
+    unfolding Step.any_written places_in return when◌then◌else◌
+    written_from zero a = refl
+    written_from (suc n) a =
+        bind_ok _ _ _ _ _ _ (writes_is (place_in one_run ws 0 (1 + a * 5)))
+        (go (writes (place_in one_run ws 0 (1 + a * 5))) (written_from n (suc a) ∙ ap (λ (y : ℕ). ok (list_any (λ k. writes (place_in one_run ws 0 (1 + k * 5))) (range_with_len y n)) w) (sym (add-one a))))
+      where
+        go : (b : Bool) {x : Bool} → Step.any_written (places_in one_run ws 0 1 (suc a) n) w ≡ ok x w → (when b then return true else Step.any_written (places_in one_run ws 0 1 (suc a) n)) w ≡ ok (b || x) w
+        go true h = refl
+        go false h = h
 
-    pub asks_yes : n ≡ field one_run ws 0 0 → b ≡ true → Step.any_written (captures_of ws) w ≡ ok true w
-    unfolding return
-    asks_yes z t = ap (λ (l : List Place). Step.any_written l w) (sym (whole z)) ∙ asked _ (if_true _ _ _ _ _ t refl)
-
-    pub asks_more : b ≡ false → Asks w ws n (k + 1)
-    asks_more t = record { equal = asked _ (if_false _ _ _ _ _ t refl) }
-
-  pub asks_no : Asks w ws n k → n ≡ field one_run ws 0 0 → n ≤ k → Step.any_written (captures_of ws) w ≡ ok false w
-  unfolding Step.any_written return
-  asks_no a e h =
-      ap (λ (l : List Place). Step.any_written l w) (sym (whole e)) ∙ a.equal ∙ ap (λ (l : List Place). Step.any_written l w) (places_none one_run ws 0 1 k n h)
+    -- all of them
+    pub written_any : (n : ℕ) (b : Bool) → n ≡ field one_run ws 0 0 → b ≡ list_any (λ k. writes (place_in one_run ws 0 (1 + k * 5))) (range_with_len 0 n) → Step.any_written (captures_of ws) w ≡ ok b w
+    unfolding counted_places
+    written_any n b e h = ap (λ (m : ℕ). Step.any_written (places_in one_run ws 0 1 0 m) w) (sym e) ∙ written_from n 0 ∙ ap (λ (x : Bool). ok x w) (sym h)

@@ -1,16 +1,16 @@
-use Rattle.effect_parts.proofs.Laws.Part.{asks_start, asks_yes, asks_more, asks_no}
+-- `effect_parts::any_written` meets its contract: what the search of the captures finds. Assumes nothing.
+use Rattle.std.specs.Prelude.{◌+◌, ◌*◌}
+use Rattle.std.proofs.Common.{arith, rules, refl}
+use Rattle.std.proofs.lemmas.Iterator.{YieldsList-from_range}
+use Rattle.std.proofs.lemmas.Iterator.Search.{any_from_yields_List}
+use Rattle.lent_tables.specs.Words.{place_in}
+use Rattle.lent_layout.specs.Layout.{one_run}
+use Rattle.lent_world.specs.Promise.{seen}
+use Rattle.effect_parts.proofs.Laws.Part.{writes, writes_told, written_any}
 use Rattle.effect_parts.proofs.any_written.Goals as goal
 
-pub loop-k-init : goal.loop-k-init
-loop-k-init c = asks_start _ _ _ 0
-
-pub returns-then-is_written : goal.returns-then-is_written
-returns-then-is_written c =
-    asks_yes _ _ _ _ c.loop-k.invariant _ _ c.loop-k-test.true c.place_in.ensures c.is_written.ensures c.field-n.ensures c.if-is_written.true
-
-pub loop-k-preserved : goal.loop-k-preserved
-loop-k-preserved c =
-    asks_more _ _ _ _ c.loop-k.invariant _ _ c.loop-k-test.true c.place_in.ensures c.is_written.ensures c.if-is_written.false
-
 pub returns : goal.returns
-returns c = asks_no _ _ _ _ c.loop-k.invariant c.field-n.ensures c.loop-k-test.false
+returns c =
+    written_any (seen c.args.world.now) _ _ _ c.field-n.ensures
+    (any_from_yields_List (λ k. writes (seen c.args.world.now) (place_in one_run c.args.captures.now 0 (1 + k * 5))) _ _ c.any.result c.any.ensures.ran (YieldsList-from_range 0 c.field-n.result c.field-n.result refl (omega arith))
+    (λ x b q k. (search rules, writes_told (seen c.args.world.now) (place_in one_run c.args.captures.now 0 (1 + x * 5)) b (search rules))))

@@ -10,13 +10,9 @@ use Rattle.def_transfer.specs.Diagnostics.{same_identity, same_labels}
 use Rattle.def_transfer.specs.Pure.{Interned, identities, find_identity as first_identity, find_instance as first_instance}
 use Rattle.lent_tables.specs.Words.{field, put_field}
 use Rattle.lent_layout.specs.Layout as Layout
-use Rattle.lent_context.specs.Lent.{diagnostic_in, diagnostics_in, instance_count, identity_count, find_identity, find_instance, put_diagnostic}
+use Rattle.lent_context.specs.Lent.{diagnostic_in, diagnostics_in, instance_count, put_diagnostic}
 use Rattle.lent_diagnostics.specs.declared.Numbered.{Numbered}
 use Rattle.lent_diagnostics.specs.Numbered.{interned_of}
-
--- ---- tests, one after the other
-
--- ---- equal diagnostics
 
 -- ---- records of diagnostics
 
@@ -69,6 +65,12 @@ diagnostics_none c k n h =
     let m : n - k ≡ 0 = omega arith in
     ap (diagnostics_in c k) m
 
+-- a loop begins with all n
+diagnostics_all : (c : List ℕ) (n : ℕ) → diagnostics_in c 0 n ≡ diagnostics_in c 0 (n - 0)
+diagnostics_all c n =
+    let a : n ≡ n - 0 = omega arith in
+    ap (diagnostics_in c 0) a
+
 -- ---- how many identities there are
 
 -- the larger of three numbers, from the left as from the right
@@ -85,15 +87,13 @@ identities_more c k n i x most r l e h g =
     ∙ larger_three most (field Layout.diagnostics c k 0) (identities (diagnostics_in c (k + 1) (n - (k + 1))))
     ∙ ap (λ (z : ℕ). max z (identities (diagnostics_in c (k + 1) (n - (k + 1))))) (ap (λ (y : ℕ). max (y + 1) most) (ap (λ (j : ℕ). field Layout.diagnostics c j 0) (sym e) ∙ sym h) ∙ sym g)
 
--- the last diagnostic is counted
+-- the last of n diagnostics is counted
 -- the loop's end is the whole
-pub identities_end : (c : List ℕ) (k n most : ℕ) → n ≡ instance_count c → n ≤ k
-    → max 0 (identities (diagnostics_in c 0 (n - 0))) ≡ max most (identities (diagnostics_in c k (n - k))) → most ≡ identity_count c
-unfolding identity_count identities
-identities_end c k n most hn l inv =
-    let a : n - 0 ≡ n = omega arith in
+pub identities_end : (c : List ℕ) (k n most : ℕ) → n ≤ k → max 0 (identities (diagnostics_in c 0 (n - 0))) ≡ max most (identities (diagnostics_in c k (n - k))) → most ≡ identities (diagnostics_in c 0 n)
+unfolding identities
+identities_end c k n most l inv =
     let z : identities (diagnostics_in c k (n - k)) ≡ 0 = ap identities (diagnostics_none c k n l) in
-    let y : identities (diagnostics_in c 0 (n - 0)) ≡ identities (diagnostics_in c 0 (instance_count c)) = ap (λ (m : ℕ). identities (diagnostics_in c 0 m)) (a ∙ hn) in
+    let y : identities (diagnostics_in c 0 n) ≡ identities (diagnostics_in c 0 (n - 0)) = ap identities (diagnostics_all c n) in
     omega arith
 
 -- ---- the two searches
@@ -113,17 +113,13 @@ module _ (c : List ℕ) (d : Diagnostic) (k n : ℕ) where
       ∙ ap (λ (t : Bool). elim t as (λ x. Option ℕ) [ true ↦ Some (diagnostic_in c k).identity | false ↦ first_identity (diagnostics_in c (k + 1) (n - (k + 1))) d ])
       (ap (λ (y : Interned). same_identity d y.diagnostic) (sym g) ∙ sym h ∙ z)
 
-  module _ (hn : n ≡ instance_count c) (inv : first_identity (diagnostics_in c 0 (n - 0)) d ≡ first_identity (diagnostics_in c k (n - k)) d) where
+  module _ (inv : first_identity (diagnostics_in c 0 (n - 0)) d ≡ first_identity (diagnostics_in c k (n - k)) d) where
     -- the definition's search is what the loop has left to do
-    -- the count is the table's
-    identity_left : find_identity c d ≡ first_identity (diagnostics_in c k (n - k)) d
-    unfolding find_identity
-    identity_left =
-        let a : n - 0 ≡ n = omega arith in
-        ap (λ (m : ℕ). first_identity (diagnostics_in c 0 m) d) (sym (a ∙ hn)) ∙ inv
+    identity_left : first_identity (diagnostics_in c 0 n) d ≡ first_identity (diagnostics_in c k (n - k)) d
+    identity_left = ap (λ (ds : List Interned). first_identity ds d) (diagnostics_all c n) ∙ inv
 
     -- the search ends at record k
-    pub identity_found : (x : Numbered) (b : Bool) → k < n → interned_of x ≡ diagnostic_in c k → b ≡ same_identity d x.diagnostic → b ≡ true → Some x.identity ≡ find_identity c d
+    pub identity_found : (x : Numbered) (b : Bool) → k < n → interned_of x ≡ diagnostic_in c k → b ≡ same_identity d x.diagnostic → b ≡ true → Some x.identity ≡ first_identity (diagnostics_in c 0 n) d
     identity_found x b l g h z =
         ap (λ (y : Interned). Some y.identity) g
         ∙ sym (identity_left ∙ identity_next l
@@ -131,7 +127,7 @@ module _ (c : List ℕ) (d : Diagnostic) (k n : ℕ) where
         (ap (λ (y : Interned). same_identity d y.diagnostic) (sym g) ∙ sym h ∙ z))
 
     -- the search ends without a record
-    pub identity_nowhere : n ≤ k → None ≡ find_identity c d
+    pub identity_nowhere : n ≤ k → None ≡ first_identity (diagnostics_in c 0 n) d
     unfolding first_identity
     identity_nowhere l = sym (identity_left ∙ ap (λ (ds : List Interned). first_identity ds d) (diagnostics_none c k n l))
 
@@ -156,22 +152,18 @@ module _ (c : List ℕ) (m : ℕ) (d : Diagnostic) (k n : ℕ) where
       instance_next l
       ∙ ap (λ (t : Bool). elim t as (λ x. Option ℕ) [ true ↦ Some k | false ↦ first_instance (k + 1) (diagnostics_in c (k + 1) (n - (k + 1))) m d ]) (ap is_instance (sym g) ∙ sym h ∙ z)
 
-  module _ (hn : n ≡ instance_count c) (inv : first_instance 0 (diagnostics_in c 0 (n - 0)) m d ≡ first_instance k (diagnostics_in c k (n - k)) m d) where
+  module _ (inv : first_instance 0 (diagnostics_in c 0 (n - 0)) m d ≡ first_instance k (diagnostics_in c k (n - k)) m d) where
     -- the definition's search is what the loop has left to do
-    -- the count is the table's
-    instance_left : find_instance c m d ≡ first_instance k (diagnostics_in c k (n - k)) m d
-    unfolding find_instance
-    instance_left =
-        let a : n - 0 ≡ n = omega arith in
-        ap (λ (u : ℕ). first_instance 0 (diagnostics_in c 0 u) m d) (sym (a ∙ hn)) ∙ inv
+    instance_left : first_instance 0 (diagnostics_in c 0 n) m d ≡ first_instance k (diagnostics_in c k (n - k)) m d
+    instance_left = ap (λ (ds : List Interned). first_instance 0 ds m d) (diagnostics_all c n) ∙ inv
 
     -- the search ends at record k
-    pub instance_found : (x : Numbered) (b : Bool) → k < n → interned_of x ≡ diagnostic_in c k → b ≡ (eqb m x.identity && same_labels d x.diagnostic) → b ≡ true → Some k ≡ find_instance c m d
+    pub instance_found : (x : Numbered) (b : Bool) → k < n → interned_of x ≡ diagnostic_in c k → b ≡ (eqb m x.identity && same_labels d x.diagnostic) → b ≡ true → Some k ≡ first_instance 0 (diagnostics_in c 0 n) m d
     instance_found x b l g h z =
         sym (instance_left ∙ instance_next l
         ∙ ap (λ (t : Bool). elim t as (λ x. Option ℕ) [ true ↦ Some k | false ↦ first_instance (k + 1) (diagnostics_in c (k + 1) (n - (k + 1))) m d ]) (ap is_instance (sym g) ∙ sym h ∙ z))
 
     -- the search ends without a record
-    pub instance_nowhere : n ≤ k → None ≡ find_instance c m d
+    pub instance_nowhere : n ≤ k → None ≡ first_instance 0 (diagnostics_in c 0 n) m d
     unfolding first_instance
     instance_nowhere l = sym (instance_left ∙ ap (λ (ds : List Interned). first_instance k ds m d) (diagnostics_none c k n l))

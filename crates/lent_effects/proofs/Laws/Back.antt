@@ -15,7 +15,6 @@ use Rattle.lent_tables.specs.declared.Table.{Table}
 use Rattle.lent_tables.specs.Words.{field, put_field, place_in, put_place, places_in, put_places}
 use Rattle.lent_tables.proofs.Laws.Word.{put_length, place_length}
 use Rattle.lent_effects.specs.declared.AliasingEffect.{AliasingEffect as Head}
-use Rattle.lent_effects.specs.declared.AliasingEffect.TheVariants as Head
 use Rattle.lent_effects.specs.Records.{counted_places, effect_with, diagnostic, head_in, effect_in, one_place, two_places, reported, put_effect}
 use Rattle.lent_effects.proofs.Laws.Head.{head_0, head_1, head_2, head_3, head_4, head_5, head_6, head_7, head_8, head_9, head_10, head_11, head_13, head_14, head_15, head_16, head_rest}
 use Rattle.lent_tables.proofs.Laws.Back.{Held, held_as, place_back, word_back, word_beside, place_beside, run_beside, place_same, run_back}

@@ -12,7 +12,6 @@ use Rattle.lent_tables.specs.declared.Table.{Table}
 use Rattle.lent_tables.specs.Words.{index, end, apart, field, put_field, place_in, put_place, places_in, put_places}
 use Rattle.lent_tables.proofs.Laws.Word.{within_word, put_length, put_read, put_record, put_apart, put_outside, place_cong, places_cong}
 use Rattle.lent_effects.specs.declared.AliasingEffect.{AliasingEffect as Head}
-use Rattle.lent_effects.specs.declared.AliasingEffect.TheVariants as Head
 use Rattle.lent_effects.specs.Records.{counted_places, effect_with, heads, head_in, effect_in, one_place, two_places, reported, put_effect}
 
 -- ---- records with the same words

@@ -7,11 +7,10 @@ use Rattle.def_kinds.specs.declared.ValueKind.{ValueKind}
 use Rattle.def_kinds.specs.Kinds.{code_of as kind_code}
 use Rattle.def_effects.specs.declared.Place.{Place}
 use Rattle.def_effects.specs.declared.AliasingDiagnostic.{AliasingDiagnostic}
-use Rattle.def_effects.specs.Effects.{Freeze, Mutate, MutateConditionally, MutateTransitive, MutateTransitiveConditionally, Capture, Alias, MaybeAlias, Assign, Create, CreateFrom, ImmutableCapture, CreateFunction, MutateFrozen, MutateGlobal, Impure, Render}
+use Rattle.def_effects.specs.Effects.{Create, CreateFunction}
 use Rattle.lent_tables.specs.declared.Table.{Table}
 use Rattle.lent_tables.specs.Words.{field, put_field, put_place, places_in, put_places}
 use Rattle.lent_effects.specs.declared.AliasingEffect.{AliasingEffect as Head}
-use Rattle.lent_effects.specs.declared.AliasingEffect.TheVariants as Head
 use Rattle.lent_effects.specs.Records.{counted_places, captures_of, effect_with, one_place, two_places, reported, put_effect}
 use Rattle.lent_layout.specs.Layout.{one_run}
 

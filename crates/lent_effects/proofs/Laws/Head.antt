@@ -11,11 +11,10 @@ use Rattle.def_kinds.specs.declared.ValueKind.{ValueKind}
 use Rattle.def_kinds.specs.Kinds.{kind_at}
 use Rattle.def_effects.specs.declared.Place.{Place}
 use Rattle.def_effects.specs.declared.AliasingDiagnostic.{AliasingDiagnostic}
-use Rattle.def_effects.specs.Effects.{Freeze, Mutate, MutateConditionally, MutateTransitive, MutateTransitiveConditionally, Capture, Alias, MaybeAlias, Assign, Create, CreateFrom, ImmutableCapture, CreateFunction, MutateFrozen, MutateGlobal, Impure, Render, code_of}
+use Rattle.def_effects.specs.Effects.{code_of}
 use Rattle.lent_tables.specs.declared.Table.{Table}
 use Rattle.lent_tables.specs.Words.{field, place_in}
 use Rattle.lent_effects.specs.declared.AliasingEffect.{AliasingEffect as Head}
-use Rattle.lent_effects.specs.declared.AliasingEffect.TheVariants as Head
 use Rattle.lent_effects.specs.Records.{counted_places, effect_with, diagnostic, heads, head_in, effect_in}
 
 -- ---- numbers

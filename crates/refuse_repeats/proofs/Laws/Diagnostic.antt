@@ -1,13 +1,13 @@
--- Laws by which the searches of diagnostics before one meet the definitions. Assumes nothing.
-use Rattle.std.specs.Prelude.{ℕ, zero, suc, max, ◌+◌, ◌-◌, ◌≤◌, ◌<◌, ◌≡◌, refl, Bool, ◌&&◌, ◌||◌, eqb, Option, None, Some}
+-- Laws by which what the searches of diagnostics before one find is the definition. Assumes nothing.
+use Rattle.std.specs.Prelude.{ℕ, suc, ◌≤◌, ◌≡◌, refl, Bool, ◌&&◌, eqb, Option, None, Some}
 use Rattle.std.specs.List.{list_any, range_with_len}
-use Rattle.std.proofs.Common.{arith, add-one, ◌∙◌, ⊎_elim}
+use Rattle.std.proofs.Common.{arith, ◌∙◌, ⊎_elim}
 use Rattle.std.proofs.Math.Path.{sym, ap, ap₂}
 use Rattle.std.proofs.Math.Bool.{true, false, not}
 use mathlib.Core.List.{List, [], ◌∷◌}
 use borrow.Author.Tests.{eq-eqb, ne_eqb}
 use Rattle.def_effects.specs.declared.Diagnostic.{Diagnostic}
-use Rattle.def_transfer.specs.Diagnostics.{same_identity, same_labels}
+use Rattle.def_transfer.specs.Diagnostics.{same_labels}
 use Rattle.base_tests.specs.Tests.{is_some}
 use Rattle.def_transfer.specs.Pure.{Interned, identities, find_identity, find_instance}
 use Rattle.lent_tables.specs.Words.{field}
@@ -18,51 +18,6 @@ use Rattle.lent_diagnostics.specs.Numbered.{interned_of}
 use Rattle.base_tests.proofs.Laws.Bool.{or_first, or_second}
 use Rattle.base_tests.proofs.Laws.Order.{same_or_not}
 use Rattle.refuse_repeats.specs.Repeats.{number_or, right_identity, diagnostic_twice}
-
--- the diagnostics that are left, with one to look at
-diagnostics_more : (c : List ℕ) (k n : ℕ) → k < n → diagnostics_in c k (n - k) ≡ diagnostic_in c k ∷ diagnostics_in c (k + 1) (n - (k + 1))
-unfolding diagnostics_in
-diagnostics_more c k n h =
-    let m : n - k ≡ suc (n - (k + 1)) = omega arith in
-    ap (diagnostics_in c k) m ∙ ap (λ (z : ℕ). diagnostic_in c k ∷ diagnostics_in c z (n - (k + 1))) (sym (add-one k))
-
--- the diagnostics that are left when none is
--- the loop's end
-diagnostics_none : (c : List ℕ) (k n : ℕ) → n ≤ k → diagnostics_in c k (n - k) ≡ []
-unfolding diagnostics_in
-diagnostics_none c k n h =
-    let m : n - k ≡ 0 = omega arith in
-    ap (diagnostics_in c k) m
-
--- a loop begins with all n
-diagnostics_all : (c : List ℕ) (n : ℕ) → diagnostics_in c 0 n ≡ diagnostics_in c 0 (n - 0)
-diagnostics_all c n =
-    let a : n ≡ n - 0 = omega arith in
-    ap (diagnostics_in c 0) a
-
--- the last of n diagnostics is counted
--- the loop's end is the whole
-pub identities_end : (c : List ℕ) (k n most : ℕ) → n ≤ k → max 0 (identities (diagnostics_in c 0 (n - 0))) ≡ max most (identities (diagnostics_in c k (n - k))) → most ≡ identities (diagnostics_in c 0 n)
-unfolding identities
-identities_end c k n most l inv =
-    let z : identities (diagnostics_in c k (n - k)) ≡ 0 = ap identities (diagnostics_none c k n l) in
-    let y : identities (diagnostics_in c 0 n) ≡ identities (diagnostics_in c 0 (n - 0)) = ap identities (diagnostics_all c n) in
-    omega arith
-
-module _ (c : List ℕ) (d : Diagnostic) (k n : ℕ) (inv : find_identity (diagnostics_in c 0 (n - 0)) d ≡ find_identity (diagnostics_in c k (n - k)) d) where
-  -- the search ends at record k
-  pub identity_found : (x : Numbered) (b : Bool) → k < n → interned_of x ≡ diagnostic_in c k → b ≡ same_identity d x.diagnostic → b ≡ true → Some x.identity ≡ find_identity (diagnostics_in c 0 n) d
-  unfolding find_identity
-  identity_found x b l g h z =
-      ap (λ (y : Interned). Some y.identity) g
-      ∙ sym (ap (λ (ds : List Interned). find_identity ds d) (diagnostics_all c n) ∙ inv ∙ ap (λ (ds : List Interned). find_identity ds d) (diagnostics_more c k n l)
-      ∙ ap (λ (t : Bool). elim t as (λ x. Option ℕ) [ true ↦ Some (diagnostic_in c k).identity | false ↦ find_identity (diagnostics_in c (k + 1) (n - (k + 1))) d ])
-      (ap (λ (y : Interned). same_identity d y.diagnostic) (sym g) ∙ sym h ∙ z))
-
-  -- the search ends without a record
-  pub identity_nowhere : n ≤ k → None ≡ find_identity (diagnostics_in c 0 n) d
-  unfolding find_identity
-  identity_nowhere l = sym (ap (λ (ds : List Interned). find_identity ds d) (diagnostics_all c n) ∙ inv ∙ ap (λ (ds : List Interned). find_identity ds d) (diagnostics_none c k n l))
 
 module _ (c : List ℕ) (n : ℕ) (d : Diagnostic) (o : Option ℕ) (h : o ≡ find_identity (diagnostics_in c 0 n) d) where
   -- no message is equal
@@ -75,25 +30,10 @@ module _ (c : List ℕ) (n : ℕ) (d : Diagnostic) (o : Option ℕ) (h : o ≡ f
   unfolding right_identity
   right_found x e = ap (number_or (identities (diagnostics_in c 0 n))) (sym e ∙ h)
 
-module _ (c : List ℕ) (m : ℕ) (d : Diagnostic) where
-  -- whether a record is the instance
-  -- the definition's test
-  abbrev pub is_instance : Interned → Bool
-  is_instance x = eqb m x.identity && same_labels d x.diagnostic
-
-  -- a search of the places of the records finds one where the look-up does
-  instance_from : (n a i : ℕ) → list_any (λ k. is_instance (diagnostic_in c k)) (range_with_len a n) ≡ is_some (find_instance i (diagnostics_in c a n) m d)
-  unfolding find_instance diagnostics_in
-  instance_from zero a i = refl
-  instance_from (suc n) a i = go (is_instance (diagnostic_in c a)) (ap (λ (z : ℕ). list_any (λ k. is_instance (diagnostic_in c k)) (range_with_len z n)) (add-one a) ∙ instance_from n (suc a) (suc i))
-    where
-      go : (b : Bool) → list_any (λ k. is_instance (diagnostic_in c k)) (range_with_len (a + 1) n) ≡ is_some (find_instance (suc i) (diagnostics_in c (suc a) n) m d)
-          → (b || list_any (λ k. is_instance (diagnostic_in c k)) (range_with_len (a + 1) n)) ≡ is_some (elim b as (λ x. Option ℕ) [ true ↦ Some i | false ↦ find_instance (suc i) (diagnostics_in c (suc a) n) m d ])
-      go true h = refl
-      go false h = h
-
-  pub instance_is : (n : ℕ) → list_any (λ k. is_instance (diagnostic_in c k)) (range_with_len 0 n) ≡ is_some (find_instance 0 (diagnostics_in c 0 n) m d)
-  instance_is n = instance_from n 0 0
+-- the library's test is the definitions'
+some_is : (o : Option ℕ) → Rattle.std.specs.Option.is_some o ≡ is_some o
+some_is None = refl
+some_is (Some a) = refl
 
 -- an identity that is not below those of some records is none of theirs
 none_yet : (i : ℕ) (ds : List Interned) (n : ℕ) (d : Diagnostic) → identities ds ≤ n → find_instance i ds n d ≡ None
@@ -150,5 +90,5 @@ module _ (c : List ℕ) (k : ℕ) (x : Numbered) (g : interned_of x ≡ diagnost
     pub diagnostic_other : (x.identity ≡ m → ⊥) → true ≡ diagnostic_twice c k
     diagnostic_other n = diagnostic_wrong m (right_found c k x.diagnostic o h m e) n
 
-    pub diagnostic_same : (r : Bool) → x.identity ≡ m → r ≡ is_some (find_instance 0 (diagnostics_in c 0 k) x.identity x.diagnostic) → r ≡ diagnostic_twice c k
-    diagnostic_same r z q = diagnostic_right m r (right_found c k x.diagnostic o h m e) z q
+    pub diagnostic_same : (i : Option ℕ) (r : Bool) → x.identity ≡ m → i ≡ find_instance 0 (diagnostics_in c 0 k) x.identity x.diagnostic → r ≡ Rattle.std.specs.Option.is_some i → r ≡ diagnostic_twice c k
+    diagnostic_same i r z g q = diagnostic_right m r (right_found c k x.diagnostic o h m e) z (q ∙ some_is i ∙ ap is_some g)

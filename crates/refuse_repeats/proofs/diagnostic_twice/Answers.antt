@@ -11,4 +11,4 @@ returns-then-identity-m c = ap not (ne_eqb _ _ c.if-identity-m.true) ∙ diagnos
 
 pub returns-else-identity-m : goal.returns-else-identity-m
 returns-else-identity-m c =
-    diagnostic_same _ _ _ c.diagnostic_in-x.ensures _ _ c.identity_before.ensures c.in-Some.is _ c.if-identity-m.false c.instance_before.ensures
+    diagnostic_same _ _ _ c.diagnostic_in-x.ensures _ _ c.identity_before.ensures c.in-Some.is _ _ c.if-identity-m.false c.instance_before.ensures c.is_some.ensures

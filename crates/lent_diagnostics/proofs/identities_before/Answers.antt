@@ -1,7 +1,6 @@
 use mathlib.Core.Path.{refl, ◌∙◌}
-use Rattle.lent_diagnostics.proofs.Laws.Diagnostic.{identities_more}
-use Rattle.refuse_repeats.proofs.Laws.Diagnostic.{identities_end}
-use Rattle.refuse_repeats.proofs.identities_before.Goals as goal
+use Rattle.lent_diagnostics.proofs.Laws.Diagnostic.{identities_more, identities_end}
+use Rattle.lent_diagnostics.proofs.identities_before.Goals as goal
 
 pub loop-k-init : goal.loop-k-init
 loop-k-init c = refl
