@@ -46,13 +46,11 @@ pub fn apply_signature(
         values, sets, flag, context, session, candidates, lvalue, own, output, scratch64, scratch32,
     );
     clear_scratch(scratch64, scratch32);
-    match ran {
-        Ok(run) => Ok(Applied {
-            count: run.listed,
-            entries: run.entries,
-            session: run.session,
-            flag: run.flag,
-        }),
-        Err(refusal) => Err(refusal),
-    }
+    let run = ran?;
+    Ok(Applied {
+        count: run.listed,
+        entries: run.entries,
+        session: run.session,
+        flag: run.flag,
+    })
 }

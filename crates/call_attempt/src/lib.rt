@@ -122,8 +122,6 @@ pub fn attempt(
         output,
         run,
     };
-    match run_or_undo(&mut world, candidates, lvalue, own, scratch64, scratch32) {
-        Ok(()) => Ok(world.run),
-        Err(refusal) => Err(refusal),
-    }
+    run_or_undo(&mut world, candidates, lvalue, own, scratch64, scratch32)?;
+    Ok(world.run)
 }

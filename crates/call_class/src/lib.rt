@@ -15,7 +15,7 @@ use lent_layout::{EFFECT_WORDS, FUNCTION_COUNT, OUTPUT_WORDS, SAVED_WORDS};
 use lent_slices::get_or;
 use refuse_class::lower;
 use refuse_context::context_class;
-use refuse_instruction::instruction_class;
+use refuse_instruction::{Counts, instruction_class};
 use refuse_state::{state_refusal, wrong_lengths};
 
 // Whether a lent list has the wrong length, those of the state apart.
@@ -49,26 +49,17 @@ fn lent_class(
     candidates: &[u32],
     lvalue: Place,
     own: u32,
-    identifiers: u32,
-    functions: u32,
+    counts: Counts,
 ) -> Verdict
     ensures { class_of result
-        ≡ instruction_class identifiers functions context.now candidates.now
+        ≡ instruction_class counts.identifiers counts.functions context.now candidates.now
         (length candidates.now / Layout.effect_words) lvalue own }
 {
     let n = candidates.len() / EFFECT_WORDS;
     if n > 64 {
         return Err(Refusal::Count);
     }
-    instruction_class(
-        context,
-        candidates,
-        n as u32,
-        lvalue,
-        own,
-        identifiers,
-        functions,
-    )
+    instruction_class(context, candidates, n as u32, lvalue, own, counts)
 }
 
 // The lowest that anything lent earns: lengths, then state and session, context, instruction.
@@ -99,7 +90,11 @@ pub fn call_class(
     let state = state_refusal(values, sets, session.next, session.access);
     let identifiers = (sets.len() / 16) as u32;
     let functions = get_or(context, FUNCTION_COUNT, 0);
-    let tables = context_class(context, identifiers, functions, session.next);
-    let instruction = lent_class(context, candidates, lvalue, own, identifiers, functions);
+    let counts = Counts {
+        identifiers,
+        functions,
+    };
+    let tables = context_class(context, counts, session.next);
+    let instruction = lent_class(context, candidates, lvalue, own, counts);
     lower(state, lower(tables, instruction))
 }

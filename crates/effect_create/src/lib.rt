@@ -28,12 +28,7 @@ use lent_world::World;
 pub fn primary_reason(s: u32) -> u32
     ensures { result ≡ Reasons.primary_reason s }
 {
-    for n in 0u32..11 {
-        if has_reason(s, n) {
-            return n;
-        }
-    }
-    11
+    (0..11).find(|&n| has_reason(s, n)).unwrap_or(11)
 }
 
 // A Create: its place begins, gets a number and the kind with that one reason, and the effect is listed.

@@ -34,19 +34,10 @@ pub fn plain(world: &mut World, e: AliasingEffect) -> Verdict
             capturing_immutably(world, from, into);
             Ok(())
         }
-        AliasingEffect::MutateFrozen { place: _, error: _ } => {
-            emit(world, e, &[]);
-            Ok(())
-        }
-        AliasingEffect::MutateGlobal { place: _, error: _ } => {
-            emit(world, e, &[]);
-            Ok(())
-        }
-        AliasingEffect::Impure { place: _, error: _ } => {
-            emit(world, e, &[]);
-            Ok(())
-        }
-        AliasingEffect::Render { place: _ } => {
+        AliasingEffect::MutateFrozen { .. }
+        | AliasingEffect::MutateGlobal { .. }
+        | AliasingEffect::Impure { .. }
+        | AliasingEffect::Render { .. } => {
             emit(world, e, &[]);
             Ok(())
         }

@@ -17,12 +17,11 @@ const IN_SENTENCE_ORDER: [u32; 10] = [7, 8, 3, 0, 10, 1, 2, 4, 5, 6];
 pub fn get_write_error_reason(s: u32) -> u32
     ensures { result ≡ Reasons.get_write_error_reason s }
 {
-    for k in 0..10 {
-        if has_reason(s, IN_SENTENCE_ORDER[k as usize]) {
-            return k;
-        }
-    }
-    10
+    let k = IN_SENTENCE_ORDER
+        .iter()
+        .position(|&r| has_reason(s, r))
+        .unwrap_or(10);
+    k as u32
 }
 
 // The diagnostic of a value that cannot be modified: message case 0, its one label the place's own span.

@@ -15,6 +15,6 @@ pub fn lower(a: Verdict, b: Verdict) -> Verdict
     match (a, b) {
         (Ok(()), _) => b,
         (Err(_), Ok(())) => a,
-        (Err(x), Err(y)) => if y.number() < x.number() { b } else { a },
+        (Err(x), Err(y)) => Err(x.min(y)),
     }
 }

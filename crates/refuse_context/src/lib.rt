@@ -15,6 +15,7 @@ use lent_layout::{
 use lent_links::{interned_count, key_count};
 use lent_slices::get_or;
 use refuse_class::lower;
+use refuse_instruction::Counts;
 use refuse_key_order::key_order_class;
 use refuse_order::order_class;
 use refuse_records::{
@@ -36,11 +37,11 @@ fn identifiers_class(context: &[u32], identifiers: u32) -> Verdict
 
 // What the functions with their context places earn.
 // Two tables of one number of records.
-fn functions_class(context: &[u32], identifiers: u32, functions: u32) -> Verdict
-    ensures { class_of result ≡ functions_class identifiers functions context.now }
+fn functions_class(context: &[u32], counts: Counts) -> Verdict
+    ensures { class_of result ≡ functions_class counts.identifiers counts.functions context.now }
 {
-    let n = functions as usize;
-    let records = function_records(context, n, identifiers);
+    let n = counts.functions as usize;
+    let records = function_records(context, n, counts.identifiers);
     let after = stray_after(FUNCTIONS, context, n);
     lower(records, lower(after, stray_after(CONTEXTS, context, n)))
 }
@@ -65,12 +66,12 @@ fn links_class(context: &[u32], functions: u32, next: u32) -> Verdict
 
 // What the keys of numbers below next earn, and their order.
 // A key of another number is a word without use.
-fn keys_class(context: &[u32], identifiers: u32, functions: u32, next: u32) -> Verdict
-    ensures { class_of result ≡ keys_class identifiers functions context.now next }
+fn keys_class(context: &[u32], counts: Counts, next: u32) -> Verdict
+    ensures { class_of result ≡ keys_class counts.identifiers counts.functions context.now next }
 {
     let m = handed_out(next);
     let n = m as usize;
-    let records = key_records(context, n, identifiers, functions);
+    let records = key_records(context, n, counts);
     let after = stray_after(CACHED, context, n);
     lower(records, lower(after, key_order_class(context, m)))
 }
@@ -85,11 +86,11 @@ fn diagnostics_class(context: &[u32], identifiers: u32) -> Verdict
 }
 
 // What the interned effects and their order earn.
-fn effects_class(context: &[u32], identifiers: u32, functions: u32) -> Verdict
-    ensures { class_of result ≡ effects_class identifiers functions context.now }
+fn effects_class(context: &[u32], counts: Counts) -> Verdict
+    ensures { class_of result ≡ effects_class counts.identifiers counts.functions context.now }
 {
     let n = interned_count(context) as usize;
-    let records = effect_records(context, n, identifiers, functions);
+    let records = effect_records(context, n, counts);
     let after = stray_after(INTERNED, context, n);
     lower(records, lower(after, order_class(context)))
 }
@@ -99,12 +100,12 @@ fn effects_class(context: &[u32], identifiers: u32, functions: u32) -> Verdict
 // Whether a count is above its limit, or is not what the call says.
 // 512 identifiers at most are the state's own limit; 64 functions, 2,048 interned effects, 256 diagnostics, 511 cached keys.
 #[tactic(auto, unfolding(refuse_records::specs::Accepting::counts_wrong))]
-fn counts_wrong(context: &[u32], identifiers: u32, functions: u32) -> bool
-    ensures { result ≡ counts_wrong identifiers functions context.now }
+fn counts_wrong(context: &[u32], counts: Counts) -> bool
+    ensures { result ≡ counts_wrong counts.identifiers counts.functions context.now }
 {
-    get_or(context, IDENTIFIER_COUNT, 0) != identifiers
-        || get_or(context, FUNCTION_COUNT, 0) != functions
-        || functions > 64
+    get_or(context, IDENTIFIER_COUNT, 0) != counts.identifiers
+        || get_or(context, FUNCTION_COUNT, 0) != counts.functions
+        || counts.functions > 64
         || interned_count(context) > 2048
         || instance_count(context) > 256
         || key_count(context) > 511
@@ -112,16 +113,16 @@ fn counts_wrong(context: &[u32], identifiers: u32, functions: u32) -> bool
 
 // What the options and all tables earn.
 // Two options, so below 4.
-fn tables_class(context: &[u32], identifiers: u32, functions: u32, next: u32) -> Verdict
-    ensures { class_of result ≡ tables_class identifiers functions context.now next }
+fn tables_class(context: &[u32], counts: Counts, next: u32) -> Verdict
+    ensures { class_of result ≡ tables_class counts.identifiers counts.functions context.now next }
 {
     let options = word_class(Some(4), get_or(context, OPTIONS, 0));
-    let names = identifiers_class(context, identifiers);
-    let bodies = functions_class(context, identifiers, functions);
-    let links = links_class(context, functions, next);
-    let keys = keys_class(context, identifiers, functions, next);
-    let messages = diagnostics_class(context, identifiers);
-    let effects = effects_class(context, identifiers, functions);
+    let names = identifiers_class(context, counts.identifiers);
+    let bodies = functions_class(context, counts);
+    let links = links_class(context, counts.functions, next);
+    let keys = keys_class(context, counts, next);
+    let messages = diagnostics_class(context, counts.identifiers);
+    let effects = effects_class(context, counts);
     lower(
         options,
         lower(
@@ -133,11 +134,11 @@ fn tables_class(context: &[u32], identifiers: u32, functions: u32, next: u32) ->
 
 // What a context earns, for the next number.
 // A count is tested before the records are gone through.
-pub fn context_class(context: &[u32], identifiers: u32, functions: u32, next: u32) -> Verdict
-    ensures { class_of result ≡ context_class identifiers functions context.now next }
+pub fn context_class(context: &[u32], counts: Counts, next: u32) -> Verdict
+    ensures { class_of result ≡ context_class counts.identifiers counts.functions context.now next }
 {
-    if counts_wrong(context, identifiers, functions) {
+    if counts_wrong(context, counts) {
         return Err(Refusal::Count);
     }
-    tables_class(context, identifiers, functions, next)
+    tables_class(context, counts, next)
 }

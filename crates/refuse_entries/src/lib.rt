@@ -1,7 +1,7 @@
 // Refusals 3 and 4 of a single word of values, a single row of sets, and the numbers beside them; the definition of a state's refusal.
 #![tactic(auto)]
 
-ghost use Rattle.std.specs.Prelude.{◌≡◌, not, ltb};
+ghost use Rattle.std.specs.Prelude.{◌≡◌, not};
 ghost use Rattle.def_kinds.specs.Reasons.{are_reasons};
 ghost use Rattle.def_transfer.specs.Accepted.{not_anumber, not_yet_handed_out};
 ghost use Rattle.refuse_entries.specs.Words.{word_out_of_range, word_unfit, next_out_of_range, access_out_of_range};
@@ -11,10 +11,10 @@ use def_kinds::are_reasons;
 // Whether v is no value number: 0, or 512 + i where identifier i is not in the list of n.
 // Entries, members and arguments of calls are tested by it.
 #[tactic(auto, unfolding(def_transfer::specs::Accepted::not_anumber))]
-pub fn number_out_of_range(v: u32, n: u32) -> bool
+pub fn number_out_of_range(v: u32, n: usize) -> bool
     ensures { result ≡ not_anumber n v }
 {
-    v == 0 || (v as usize) >= 512 + (n as usize)
+    v == 0 || (v as usize) >= n.saturating_add(512)
 }
 
 // Whether v is a fresh number that is not below next.
@@ -24,14 +24,6 @@ pub fn number_too_new(v: u32, next: u32) -> bool
     ensures { result ≡ not_yet_handed_out next v }
 {
     v < 512 && v >= next
-}
-
-// Whether identifier i is not in the list of n.
-// Arguments of calls are tested by it.
-pub fn identifier_out_of_range(i: u32, n: u32) -> bool
-    ensures { result ≡ not (ltb i n) }
-{
-    i >= n
 }
 
 // Whether a word is no set of reasons.
@@ -49,7 +41,7 @@ fn reasons_out_of_range(y: u64) -> bool
 pub fn value_out_of_range(x: u64, v: u32, n: u32) -> bool
     ensures { result ≡ word_out_of_range n v x }
 {
-    x % 8 != 0 && (number_out_of_range(v, n) || x % 8 == 7 || reasons_out_of_range(x / 8))
+    x % 8 != 0 && (number_out_of_range(v, n as usize) || x % 8 == 7 || reasons_out_of_range(x / 8))
 }
 
 // Whether the word x at value number v earns 4: an entry at a number not handed out yet, or no entry and a word that is not zero.

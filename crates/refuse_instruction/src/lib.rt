@@ -21,6 +21,22 @@ use refuse_words::{
     ANY, earns, lowest, place_limit, record_class, run_limit, stray_from, used_if, word_class,
 };
 
+// How many identifiers and functions a state and its context have: what the numbers of both lie below.
+#[derive(Clone, Copy)]
+pub struct Counts {
+    pub identifiers: u32,
+    pub functions: u32,
+}
+
+// What the limits of an effect's words go by: the counts, its code, and its count of captures.
+#[derive(Clone, Copy)]
+struct Measures {
+    counts: Counts,
+    diagnostics: u32,
+    code: u32,
+    captures: u32,
+}
+
 // Whether an effect of a code uses a place that is no destination.
 // Create and CreateFunction have none, and of an Apply nothing is used.
 #[tactic(auto, using(crate::proofs::Laws::Use::uses_past, crate::proofs::Laws::Use::place_create, crate::proofs::Laws::Use::place_apply, crate::proofs::Laws::Use::place_function, crate::proofs::Laws::Use::place_other))]
@@ -60,16 +76,17 @@ fn uses_diagnostic(code: u32) -> bool
 // Kind, reason, mutation reason, function, identity, instance, count of captures.
 // Kinds, mutation reasons, functions and captures belong to one effect each.
 #[tactic(auto, using(crate::proofs::Laws::Use::only_kind, crate::proofs::Laws::Use::only_mutation, crate::proofs::Laws::Use::only_function, crate::proofs::Laws::Use::only_captures), unfolding(crate::specs::EffectClasses::middle_limit))]
-fn middle_limit(functions: u32, diagnostics: u32, code: u32, w: usize) -> Option<u64>
-    ensures { result ≡ middle_limit functions diagnostics code w }
+fn middle_limit(by: Measures, w: usize) -> Option<u64>
+    ensures { result ≡ middle_limit by.counts.functions by.diagnostics by.code w }
 {
+    let code = by.code;
     match w {
         0 => used_if(code == 9, Some(6)),
         1 => used_if(uses_reason(code), Some(12)),
         2 => used_if(code == 1, Some(2)),
-        3 => used_if(code == 13, Some(functions as u64)),
+        3 => used_if(code == 13, Some(by.counts.functions as u64)),
         4 => used_if(uses_diagnostic(code), Some(256)),
-        5 => used_if(uses_diagnostic(code), Some(diagnostics as u64)),
+        5 => used_if(uses_diagnostic(code), Some(by.diagnostics as u64)),
         6 => used_if(code == 13, ANY),
         _ => None,
     }
@@ -78,51 +95,24 @@ fn middle_limit(functions: u32, diagnostics: u32, code: u32, w: usize) -> Option
 // What word w of an effect's record has to lie below, by its code and its count of captures.
 // Most words are those of captures.
 #[tactic(auto, using(crate::proofs::Laws::Use::only_captures), unfolding(crate::specs::EffectClasses::effect_limit))]
-fn effect_limit(
-    identifiers: u32,
-    functions: u32,
-    diagnostics: u32,
-    code: u32,
-    n: u32,
-    w: usize,
-) -> Option<u64>
-    ensures { result ≡ effect_limit identifiers functions diagnostics code n w }
+fn effect_limit(by: Measures, w: usize) -> Option<u64>
+    ensures { result
+        ≡ effect_limit by.counts.identifiers by.counts.functions by.diagnostics by.code by.captures w }
 {
+    let identifiers = by.counts.identifiers;
     if w >= 18 {
-        return used_if(code == 13, run_limit(identifiers, n, w - 18));
+        return used_if(by.code == 13, run_limit(identifiers, by.captures, w - 18));
     }
     if w == 0 {
         return Some(18);
     }
     if w < 6 {
-        return used_if(uses_place(code), place_limit(identifiers, w - 1));
+        return used_if(uses_place(by.code), place_limit(identifiers, w - 1));
     }
     if w < 11 {
-        return used_if(uses_destination(code), place_limit(identifiers, w - 6));
+        return used_if(uses_destination(by.code), place_limit(identifiers, w - 6));
     }
-    middle_limit(functions, diagnostics, code, w - 11)
-}
-
-// What the words of an effect's record earn, each by its limit.
-// Code and count of captures are those of the record.
-fn all_words(
-    t: Table,
-    xs: &[u32],
-    i: usize,
-    identifiers: u32,
-    functions: u32,
-    diagnostics: u32,
-    code: u32,
-    n: u32,
-) -> Verdict
-    ensures { class_of result ≡ record_class t xs.now (effect_limit identifiers functions diagnostics code n) i }
-{
-    record_class(
-        t,
-        xs,
-        i,
-        |w| effect_limit(identifiers, functions, diagnostics, code, n, w),
-    )
+    middle_limit(by, w - 11)
 }
 
 // What a place of five words earns, from word `first` of record i on; u is whether it is used.
@@ -148,44 +138,17 @@ fn place_words(t: Table, xs: &[u32], i: usize, first: u32, u: bool, identifiers:
 }
 
 // What the seven words after both places earn.
-fn middle_words(
-    t: Table,
-    xs: &[u32],
-    i: usize,
-    functions: u32,
-    diagnostics: u32,
-    code: u32,
-) -> Verdict
-    ensures { class_of result ≡ lowest_below 7 (middle_word t xs.now i functions diagnostics code) }
+fn middle_words(t: Table, xs: &[u32], i: usize, by: Measures) -> Verdict
+    ensures { class_of result
+        ≡ lowest_below 7 (middle_word t xs.now i by.counts.functions by.diagnostics by.code) }
 {
-    let kind = word_class(
-        middle_limit(functions, diagnostics, code, 0),
-        t.field(xs, i, 11),
-    );
-    let reason = word_class(
-        middle_limit(functions, diagnostics, code, 1),
-        t.field(xs, i, 12),
-    );
-    let mutation = word_class(
-        middle_limit(functions, diagnostics, code, 2),
-        t.field(xs, i, 13),
-    );
-    let function = word_class(
-        middle_limit(functions, diagnostics, code, 3),
-        t.field(xs, i, 14),
-    );
-    let identity = word_class(
-        middle_limit(functions, diagnostics, code, 4),
-        t.field(xs, i, 15),
-    );
-    let instance = word_class(
-        middle_limit(functions, diagnostics, code, 5),
-        t.field(xs, i, 16),
-    );
-    let count = word_class(
-        middle_limit(functions, diagnostics, code, 6),
-        t.field(xs, i, 17),
-    );
+    let kind = word_class(middle_limit(by, 0), t.field(xs, i, 11));
+    let reason = word_class(middle_limit(by, 1), t.field(xs, i, 12));
+    let mutation = word_class(middle_limit(by, 2), t.field(xs, i, 13));
+    let function = word_class(middle_limit(by, 3), t.field(xs, i, 14));
+    let identity = word_class(middle_limit(by, 4), t.field(xs, i, 15));
+    let instance = word_class(middle_limit(by, 5), t.field(xs, i, 16));
+    let count = word_class(middle_limit(by, 6), t.field(xs, i, 17));
     lower(
         kind,
         lower(
@@ -199,43 +162,30 @@ fn middle_words(
 }
 
 // What the first 18 words earn, those before the captures: the code, two places, and what stands after them.
-fn head_words(
-    t: Table,
-    xs: &[u32],
-    i: usize,
-    identifiers: u32,
-    functions: u32,
-    diagnostics: u32,
-    code: u32,
-    n: u32,
-) -> Verdict
-    ensures { class_of result ≡ words_below t xs.now (effect_limit identifiers functions diagnostics code n) i 18 }
+fn head_words(t: Table, xs: &[u32], i: usize, by: Measures) -> Verdict
+    ensures { class_of result
+        ≡ words_below t xs.now
+        (effect_limit by.counts.identifiers by.counts.functions by.diagnostics by.code by.captures) i 18 }
 {
+    let identifiers = by.counts.identifiers;
     let tag = word_class(Some(18), t.field(xs, i, 0));
-    let first = place_words(t, xs, i, 1, uses_place(code), identifiers);
-    let second = place_words(t, xs, i, 6, uses_destination(code), identifiers);
-    let rest = middle_words(t, xs, i, functions, diagnostics, code);
+    let first = place_words(t, xs, i, 1, uses_place(by.code), identifiers);
+    let second = place_words(t, xs, i, 6, uses_destination(by.code), identifiers);
+    let rest = middle_words(t, xs, i, by);
     lower(tag, lower(first, lower(second, rest)))
 }
 
 // What the words of an effect's record earn. Only a CreateFunction has captures;
 // of any other effect the 80 words of captures have no use, and are tested at once.
-fn effect_words(
-    t: Table,
-    xs: &[u32],
-    i: usize,
-    identifiers: u32,
-    functions: u32,
-    diagnostics: u32,
-    code: u32,
-    n: u32,
-) -> Verdict
-    ensures { class_of result ≡ record_class t xs.now (effect_limit identifiers functions diagnostics code n) i }
+fn effect_words(t: Table, xs: &[u32], i: usize, by: Measures) -> Verdict
+    ensures { class_of result
+        ≡ record_class t xs.now
+        (effect_limit by.counts.identifiers by.counts.functions by.diagnostics by.code by.captures) i }
 {
-    if code == 13 || t.width != 98 || i >= (t.count as usize) {
-        return all_words(t, xs, i, identifiers, functions, diagnostics, code, n);
+    if by.code == 13 || t.width != 98 || i >= (t.count as usize) {
+        return record_class(t, xs, i, |w| effect_limit(by, w));
     }
-    let head = head_words(t, xs, i, identifiers, functions, diagnostics, code, n);
+    let head = head_words(t, xs, i, by);
     let from = t.base as usize + i * EFFECT_WORDS + 18;
     lower(head, stray_from(xs, from, 80))
 }
@@ -269,47 +219,39 @@ pub fn effect_class(
     t: Table,
     xs: &[u32],
     i: usize,
-    identifiers: u32,
-    functions: u32,
+    counts: Counts,
 ) -> Verdict
-    ensures { class_of result ≡ effect_class identifiers functions context.now (class_of apply) t xs.now i }
+    ensures { class_of result
+        ≡ effect_class counts.identifiers counts.functions context.now (class_of apply) t xs.now i }
 {
     let code = t.field(xs, i, 0);
     if code == 12 {
         return apply;
     }
-    let n = t.field(xs, i, 17);
+    let captures = t.field(xs, i, 17);
     let diagnostics = instance_count(context);
-    let words = effect_words(t, xs, i, identifiers, functions, diagnostics, code, n);
+    let by = Measures {
+        counts,
+        diagnostics,
+        code,
+        captures,
+    };
+    let words = effect_words(t, xs, i, by);
     let numbers = numbers_class(context, code, t.field(xs, i, 15), t.field(xs, i, 16));
-    lower(count_class(code, n), lower(words, numbers))
+    lower(count_class(code, captures), lower(words, numbers))
 }
 
 // What the first n candidates earn.
 // "5 a candidate is Apply."
-fn candidates_class(
-    context: &[u32],
-    candidates: &[u32],
-    n: usize,
-    identifiers: u32,
-    functions: u32,
-) -> Verdict
+fn candidates_class(context: &[u32], candidates: &[u32], n: usize, counts: Counts) -> Verdict
     ensures { class_of result
         ≡ lowest_below n
-        (effect_class identifiers functions context.now 5 candidate_table candidates.now) }
+        (effect_class counts.identifiers counts.functions context.now 5 candidate_table candidates.now) }
 {
     let apply = Err(Refusal::Apply);
     lowest(
         n,
-        |k| effect_class(
-            context,
-            apply,
-            CANDIDATES,
-            candidates,
-            k,
-            identifiers,
-            functions,
-        ),
+        |k| effect_class(context, apply, CANDIDATES, candidates, k, counts),
     )
 }
 
@@ -340,17 +282,20 @@ pub fn instruction_class(
     count: u32,
     lvalue: Place,
     own: u32,
-    identifiers: u32,
-    functions: u32,
+    counts: Counts,
 ) -> Verdict
-    ensures { class_of result ≡ instruction_class identifiers functions context.now candidates.now count lvalue own }
+    ensures { class_of result
+        ≡ instruction_class counts.identifiers counts.functions context.now candidates.now count lvalue own }
 {
     if count > 64 {
         return Err(Refusal::Count);
     }
-    let tested = candidates_class(context, candidates, count as usize, identifiers, functions);
+    let tested = candidates_class(context, candidates, count as usize, counts);
     lower(
         tested,
-        lower(place_class(lvalue, identifiers), own_class(own, functions)),
+        lower(
+            place_class(lvalue, counts.identifiers),
+            own_class(own, counts.functions),
+        ),
     )
 }

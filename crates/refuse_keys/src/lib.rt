@@ -9,6 +9,7 @@ ghost use Rattle.refuse_tables.specs.TableClasses.{key_uses, key_head_limit, key
 use def_refusals::{Refusal, Verdict};
 use lent_layout::CACHED;
 use refuse_class::lower;
+use refuse_instruction::Counts;
 use refuse_words::{ANY, earns, record_class, used_if};
 
 // Whether a cached key of a code uses a source.
@@ -31,20 +32,20 @@ fn key_uses_destination(code: u32) -> bool
 // What a word before the captures of a cached key has to lie below, by its code.
 // The identity of a diagnostic has no use.
 #[tactic(auto, using(refuse_tables::proofs::Laws::KeyUse::only_kind, refuse_tables::proofs::Laws::KeyUse::only_function), unfolding(refuse_tables::specs::TableClasses::key_head_limit))]
-fn key_head_limit(identifiers: u32, functions: u32, code: u32, w: usize) -> Option<u64>
-    ensures { result ≡ key_head_limit identifiers functions code w }
+fn key_head_limit(counts: Counts, code: u32, w: usize) -> Option<u64>
+    ensures { result ≡ key_head_limit counts.identifiers counts.functions code w }
 {
     match w {
         0 => Some(2),
         1 => Some(20),
         2 => used_if(key_uses_source(code), Some(2)),
-        3 => used_if(key_uses_source(code), Some(identifiers as u64)),
+        3 => used_if(key_uses_source(code), Some(counts.identifiers as u64)),
         4 => used_if(key_uses_destination(code), Some(2)),
-        5 => used_if(key_uses_destination(code), Some(identifiers as u64)),
+        5 => used_if(key_uses_destination(code), Some(counts.identifiers as u64)),
         6 => used_if(code == 9, Some(6)),
         7 => used_if(code == 9, Some(12)),
         8 => used_if(code == 13, Some(2)),
-        9 => used_if(code == 13, Some(functions as u64)),
+        9 => used_if(code == 13, Some(counts.functions as u64)),
         11 => used_if(code == 13, ANY),
         _ => None,
     }
@@ -53,14 +54,14 @@ fn key_head_limit(identifiers: u32, functions: u32, code: u32, w: usize) -> Opti
 // What word w of a cached key has to lie below, by its code and its count of captures.
 // Twelve words, then sixteen captures.
 #[tactic(auto, using(refuse_tables::proofs::Laws::KeyUse::only_function), unfolding(refuse_tables::specs::TableClasses::key_limit))]
-fn key_limit(identifiers: u32, functions: u32, code: u32, n: u32, w: usize) -> Option<u64>
-    ensures { result ≡ key_limit identifiers functions code n w }
+fn key_limit(counts: Counts, code: u32, n: u32, w: usize) -> Option<u64>
+    ensures { result ≡ key_limit counts.identifiers counts.functions code n w }
 {
     if w < 12 {
-        return key_head_limit(identifiers, functions, code, w);
+        return key_head_limit(counts, code, w);
     }
     if w - 12 < (n as usize) {
-        return used_if(code == 13, Some(identifiers as u64));
+        return used_if(code == 13, Some(counts.identifiers as u64));
     }
     None
 }
@@ -87,20 +88,15 @@ fn key_lacks(code: u32, source: u32, destination: u32, function: u32) -> bool
 
 // What a cached key earns by its words, but for its count.
 // By each word, and by what its code needs.
-pub fn key_class(context: &[u32], v: usize, identifiers: u32, functions: u32) -> Verdict
-    ensures { class_of result ≡ key_class identifiers functions context.now v }
+pub fn key_class(context: &[u32], v: usize, counts: Counts) -> Verdict
+    ensures { class_of result ≡ key_class counts.identifiers counts.functions context.now v }
 {
     let code = CACHED.field(context, v, 1);
     let source = CACHED.field(context, v, 2);
     let destination = CACHED.field(context, v, 4);
     let function = CACHED.field(context, v, 8);
     let n = CACHED.field(context, v, 11);
-    let words = record_class(
-        CACHED,
-        context,
-        v,
-        |w| key_limit(identifiers, functions, code, n, w),
-    );
+    let words = record_class(CACHED, context, v, |w| key_limit(counts, code, n, w));
     let lacks = key_lacks(code, source, destination, function);
     lower(words, earns(Refusal::Range, lacks))
 }

@@ -9,7 +9,7 @@ ghost use Rattle.refuse_records.specs.Accepting.{too_many_captures, cached_class
 
 use def_refusals::{Refusal, Verdict};
 use lent_layout::{CACHED, INTERNED};
-use refuse_instruction::effect_class;
+use refuse_instruction::{Counts, effect_class};
 use refuse_keys::{key_class, no_key_class};
 use refuse_repeats::diagnostic_twice;
 use refuse_tables::{function_class, identifier_class, link_class, message_class};
@@ -26,8 +26,8 @@ fn too_many_captures(context: &[u32], v: usize) -> bool
 
 // What a cached number earns: no key at all, or one that is right.
 #[tactic(auto, unfolding(crate::specs::Accepting::cached_class))]
-fn cached_class(context: &[u32], v: usize, identifiers: u32, functions: u32) -> Verdict
-    ensures { class_of result ≡ cached_class identifiers functions context.now v }
+fn cached_class(context: &[u32], v: usize, counts: Counts) -> Verdict
+    ensures { class_of result ≡ cached_class counts.identifiers counts.functions context.now v }
 {
     if v == 0 || CACHED.field(context, v, 0) == 0 {
         return no_key_class(context, v);
@@ -35,7 +35,7 @@ fn cached_class(context: &[u32], v: usize, identifiers: u32, functions: u32) -> 
     if too_many_captures(context, v) {
         return Err(Refusal::Count);
     }
-    key_class(context, v, identifiers, functions)
+    key_class(context, v, counts)
 }
 
 // What a diagnostic earns: right, with the identity that it has to have, and no equal record before it.
@@ -49,18 +49,10 @@ fn diagnostic_class(context: &[u32], k: u32, identifiers: u32) -> Verdict
 
 // What an interned effect earns by its words.
 #[tactic(auto, unfolding(crate::specs::Accepting::interned_class))]
-fn interned_class(context: &[u32], k: usize, identifiers: u32, functions: u32) -> Verdict
-    ensures { class_of result ≡ interned_class identifiers functions context.now k }
+fn interned_class(context: &[u32], k: usize, counts: Counts) -> Verdict
+    ensures { class_of result ≡ interned_class counts.identifiers counts.functions context.now k }
 {
-    effect_class(
-        context,
-        Err(Refusal::Range),
-        INTERNED,
-        context,
-        k,
-        identifiers,
-        functions,
-    )
+    effect_class(context, Err(Refusal::Range), INTERNED, context, k, counts)
 }
 
 // What n identifiers earn.
@@ -87,10 +79,10 @@ pub fn link_records(context: &[u32], n: usize, functions: u32) -> Verdict
 
 // What the keys of n numbers earn.
 // From number 0 on.
-pub fn key_records(context: &[u32], n: usize, identifiers: u32, functions: u32) -> Verdict
-    ensures { class_of result ≡ lowest_below n (cached_class identifiers functions context.now) }
+pub fn key_records(context: &[u32], n: usize, counts: Counts) -> Verdict
+    ensures { class_of result ≡ lowest_below n (cached_class counts.identifiers counts.functions context.now) }
 {
-    lowest(n, |k| cached_class(context, k, identifiers, functions))
+    lowest(n, |k| cached_class(context, k, counts))
 }
 
 // What n diagnostics earn.
@@ -104,8 +96,8 @@ pub fn diagnostic_records(context: &[u32], n: u32, identifiers: u32) -> Verdict
 }
 
 // What n interned effects earn.
-pub fn effect_records(context: &[u32], n: usize, identifiers: u32, functions: u32) -> Verdict
-    ensures { class_of result ≡ lowest_below n (interned_class identifiers functions context.now) }
+pub fn effect_records(context: &[u32], n: usize, counts: Counts) -> Verdict
+    ensures { class_of result ≡ lowest_below n (interned_class counts.identifiers counts.functions context.now) }
 {
-    lowest(n, |k| interned_class(context, k, identifiers, functions))
+    lowest(n, |k| interned_class(context, k, counts))
 }

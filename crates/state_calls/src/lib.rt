@@ -11,6 +11,7 @@ ghost use Rattle.state_calls.specs.Calls.{worst, outside};
 use def_effects::{MutationResult, Session};
 use def_kinds::AbstractValue;
 use def_refusals::{Refusal, Verdict};
+use refuse_entries::number_out_of_range;
 
 // The answer of a call that asks for a kind: the kind, and the session after it.
 #[derive(Clone, Copy)]
@@ -52,9 +53,9 @@ pub fn outside(sets: &[u64], i: u32) -> bool
 
 // Whether v is no value number of the list.
 // Members and entries are value numbers.
-#[tactic(auto, using(refuse_entries::proofs::Laws::Word::number_zero, refuse_entries::proofs::Laws::Word::number_other), unfolding(refuse_entries::specs::Words::identifiers))]
+#[tactic(auto, unfolding(refuse_entries::specs::Words::identifiers))]
 pub fn no_number(sets: &[u64], v: u32) -> bool
     ensures { result ≡ not_anumber (identifiers sets.now) v }
 {
-    v == 0 || (v as usize) >= 512 + sets.len() / 16
+    number_out_of_range(v, sets.len() / 16)
 }

@@ -9,6 +9,7 @@ use def_effects::{Place, Session, Span};
 use def_refusals::Refusal;
 use lent_slices::get_or;
 use refuse_context::context_class;
+use refuse_instruction::Counts;
 use std::io::Read;
 use std::rt::Runtime;
 use std::{fs, io};
@@ -149,9 +150,11 @@ fn same_keys(job: &mut Reading, context: &[u32]) {
 // Whether a context that is left after a job would be accepted by another call.
 // Not asked where it was compared whole: that of a refused call may be as wrong as it was lent.
 fn left_accepted(context: &[u32], limit: u32, next: u32) -> bool {
-    let identifiers = get_or(context, 1, 0);
-    let functions = get_or(context, 2, 0);
-    limit >= 238534 || context_class(context, identifiers, functions, next).is_ok()
+    let counts = Counts {
+        identifiers: get_or(context, 1, 0),
+        functions: get_or(context, 2, 0),
+    };
+    limit >= 238534 || context_class(context, counts, next).is_ok()
 }
 
 // ---- an instruction

@@ -1,6 +1,7 @@
 -- Laws by which the code of creations meets the definition. Assumes nothing.
-use Rattle.std.specs.Prelude.{ℕ, zero, suc, ◌+◌, ◌-◌, ◌≤◌, ◌<◌, ◌≡◌, refl, Bool, true, false, get_or}
+use Rattle.std.specs.Prelude.{ℕ, zero, suc, ◌-◌, ◌≤◌, ◌<◌, ◌≡◌, refl, Bool, true, false, get_or, Option, None, Some}
 use Rattle.std.proofs.Common.{arith, ◌∙◌}
+use Rattle.std.specs.Option.{MatchOption, unwrap_or}
 use Rattle.std.proofs.Math.Path.{sym, ap, ap₂}
 use mathlib.Core.List.{List, [], ◌∷◌}
 use Rattle.def_kinds.specs.declared.ValueKind.{ValueKind}
@@ -61,22 +62,23 @@ primary_next s n l =
     by true = refl
     by false = refl
 
--- the set has it
-pub primary_found : (s n : ℕ) (b : Bool) → primary_from s n ≡ primary_reason s → n < 11 → b ≡ has_reason s n → b ≡ true → n ≡ primary_reason s
-primary_found s n b a l e h = sym (ap (λ (x : Bool). elim x as (λ b. ℕ) [ true ↦ n | false ↦ primary_from s (suc n) ]) (sym e ∙ h)) ∙ sym (primary_next s n l) ∙ a
+module _ (s : ℕ) where
+  -- the set has none of the first k
+  walked : (k : ℕ) → k ≤ 11 → ((j : ℕ) → 0 ≤ j → j < k → has_reason s j ≡ false) → primary_from s k ≡ primary_reason s
+  walked zero l none = primary_start s
+  walked (suc k) l none =
+      sym (primary_next s k (omega arith) ∙ ap (λ (x : Bool). elim x as (λ b. ℕ) [ true ↦ k | false ↦ primary_from s (suc k) ]) (none k (omega arith) (omega arith)))
+      ∙ walked k (omega arith) (λ j z m. none j z (omega arith))
 
--- the set does not have it
-pub primary_more : (s n : ℕ) (b : Bool) → primary_from s n ≡ primary_reason s → n < 11 → b ≡ has_reason s n → b ≡ false → primary_from s (n + 1) ≡ primary_reason s
-primary_more s n b a l e h =
-    ap (primary_from s) (let z : n + 1 ≡ suc n = omega arith in z)
-    ∙ sym (ap (λ (x : Bool). elim x as (λ b. ℕ) [ true ↦ n | false ↦ primary_from s (suc n) ]) (sym e ∙ h)) ∙ sym (primary_next s n l) ∙ a
-
--- none is left
-pub primary_none : (s n : ℕ) → primary_from s n ≡ primary_reason s → 11 ≤ n → 11 ≡ primary_reason s
-unfolding primary_from up_from first_in
-primary_none s n a l =
-    let m : 0 ≡ 11 - n = omega arith in
-    ap (λ (y : ℕ). get_or (up_from n y) (first_in (up_from n y) s) 11) m ∙ a
+  -- what the search of the numbers below 11 finds
+  pub primary_is : (r : Option ℕ)
+      → MatchOption r ((k : ℕ) → 0 ≤ k → k < 11 → has_reason s k ≡ false) (λ i. (0 ≤ i) × (i < 11) × (has_reason s i ≡ true) × ((k : ℕ) → 0 ≤ k → k < i → has_reason s k ≡ false))
+      → unwrap_or r 11 ≡ primary_reason s
+  unfolding primary_from up_from first_in
+  primary_is None h = walked 11 (omega arith) h
+  primary_is (Some i) h =
+      sym (primary_next s i h.1 ∙ ap (λ (x : Bool). elim x as (λ b. ℕ) [ true ↦ i | false ↦ primary_from s (suc i) ]) h.2)
+      ∙ walked i (omega (arith, h.1)) h.3
 
 -- ---- a Create
 

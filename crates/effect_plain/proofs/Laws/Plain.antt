@@ -1,6 +1,6 @@
 -- A law for each variant: the step of an effect that derives no other. Assumes nothing.
-use Rattle.std.specs.Prelude.{ℕ, ◌≡◌, Bool, true, false, List}
-use Rattle.std.proofs.Common.{arith, ◌∙◌}
+use Rattle.std.specs.Prelude.{ℕ, ◌≡◌, ◌⊎◌, Bool, true, false, List}
+use Rattle.std.proofs.Common.{arith, inl, inr, ◌∙◌}
 use Rattle.std.proofs.Math.Path.{refl, sym, ap}
 use Rattle.def_kinds.specs.declared.ValueKind.{ValueKind}
 use Rattle.def_effects.specs.declared.Place.{Place}
@@ -11,7 +11,6 @@ use Rattle.def_transfer.specs.Tables.{World}
 use Rattle.def_transfer.specs.Context.{emit}
 use Rattle.def_transfer.specs.Step.{act, freezing, creating, capturing_immutably}
 use Rattle.lent_effects.specs.declared.AliasingEffect.{AliasingEffect as Head}
-use Rattle.lent_effects.specs.declared.AliasingEffect.TheVariants as Head
 use Rattle.lent_effects.specs.Records.{effect_with}
 use Rattle.lent_world.specs.World.{lent}
 use Rattle.effect_acts.specs.declared.Act.{Act}
@@ -45,21 +44,29 @@ module _ (e : Head) (cs : List Place) (w : World lent) where
   plain_immutable_capture a b h again = ap (λ (x : Head). act again (effect_with x cs) w) h
 
 module _ (e : Head) (cs ds : List Place) (w : World lent) where
-  pub plain_mutate_frozen : (p : Place) (d : AliasingDiagnostic) → e ≡ Head.MutateFrozen p d → (again : AliasingEffect → M (World lent) Done) → act again (effect_with e cs) w ≡ emit (effect_with e ds) w
+  plain_mutate_frozen : (p : Place) (d : AliasingDiagnostic) → e ≡ Head.MutateFrozen p d → (again : AliasingEffect → M (World lent) Done) → act again (effect_with e cs) w ≡ emit (effect_with e ds) w
   unfolding act effect_with
   plain_mutate_frozen p d h again = ap (λ (x : Head). act again (effect_with x cs) w) h ∙ sym (ap (λ (x : Head). emit (effect_with x ds) w) h)
 
-  pub plain_mutate_global : (p : Place) (d : AliasingDiagnostic) → e ≡ Head.MutateGlobal p d → (again : AliasingEffect → M (World lent) Done) → act again (effect_with e cs) w ≡ emit (effect_with e ds) w
+  plain_mutate_global : (p : Place) (d : AliasingDiagnostic) → e ≡ Head.MutateGlobal p d → (again : AliasingEffect → M (World lent) Done) → act again (effect_with e cs) w ≡ emit (effect_with e ds) w
   unfolding act effect_with
   plain_mutate_global p d h again = ap (λ (x : Head). act again (effect_with x cs) w) h ∙ sym (ap (λ (x : Head). emit (effect_with x ds) w) h)
 
-  pub plain_impure : (p : Place) (d : AliasingDiagnostic) → e ≡ Head.Impure p d → (again : AliasingEffect → M (World lent) Done) → act again (effect_with e cs) w ≡ emit (effect_with e ds) w
+  plain_impure : (p : Place) (d : AliasingDiagnostic) → e ≡ Head.Impure p d → (again : AliasingEffect → M (World lent) Done) → act again (effect_with e cs) w ≡ emit (effect_with e ds) w
   unfolding act effect_with
   plain_impure p d h again = ap (λ (x : Head). act again (effect_with x cs) w) h ∙ sym (ap (λ (x : Head). emit (effect_with x ds) w) h)
 
-  pub plain_render : (p : Place) → e ≡ Head.Render p → (again : AliasingEffect → M (World lent) Done) → act again (effect_with e cs) w ≡ emit (effect_with e ds) w
+  plain_render : (p : Place) → e ≡ Head.Render p → (again : AliasingEffect → M (World lent) Done) → act again (effect_with e cs) w ≡ emit (effect_with e ds) w
   unfolding act effect_with
   plain_render p h again = ap (λ (x : Head). act again (effect_with x cs) w) h ∙ sym (ap (λ (x : Head). emit (effect_with x ds) w) h)
+
+  -- the four that are only listed
+  pub plain_listed : ((p : Place) × (d : AliasingDiagnostic) × (e ≡ Head.MutateFrozen p d)) ⊎ (((p : Place) × (d : AliasingDiagnostic) × (e ≡ Head.MutateGlobal p d)) ⊎ (((p : Place) × (d : AliasingDiagnostic) × (e ≡ Head.Impure p d)) ⊎ ((p : Place) × (e ≡ Head.Render p))))
+      → (again : AliasingEffect → M (World lent) Done) → act again (effect_with e cs) w ≡ emit (effect_with e ds) w
+  plain_listed (inl h) = plain_mutate_frozen h.0 h.1 h.2
+  plain_listed (inr (inl h)) = plain_mutate_global h.0 h.1 h.2
+  plain_listed (inr (inr (inl h))) = plain_impure h.0 h.1 h.2
+  plain_listed (inr (inr (inr h))) = plain_render h.0 h.1
 
 -- no other effect is plain
 pub plain_only : (e : Head) → ((p : Place) (r : ℕ) → e ≡ Head.Freeze p r → ⊥) → ((a : Place) (k : ValueKind) (r : ℕ) → e ≡ Head.Create a k r → ⊥) → ((a b : Place) → e ≡ Head.ImmutableCapture a b → ⊥) → ((p : Place) (d : AliasingDiagnostic) → e ≡ Head.MutateFrozen p d → ⊥) → ((p : Place) (d : AliasingDiagnostic) → e ≡ Head.MutateGlobal p d → ⊥) → ((p : Place) (d : AliasingDiagnostic) → e ≡ Head.Impure p d → ⊥) → ((p : Place) → e ≡ Head.Render p → ⊥) → Plain ≡ act_of e → ⊥

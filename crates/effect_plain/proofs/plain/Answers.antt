@@ -1,5 +1,5 @@
 use Rattle.std.proofs.Common.{◌∙◌}
-use Rattle.effect_plain.proofs.Laws.Plain.{plain_freeze, plain_create, plain_immutable_capture, plain_mutate_frozen, plain_mutate_global, plain_impure, plain_render, plain_only}
+use Rattle.effect_plain.proofs.Laws.Plain.{plain_freeze, plain_create, plain_immutable_capture, plain_listed, plain_only}
 use Rattle.effect_plain.proofs.plain.Goals as goal
 
 pub returns-in-Freeze-clause-does : goal.returns-in-Freeze-clause-does
@@ -12,16 +12,7 @@ pub returns-in-ImmutableCapture-clause-does : goal.returns-in-ImmutableCapture-c
 returns-in-ImmutableCapture-clause-does c = λ z again. plain_immutable_capture _ _ _ _ _ c.in-ImmutableCapture.is again ∙ c.capturing_immutably.ensures.does again
 
 pub returns-in-MutateFrozen-clause-does : goal.returns-in-MutateFrozen-clause-does
-returns-in-MutateFrozen-clause-does c = λ z again. plain_mutate_frozen _ _ _ _ _ _ c.in-MutateFrozen.is again ∙ c.emit.ensures.does
-
-pub returns-in-MutateGlobal-clause-does : goal.returns-in-MutateGlobal-clause-does
-returns-in-MutateGlobal-clause-does c = λ z again. plain_mutate_global _ _ _ _ _ _ c.in-MutateGlobal.is again ∙ c.emit-in-MutateGlobal.ensures.does
-
-pub returns-in-Impure-clause-does : goal.returns-in-Impure-clause-does
-returns-in-Impure-clause-does c = λ z again. plain_impure _ _ _ _ _ _ c.in-Impure.is again ∙ c.emit-in-Impure.ensures.does
-
-pub returns-in-Render-clause-does : goal.returns-in-Render-clause-does
-returns-in-Render-clause-does c = λ z again. plain_render _ _ _ _ _ c.in-Render.is again ∙ c.emit-in-Render.ensures.does
+returns-in-MutateFrozen-clause-does c = λ z again. plain_listed _ _ _ _ c.in-MutateFrozen.is again ∙ c.emit.ensures.does
 
 pub returns-in_default-clause-does : goal.returns-in_default-clause-does
 returns-in_default-clause-does c = λ z again. absurd (plain_only _ c.in_default.not-Freeze c.in_default.not-Create c.in_default.not-ImmutableCapture c.in_default.not-MutateFrozen c.in_default.not-MutateGlobal c.in_default.not-Impure c.in_default.not-Render z)

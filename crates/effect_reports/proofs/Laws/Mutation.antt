@@ -1,12 +1,14 @@
 -- Laws by which the code of mutations meets the definition. Assumes nothing.
-use Prim.Native.Nat.{ℕ, suc, ◌+◌, ◌≤◌, ◌<◌}
+use Prim.Native.Nat.{ℕ, suc, ◌+◌, ◌<◌}
 use native.Mathlib.Omega.{arith}
-use Rattle.std.specs.Prelude.{◌≡◌, Bool, drop, get_or}
+use Rattle.std.specs.Prelude.{◌≡◌, Bool, length, Option}
+use Rattle.std.specs.Option.{MatchOption, unwrap_or}
+use Rattle.std.specs.List.{AllWithin, HoldsAt}
 use Rattle.std.proofs.Math.Path.{refl, sym, ap}
 use Rattle.std.proofs.Common.{◌∙◌}
 use Rattle.std.proofs.Math.Bool.{true, false}
-use mathlib.Core.List.{List}
-use Rattle.std.proofs.lemmas.List.{at_drop_more}
+use mathlib.Core.List.{List, ◌∷◌}
+use Rattle.std.proofs.lemmas.Iterator.{index_from_first}
 use Rattle.def_kinds.specs.declared.AbstractValue.{AbstractValue}
 use Rattle.def_kinds.specs.Kinds.{is_frozen}
 use Rattle.def_kinds.specs.Reasons.{has_reason, first_in, in_sentence_order, get_write_error_reason}
@@ -36,42 +38,25 @@ use Rattle.effect_reports.specs.Mutations.{access_label}
 
 -- ---- the sentence of a set of reasons
 
--- k reasons were asked for: the sentence is k more than the place in the rest
+-- the sentence is the place of the first reason that the set has
 module _ (s : ℕ) where
-  -- none was asked for yet
-  pub left_all : get_write_error_reason s ≡ 0 + first_in (drop 0 in_sentence_order) s
-  unfolding get_write_error_reason
-  left_all = let z : get_write_error_reason s ≡ first_in in_sentence_order s = refl in omega arith
+  first_here : (r : ℕ) (rs : List ℕ) → has_reason s r ≡ true → first_in (r ∷ rs) s ≡ 0
+  unfolding first_in
+  first_here r rs h = ap (λ (b : Bool). elim b as (λ x. ℕ) [ true ↦ 0 | false ↦ suc (first_in rs s) ]) h
 
-  module _ (k : ℕ) (l : get_write_error_reason s ≡ k + first_in (drop k in_sentence_order) s) where
-    module _ (h : k < 10) (b : Bool) (e : b ≡ has_reason s (get_or in_sentence_order k 0)) where
-      -- the reason that is asked for stands first in the rest
-      rest_is : first_in (drop k in_sentence_order) s ≡ elim b as (λ x. ℕ) [ true ↦ 0 | false ↦ suc (first_in (drop (k + 1) in_sentence_order) s) ]
-      unfolding first_in
-      rest_is =
-          at_drop_more (λ (rs : List ℕ). first_in rs s) in_sentence_order k 0 h
-          ∙ ap (λ (x : Bool). elim x as (λ y. ℕ) [ true ↦ 0 | false ↦ suc (first_in (drop (k + 1) in_sentence_order) s) ]) (sym e)
+  first_later : (r : ℕ) (rs : List ℕ) → has_reason s r ≡ false → first_in (r ∷ rs) s ≡ first_in rs s + 1
+  unfolding first_in
+  first_later r rs h =
+      ap (λ (b : Bool). elim b as (λ x. ℕ) [ true ↦ 0 | false ↦ suc (first_in rs s) ]) h
+      ∙ (let z : suc (first_in rs s) ≡ first_in rs s + 1 = omega arith in z)
 
-      -- the set has the reason that is asked for
-      pub left_here : b ≡ true → k ≡ get_write_error_reason s
-      left_here t =
-          let z : first_in (drop k in_sentence_order) s ≡ 0 = rest_is ∙ ap (λ (x : Bool). elim x as (λ y. ℕ) [ true ↦ 0 | false ↦ suc (first_in (drop (k + 1) in_sentence_order) s) ]) t in
-          omega arith
-
-      -- it has not
-      pub left_next : b ≡ false → get_write_error_reason s ≡ (k + 1) + first_in (drop (k + 1) in_sentence_order) s
-      left_next t =
-          let z : first_in (drop k in_sentence_order) s ≡ suc (first_in (drop (k + 1) in_sentence_order) s) = rest_is ∙ ap (λ (x : Bool). elim x as (λ y. ℕ) [ true ↦ 0 | false ↦ suc (first_in (drop (k + 1) in_sentence_order) s) ]) t in
-          omega arith
-
-    -- the set has none of them
-    -- the sentence is the list's length
-    pub left_none : 10 ≤ k → k ≤ 10 → 10 ≡ get_write_error_reason s
-    unfolding first_in
-    left_none h g =
-        let e : k ≡ 10 = omega arith in
-        let z : first_in (drop k in_sentence_order) s ≡ 0 = ap (λ (x : ℕ). first_in (drop x in_sentence_order) s) e in
-        omega arith
+  -- what the search of the reasons finds
+  pub sentence_is : (r : Option ℕ)
+      → MatchOption r (AllWithin (λ x. has_reason s x ≡ false) in_sentence_order 0 (length in_sentence_order))
+      (λ i. (i < length in_sentence_order) × HoldsAt (λ x. has_reason s x ≡ true) in_sentence_order i × AllWithin (λ x. has_reason s x ≡ false) in_sentence_order 0 i)
+      → unwrap_or r 10 ≡ get_write_error_reason s
+  unfolding get_write_error_reason first_in
+  sentence_is r h = sym (index_from_first (λ rs. first_in rs s) _ _ refl first_here first_later in_sentence_order r h)
 
 -- ---- the diagnostics
 

@@ -1,14 +1,15 @@
-use Rattle.effect_reports.proofs.Laws.Mutation.{left_all, left_here, left_next, left_none}
+-- `effect_reports::get_write_error_reason` meets its contract: what the search of the reasons finds. Assumes nothing.
+use Rattle.std.specs.Prelude.{◌≡◌, true, false}
+use Rattle.std.proofs.Common.{rules, ◌∙◌}
+use borrow.Author.Tests.{tests}
+use Rattle.std.proofs.lemmas.Iterator.{YieldsList-from_slice, IsFirst-from_position}
+use Rattle.def_kinds.specs.Reasons.{has_reason, in_sentence_order}
+use Rattle.effect_reports.proofs.Laws.Mutation.{sentence_is}
 use Rattle.effect_reports.proofs.get_write_error_reason.Goals as goal
 
-pub loop-k-init : goal.loop-k-init
-loop-k-init c = left_all _
-
-pub returns-then-has_reason : goal.returns-then-has_reason
-returns-then-has_reason c = left_here _ _ c.loop-k.invariant c.loop-k-test.true _ c.has_reason.ensures c.if-has_reason.true
-
-pub loop-k-preserved : goal.loop-k-preserved
-loop-k-preserved c = left_next _ _ c.loop-k.invariant c.loop-k-test.true _ c.has_reason.ensures c.if-has_reason.false
-
 pub returns : goal.returns
-returns c = left_none _ _ c.loop-k.invariant c.loop-k-test.false c.loop-k.auto.k-end
+returns c =
+    let s = c.args.s in
+    c.unwrap_or-k.ensures
+    ∙ sentence_is s c.position.result (IsFirst-from_position _ _ _ (λ r. has_reason s r ≡ true) (λ r. has_reason s r ≡ false) c.position.ensures.ran
+    (YieldsList-from_slice in_sentence_order c.iter.ensures.rest) (λ x q k. search (rules, tests)) (λ x q k. search (rules, tests)))

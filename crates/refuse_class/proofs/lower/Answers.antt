@@ -1,7 +1,10 @@
--- `refuse_class::lower` meets its contract, by its four ways. Assumes nothing.
-use Rattle.std.proofs.Common.{arith}
-use Rattle.refuse_class.proofs.Laws.Class.{lower_none, lower_alone, lower_second, lower_first}
+-- `refuse_class::lower` meets its contract, by its three ways. Assumes nothing.
+use Rattle.std.proofs.Common.{ap, ap₂, sym, ◌∙◌}
+use Rattle.def_refusals.specs.Verdicts.{number_of}
 use Rattle.def_refusals.proofs.Laws.Verdicts.{class_ok, class_err, class_is}
+use Rattle.refuse_class.specs.Class.{lower}
+use Rattle.refuse_class.proofs.Laws.Class.{lower_none, lower_alone}
+use Rattle.refuse_class.proofs.Laws.Least.{least}
 use Rattle.refuse_class.proofs.lower.Goals as goal
 
 pub returns-in-Ok-default : goal.returns-in-Ok-default
@@ -10,8 +13,5 @@ returns-in-Ok-default c = lower_none _ _ (class_ok _ _ c.in-Ok-default.is-0)
 pub returns-in-Err-Ok : goal.returns-in-Err-Ok
 returns-in-Err-Ok c = lower_alone _ _ (class_err _ _ c.in-Err-Ok.is-0) (class_ok _ _ c.in-Err-Ok.is-1)
 
-pub returns-then-number : goal.returns-then-number
-returns-then-number c = lower_second _ _ (class_err _ _ c.in-Err-Err.is-0) (class_err _ _ c.in-Err-Err.is-1) (let p = class_is _ _ c.in-Err-Err.is-0 in let q = class_is _ _ c.in-Err-Err.is-1 in omega arith)
-
-pub returns-else-number : goal.returns-else-number
-returns-else-number c = lower_first _ _ (class_err _ _ c.in-Err-Err.is-0) (class_err _ _ c.in-Err-Err.is-1) (let p = class_is _ _ c.in-Err-Err.is-0 in let q = class_is _ _ c.in-Err-Err.is-1 in omega arith)
+pub returns-in-Err-Err : goal.returns-in-Err-Err
+returns-in-Err-Err c = ap number_of c.min.ensures ∙ least _ _ ∙ sym (ap₂ lower (class_is _ _ c.in-Err-Err.is-0) (class_is _ _ c.in-Err-Err.is-1))

@@ -1,19 +1,13 @@
 -- The ways through the tests of a number and of a word. Assumes nothing.
 use Rattle.std.specs.Prelude.{◌≡◌, Bool, true, false, not, ℕ, ◌+◌, ◌/◌, ◌%◌, ◌^◌, ◌≤◌, ◌<◌, eqb, leb, ltb}
-use Rattle.std.proofs.Common.{sym, ap, ap₂, ◌∙◌, arith, ltb-true, lt-ltb, le-ltb, le-leb, eq-eqb, ne_eqb}
-use Rattle.std.proofs.lemmas.Bool.{lt-leb}
+use Rattle.std.proofs.Common.{sym, ap, ◌∙◌, arith, ltb-true, lt-ltb, le-ltb, le-leb, eq-eqb, ne_eqb}
 use Rattle.def_kinds.specs.Reasons.{are_reasons}
 use Rattle.def_transfer.specs.Accepted.{not_anumber, not_yet_handed_out}
 use Rattle.refuse_entries.specs.Words.{has_entry, word_out_of_range, word_unfit}
-use Rattle.base_tests.proofs.Laws.Order.{le_not_lt}
-use Rattle.base_tests.proofs.Laws.Bool.{or_first, or_second, or_neither, and_first, and_no}
+use Rattle.base_tests.proofs.Laws.Bool.{or_second, or_neither, and_first, and_no}
 use Rattle.base_tests.proofs.Laws.Choice.{ite_yes, ite_no}
 
 -- ---- numbers
-
-pub number_zero : (n v : ℕ) → v ≡ 0 → not_anumber n v ≡ true
-unfolding not_anumber
-number_zero n v e = or_first (not (leb 1 v)) _ (ap not (lt-leb 1 v (omega arith)))
 
 pub number_past : (n v : ℕ) → 512 + n ≤ v → not_anumber n v ≡ true
 unfolding not_anumber
@@ -22,13 +16,6 @@ number_past n v h = or_second (not (leb 1 v)) _ (ap not (le-leb 1 v (omega arith
 pub number_in : (n v : ℕ) → 0 < v → v < 512 + n → not_anumber n v ≡ false
 unfolding not_anumber
 number_in n v p h = or_neither (not (leb 1 v)) _ (ap not (le-leb 1 v p)) (ap not (lt-ltb v (512 + n) h))
-
--- what the code compares, with both numbers widened
-pub number_other : (n v a b : ℕ) → (v ≡ 0 → ⊥) → a ≡ v → b ≡ n → leb (512 + b) a ≡ not_anumber n v
-unfolding not_anumber
-number_other n v a b h p q =
-    le_not_lt a (512 + b) ∙ ap₂ (λ (x y : ℕ). not (ltb x (512 + y))) p q
-    ∙ sym (or_second (not (leb 1 v)) _ (ap not (le-leb 1 v (omega arith))))
 
 pub new_past : (next v : ℕ) → 512 ≤ v → not_yet_handed_out next v ≡ false
 unfolding not_yet_handed_out
