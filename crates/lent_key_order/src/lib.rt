@@ -1,15 +1,14 @@
 // Which of two keys of effects comes first: their heads, then the identifiers of their captures.
 #![tactic(auto)]
 
-ghost use Rattle.std.specs.Prelude.{◌≡◌, true, []};
-ghost use Rattle.base_tests.specs.Tests.{ite};
+ghost use Rattle.std.specs.Prelude.{◌≡◌, true};
 ghost use Rattle.base_search.specs.Comparings.{compare_lists};
 ghost use Rattle.def_key_order.specs.KeyOrder.{compare_keys};
-ghost use Rattle.lent_keys.specs.KeyRecords.{key_with, listed};
+ghost use Rattle.lent_keys.specs.KeyRecords.{listed, whole};
 ghost use Rattle.lent_key_order.specs.Heads.{compare_heads};
 ghost use Rattle.lent_key_order.specs.Runs.{Past};
 
-use lent_keys::{Key, Numbers};
+use lent_keys::{Key, Numbers, WholeKey};
 use std::cmp::Ordering;
 
 // Two keys, but for their captures.
@@ -53,14 +52,13 @@ pub fn compare_runs(a: Numbers, b: Numbers) -> Ordering
 }
 
 // Two keys, each with the identifiers of captures beside it.
-// A key without captures takes none of them. Captures are compared only where the rest is equal.
+// Captures are compared only where the rest is equal.
 #[tactic(auto, using(crate::proofs::Laws::Heads::heads_decide))]
-pub fn compare_keys(a: Key, is: Numbers, b: Key, js: Numbers) -> Ordering
-    ensures { result ≡ compare_keys (key_with a (listed is.entry)) (key_with b (listed js.entry)) }
+pub fn compare_keys(a: WholeKey, b: WholeKey) -> Ordering
+    ensures { result ≡ compare_keys (whole a.entry) (whole b.entry) }
 {
     let captures = || -> Ordering
-        ensures { result
-            ≡ compare_lists (ite a.captured (listed is.entry) []) (ite b.captured (listed js.entry) []) }
-    { compare_runs(is.taken(a.captured), js.taken(b.captured)) };
-    compare_heads(a, b).then_with(captures)
+        ensures { result ≡ compare_lists (whole a.entry).captures (whole b.entry).captures }
+    { compare_runs(a.captures(), b.captures()) };
+    compare_heads(a.head, b.head).then_with(captures)
 }

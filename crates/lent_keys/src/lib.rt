@@ -3,10 +3,9 @@
 
 ghost use Rattle.std.specs.Prelude.{◌≡◌, List, [], ℕ, ◌+◌, ◌*◌};
 ghost use Rattle.def_effects.specs.Places.{identifiers};
-ghost use Rattle.base_tests.specs.Tests.{ite};
 ghost use Rattle.lent_tables.specs.Words as Words;
 ghost use Rattle.lent_effects.specs.Records.{counted_places, captures_of};
-ghost use Rattle.lent_keys.specs.KeyRecords.{key_with, numbers_in, listed, put_numbers, option_in, put_option, key_head_in, put_head, put_key};
+ghost use Rattle.lent_keys.specs.KeyRecords.{key_with, numbers_in, listed, whole, put_numbers, option_in, put_option, key_head_in, put_head, put_key};
 
 use lent_layout::ONE_RUN;
 use lent_tables::Table;
@@ -39,7 +38,7 @@ pub struct Numbers<'a> {
     pub count: u32,
 }
 
-impl<'a> Numbers<'a> {
+impl Numbers<'_> {
     // Number k of the run.
     // The numbers are small enough that nothing passes 64 bits.
     pub fn get(self, k: u32) -> u32
@@ -50,16 +49,29 @@ impl<'a> Numbers<'a> {
         let w = self.first as usize + (k as usize) * (self.step as usize);
         self.table.field(self.words, self.row, w)
     }
+}
 
-    // Of the captures that stand beside a key, those that it has: all of them or none.
-    #[tactic(auto, using(crate::proofs::Laws::Number::none_listed))]
-    pub fn taken(self, has: bool) -> Numbers<'a>
-        ensures { listed result ≡ ite has (listed self.entry) [] }
+// A key with the identifiers of captures beside it.
+// One that has no captures takes none of them.
+#[derive(Clone, Copy)]
+pub struct WholeKey<'a> {
+    pub head: Key,
+    pub beside: Numbers<'a>,
+}
+
+impl<'a> WholeKey<'a> {
+    // The identifiers of the captures that the key has: of those beside it all or none.
+    #[tactic(auto, using(crate::proofs::Laws::Number::none_listed), unfolding(crate::specs::KeyRecords::key_with))]
+    pub fn captures(self) -> Numbers<'a>
+        ensures { listed result ≡ (whole self.entry).captures }
     {
-        if has {
-            return self;
+        if self.head.captured {
+            return self.beside;
         }
-        Numbers { count: 0, ..self }
+        Numbers {
+            count: 0,
+            ..self.beside
+        }
     }
 }
 
@@ -192,7 +204,11 @@ fn put_head(t: Table, xs: &mut [u32], i: usize, key: Key)
 pub fn put_key(t: Table, xs: &mut [u32], i: usize, key: Key, captures: &[u32])
     ensures { xs.new ≡ put_key t xs.old i (key_with key (identifiers (captures_of captures.now))) }
 {
-    let identifiers = captures_beside(captures).taken(key.captured);
+    let whole = WholeKey {
+        head: key,
+        beside: captures_beside(captures),
+    };
+    let identifiers = whole.captures();
     put_head(t, xs, i, key);
     t.put_field(xs, i, 11, identifiers.count);
     put_identifiers(t, xs, i, identifiers);

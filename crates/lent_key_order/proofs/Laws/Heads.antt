@@ -1,7 +1,6 @@
 -- Keys are compared by their heads, then by the captures that they take. Assumes nothing.
-use Rattle.std.specs.Prelude.{ℕ, suc, ◌≡◌, List, [], Option, None, Some}
+use Rattle.std.specs.Prelude.{ℕ, suc, ◌≡◌, List, Option, None, Some}
 use Rattle.std.proofs.Common.{arith, sym, ap, ap₂, ◌∙◌, ⊎_elim}
-use Rattle.base_tests.specs.Tests.{ite}
 use Rattle.base_tests.proofs.Laws.Order.{lt_or_ge}
 use Rattle.std.specs.Option.{option_cmp}
 use Rattle.std.specs.Ordering.{nat_cmp, ordering_then, MatchOrdering}
@@ -44,20 +43,20 @@ seven a b c d e f g r = sym (
     (first_assoc f g r))))))
 
 -- heads first
-pub keys_parts : (a b : Key) (is js : List ℕ) → compare_keys (key_with a is) (key_with b js) ≡ first (compare_heads a b) (compare_lists (ite a.captured is []) (ite b.captured js []))
+pub keys_parts : (a b : Key) (is js : List ℕ) → compare_keys (key_with a is) (key_with b js) ≡ first (compare_heads a b) (compare_lists (key_with a is).captures (key_with b js).captures)
 unfolding compare_keys key_with compare_heads compare_lists
 keys_parts a b is js =
     seven (compare_numbers a.code b.code) (compare_numbers (optional a.from) (optional b.from)) (compare_numbers (optional a.into) (optional b.into))
     (compare_numbers a.kind b.kind) (compare_numbers a.reason b.reason) (compare_numbers (optional a.function) (optional b.function)) (compare_numbers a.identity b.identity)
-    (compare_lists (ite a.captured is []) (ite b.captured js []))
+    (compare_lists (key_with a is).captures (key_with b js).captures)
 
--- the captures that each key takes decide where the heads do not
+-- captures decide where the heads do not
 pub heads_decide : (a b : Key) (is js : List ℕ) (h r : Ordering) → h ≡ compare_heads a b
-    → MatchOrdering h (r ≡ Less) (r ≡ compare_lists (ite a.captured is []) (ite b.captured js [])) (r ≡ Greater) → r ≡ compare_keys (key_with a is) (key_with b js)
+    → MatchOrdering h (r ≡ Less) (r ≡ compare_lists (key_with a is).captures (key_with b js).captures) (r ≡ Greater) → r ≡ compare_keys (key_with a is) (key_with b js)
 heads_decide a b is js h r heads m = decides h m ∙ ap (λ (o : Ordering). first o rest) heads ∙ sym (keys_parts a b is js)
   where
     rest : Ordering
-    rest = compare_lists (ite a.captured is []) (ite b.captured js [])
+    rest = compare_lists (key_with a is).captures (key_with b js).captures
 
     decides : (o : Ordering) → MatchOrdering o (r ≡ Less) (r ≡ rest) (r ≡ Greater) → r ≡ first o rest
     decides Less e = e

@@ -5,7 +5,6 @@ use Rattle.std.proofs.Common.{sym, ◌∙◌}
 use Rattle.std.proofs.Math.Path.{ap, ap₂}
 use mathlib.Core.List.{List, []}
 use native.Mathlib.Omega.{arith}
-use Rattle.base_tests.specs.Tests.{ite}
 use Rattle.def_effects.specs.declared.Place.{Place}
 use Rattle.def_effects.specs.Places.{identifiers}
 use Rattle.def_effects.specs.Keys.{effect_key}
@@ -25,12 +24,11 @@ pub places_listed : (t : Table) (c : List ℕ) (i w n : ℕ) → n ≡ field t c
 unfolding counted_places
 places_listed t c i w n h = ap (numbers_in t c i (w + 1) 5 0) h ∙ sym (places_numbers t c i (w + 1) 0 (field t c i w))
 
-module _ (t : Table) (c : List ℕ) (i : ℕ) (other : Key) (e : Head)
-    (g : e ≡ head_in t c i) (h : (cs : List Place) → key_with other (identifiers cs) ≡ effect_key (effect_with e cs)) where
-  -- the key of a record's effect
-  pub effect_key_is : key_with other (identifiers (counted_places t c i 17)) ≡ effect_key (effect_in t c i)
-  unfolding effect_in
-  effect_key_is = h (counted_places t c i 17) ∙ ap (λ (x : Head). effect_key (effect_with x (counted_places t c i 17))) g
+-- the key of a record's effect
+pub effect_key_is : (t : Table) (c : List ℕ) (i : ℕ) (key : Key) (e : Head) (is : List ℕ) → e ≡ head_in t c i → ((cs : List Place) → key_with key (identifiers cs) ≡ effect_key (effect_with e cs))
+    → is ≡ identifiers (counted_places t c i 17) → key_with key is ≡ effect_key (effect_in t c i)
+unfolding effect_in
+effect_key_is t c i key e is g h k = ap (key_with key) k ∙ h (counted_places t c i 17) ∙ ap (λ (x : Head). effect_key (effect_with x (counted_places t c i 17))) g
 
 -- ---- a key as a record
 
@@ -82,10 +80,10 @@ writes_head t c c1 c2 c3 c4 c5 c6 c7 c8 i key h1 h2 h3 h4 h5 h6 h7 h8 = cc
 
 -- the writes of a key
 -- its head, the count of captures that it takes, and their identifiers
-pub writes_key : (t : Table) (c c1 c2 c3 : List ℕ) (i : ℕ) (key : Key) (is : List ℕ) (r q : Numbers) → listed r ≡ is → listed q ≡ ite key.captured (listed r) []
+pub writes_key : (t : Table) (c c1 c2 c3 : List ℕ) (i : ℕ) (key : Key) (is : List ℕ) (r q : Numbers) → listed r ≡ is → listed q ≡ (key_with key (listed r)).captures
     → c1 ≡ put_head t c i (key_with key []) → c2 ≡ put_field t c1 i 11 q.count → c3 ≡ put_numbers t c2 i 12 1 0 (listed q) → c3 ≡ put_key t c i (key_with key is)
 unfolding put_key put_head key_with
 writes_key t c c1 c2 c3 i key is r q hr hq h1 h2 h3 =
-    let l : listed q ≡ ite key.captured is [] = hq ∙ ap (λ (js : List ℕ). ite key.captured js []) hr in
+    let l : listed q ≡ (key_with key is).captures = hq ∙ ap (λ (js : List ℕ). (key_with key js).captures) hr in
     h3 ∙ ap₂ (λ (d : List ℕ) (js : List ℕ). put_numbers t d i 12 1 0 js)
     (h2 ∙ ap₂ (λ (d : List ℕ) (y : ℕ). put_field t d i 11 y) h1 (sym (numbers_count q.table q.words.now q.row q.first q.step 0 q.count) ∙ ap length l)) l
