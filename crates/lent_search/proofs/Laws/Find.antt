@@ -13,7 +13,6 @@ use Rattle.lent_keys.specs.declared.Key.{Key}
 use Rattle.lent_keys.specs.KeyRecords.{key_with, numbers_in, key_head_in}
 use Rattle.lent_order.specs.Order.{order_at}
 use Rattle.lent_layout.specs.Layout as Layout
-use Rattle.lent_layout.specs.Layout.{one_run}
 use Rattle.lent_context.specs.Lent.{interned_count, interned_key, effect_spot, key_here, key_count, key_spot, number_at}
 use Rattle.lent_context.proofs.Laws.Search.{number_there, number_nowhere}
 
