@@ -56,9 +56,8 @@ fn place_class(context: &[u32], n: u32, j: u32) -> Verdict
     ensures { class_of result ≡ place_class context.now n j }
 {
     let inside = word_class(Some(n as u64), order_at(EFFECT_ORDER, context, j));
-    let misplaced = descends(EFFECT_ORDER, context, n, j, |a, b| {
-        compare_records(context, a, b)
-    });
+    let compare = |a: u32, b: u32| compare_records(context, a, b);
+    let misplaced = descends(EFFECT_ORDER, context, n, j, compare);
     lower(inside, earns(Refusal::Order, misplaced))
 }
 
