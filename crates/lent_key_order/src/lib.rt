@@ -3,12 +3,12 @@
 
 ghost use Rattle.std.specs.Prelude.{◌≡◌, true};
 ghost use Rattle.base_search.specs.Comparings.{compare_lists};
-ghost use Rattle.lent_keys.specs.KeyRecords.{numbers_in};
+ghost use Rattle.def_key_order.specs.KeyOrder.{compare_keys};
+ghost use Rattle.lent_keys.specs.KeyRecords.{listed, whole};
 ghost use Rattle.lent_key_order.specs.Heads.{compare_heads};
 ghost use Rattle.lent_key_order.specs.Runs.{Past};
 
-use lent_keys::{Key, number_in};
-use lent_tables::Table;
+use lent_keys::{Key, Numbers, WholeKey};
 use std::cmp::Ordering;
 
 // Two keys, but for their captures.
@@ -19,47 +19,46 @@ pub fn compare_heads(a: Key, b: Key) -> Ordering
     a.cmp(&b)
 }
 
-// Whether number k of two runs, s and r words apart, lies past the words of both records, as all after it do.
+// Whether number k of a run lies past the words of its record, as all after it do.
 // There every number reads as 0.
-fn is_past(t: Table, s: u32, u: Table, r: u32, k: u32) -> bool
-    ensures { result ≡ true → Past t s k × Past u r k }
+fn is_past(run: Numbers, k: u32) -> bool
+    ensures { result ≡ true → Past run.entry.table run.entry.step k }
 {
-    s != 0 && r != 0 && k >= t.width && k >= u.width
+    run.step != 0 && k >= run.table.width
 }
 
-// Two runs of numbers, each in a record: n of them from word w on, s words apart, against m.
+// Two runs of numbers, each in a record.
 // One after the other; a run that ends first comes first. A count may be any word: past both records only the counts are left to compare.
-pub fn compare_runs(
-    t: Table,
-    xs: &[u32],
-    i: usize,
-    w: u32,
-    s: u32,
-    n: u32,
-    u: Table,
-    ys: &[u32],
-    j: usize,
-    v: u32,
-    r: u32,
-    m: u32,
-) -> Ordering
-    ensures { result ≡ compare_lists (numbers_in t xs.now i w s 0 n) (numbers_in u ys.now j v r 0 m) }
+pub fn compare_runs(a: Numbers, b: Numbers) -> Ordering
+    ensures { result ≡ compare_lists (listed a.entry) (listed b.entry) }
 {
-    for k in 0..n {
-        if k >= m {
+    for k in 0..a.count {
+        if k >= b.count {
             return Ordering::Greater;
         }
-        if is_past(t, s, u, r, k) {
-            return n.cmp(&m);
+        if is_past(a, k) && is_past(b, k) {
+            return a.count.cmp(&b.count);
         }
-        let o = number_in(t, xs, i, w, s, k).cmp(&number_in(u, ys, j, v, r, k));
+        let o = a.get(k).cmp(&b.get(k));
         if o.is_ne() {
             return o;
         }
     }
-    if n < m {
+    if a.count < b.count {
         Ordering::Less
     } else {
         Ordering::Equal
     }
+}
+
+// Two keys, each with the identifiers of captures beside it.
+// Captures are compared only where the rest is equal.
+#[tactic(auto, using(crate::proofs::Laws::Heads::heads_decide))]
+pub fn compare_keys(a: WholeKey, b: WholeKey) -> Ordering
+    ensures { result ≡ compare_keys (whole a.entry) (whole b.entry) }
+{
+    let captures = || -> Ordering
+        ensures { result ≡ compare_lists (whole a.entry).captures (whole b.entry).captures }
+    { compare_runs(a.captures(), b.captures()) };
+    compare_heads(a.head, b.head).then_with(captures)
 }

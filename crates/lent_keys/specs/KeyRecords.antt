@@ -5,6 +5,8 @@ use Rattle.def_effects.specs.Keys.{EffectKey}
 use Rattle.lent_tables.specs.declared.Table.{Table}
 use Rattle.lent_tables.specs.Words.{field, put_field}
 use Rattle.lent_keys.specs.declared.Key.{Key}
+use Rattle.lent_keys.specs.declared.Numbers.{Numbers}
+use Rattle.lent_keys.specs.declared.WholeKey.{WholeKey}
 
 -- the key that the code holds, with the identifiers of the captures beside it
 -- only a key that has captures takes them
@@ -84,3 +86,11 @@ put_head t c i k =
 -- all its words but those of captures that it does not have
 unfoldable pub put_key : Table → List ℕ → ℕ → EffectKey → List ℕ
 put_key t c i k = put_numbers t (put_field t (put_head t c i k) i 11 (length k.captures)) i 12 1 0 k.captures
+
+-- the numbers of a run that the code holds
+abbrev pub listed : Numbers → List ℕ
+listed r = numbers_in r.table r.words.now r.row r.first r.step 0 r.count
+
+-- the key that the code holds with the identifiers beside it
+abbrev pub whole : WholeKey → EffectKey
+whole k = key_with k.head (listed k.beside)

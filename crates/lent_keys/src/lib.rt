@@ -3,11 +3,9 @@
 
 ghost use Rattle.std.specs.Prelude.{◌≡◌, List, [], ℕ, ◌+◌, ◌*◌};
 ghost use Rattle.def_effects.specs.Places.{identifiers};
-ghost use Rattle.base_tests.specs.Tests.{ite};
 ghost use Rattle.lent_tables.specs.Words as Words;
-ghost use Rattle.lent_effects.specs.Records.{captures_of};
-ghost use Rattle.lent_keys.specs.KeyRecords.{key_with, numbers_in, put_numbers, option_in, put_option, key_head_in, put_head, put_key};
-ghost use Rattle.lent_layout.specs.Layout.{one_run};
+ghost use Rattle.lent_effects.specs.Records.{counted_places, captures_of};
+ghost use Rattle.lent_keys.specs.KeyRecords.{key_with, numbers_in, listed, whole, put_numbers, option_in, put_option, key_head_in, put_head, put_key};
 
 use lent_layout::ONE_RUN;
 use lent_tables::Table;
@@ -28,23 +26,81 @@ pub struct Key {
     pub captured: bool,
 }
 
-// Number k of a run in record i: w is its first word, s the distance of one to the next.
-// The numbers are small enough that nothing passes 64 bits.
-pub fn number_in(t: Table, xs: &[u32], i: usize, w: u32, s: u32, k: u32) -> u32
-    ensures { result ≡ Words.field t xs.now i (w + k * s) }
-{
-    t.field(xs, i, w as usize + (k as usize) * (s as usize))
+// A run of numbers in record `row` of a table: `count` of them from word `first` on, each `step` words after the one before.
+// The identifiers of captures stand so: five words apart in an effect, one in a key.
+#[derive(Clone, Copy)]
+pub struct Numbers<'a> {
+    pub table: Table,
+    pub words: &'a [u32],
+    pub row: usize,
+    pub first: u32,
+    pub step: u32,
+    pub count: u32,
 }
 
-// How many captures a key has, of those that stand beside it.
-// A key without captures takes none of them.
-pub fn taken(has: bool, n: u32) -> u32
-    ensures { result ≡ ite has n 0 }
-{
-    if has {
-        return n;
+impl Numbers<'_> {
+    // Number k of the run.
+    // The numbers are small enough that nothing passes 64 bits.
+    pub fn get(self, k: u32) -> u32
+        ensures { result
+            ≡ Words.field self.entry.table self.entry.words.now self.entry.row
+            (self.entry.first + k * self.entry.step) }
+    {
+        let w = self.first as usize + (k as usize) * (self.step as usize);
+        self.table.field(self.words, self.row, w)
     }
-    0
+}
+
+// A key with the identifiers of captures beside it.
+// One that has no captures takes none of them.
+#[derive(Clone, Copy)]
+pub struct WholeKey<'a> {
+    pub head: Key,
+    pub beside: Numbers<'a>,
+}
+
+impl<'a> WholeKey<'a> {
+    // The identifiers of the captures that the key has: of those beside it all or none.
+    #[tactic(auto, using(crate::proofs::Laws::Number::none_listed), unfolding(crate::specs::KeyRecords::key_with))]
+    pub fn captures(self) -> Numbers<'a>
+        ensures { listed result ≡ (whole self.entry).captures }
+    {
+        if self.head.captured {
+            return self.beside;
+        }
+        Numbers {
+            count: 0,
+            ..self.beside
+        }
+    }
+}
+
+// The identifiers of captures that are lent on their own, as beside a key.
+pub fn captures_beside(captures: &[u32]) -> Numbers<'_>
+    ensures { listed result ≡ identifiers (captures_of captures.now) }
+{
+    Numbers {
+        table: ONE_RUN,
+        words: captures,
+        row: 0,
+        first: 1,
+        step: 5,
+        count: ONE_RUN.field(captures, 0, 0),
+    }
+}
+
+// The identifiers of the captures of the effect that stands in record i.
+pub fn captures_in(t: Table, xs: &[u32], i: usize) -> Numbers<'_>
+    ensures { listed result ≡ identifiers (counted_places t xs.now i 17) }
+{
+    Numbers {
+        table: t,
+        words: xs,
+        row: i,
+        first: 18,
+        step: 5,
+        count: t.field(xs, i, 17),
+    }
 }
 
 // ---- a key as a record of 28 words
@@ -101,14 +157,27 @@ pub fn head_in(t: Table, xs: &[u32], i: usize) -> Key
     }
 }
 
-// The identifiers of n captures are written one after the other from word 12 of record i on.
-// What the record has no room for is not written.
-fn put_identifiers(t: Table, xs: &mut [u32], i: usize, captures: &[u32], n: u32)
-    ensures { xs.new ≡ put_numbers t xs.old i 12 1 0 (numbers_in one_run captures.now 0 1 5 0 n) }
+// The identifiers of the captures of the key that stands in record i.
+pub fn key_captures_in(t: Table, xs: &[u32], i: usize) -> Numbers<'_>
+    ensures { listed result ≡ numbers_in t xs.now i 12 1 0 (Words.field t xs.now i 11) }
 {
-    for k in 0..n {
-        let x = number_in(ONE_RUN, captures, 0, 1, 5, k);
-        t.put_field(xs, i, 12 + (k as usize), x);
+    Numbers {
+        table: t,
+        words: xs,
+        row: i,
+        first: 12,
+        step: 1,
+        count: t.field(xs, i, 11),
+    }
+}
+
+// The numbers of a run are written one after the other from word 12 of record i on.
+// What the record has no room for is not written.
+fn put_identifiers(t: Table, xs: &mut [u32], i: usize, run: Numbers)
+    ensures { xs.new ≡ put_numbers t xs.old i 12 1 0 (listed run.entry) }
+{
+    for k in 0..run.count {
+        t.put_field(xs, i, 12 + (k as usize), run.get(k));
     }
 }
 
@@ -135,8 +204,12 @@ fn put_head(t: Table, xs: &mut [u32], i: usize, key: Key)
 pub fn put_key(t: Table, xs: &mut [u32], i: usize, key: Key, captures: &[u32])
     ensures { xs.new ≡ put_key t xs.old i (key_with key (identifiers (captures_of captures.now))) }
 {
-    let n = taken(key.captured, ONE_RUN.field(captures, 0, 0));
+    let whole = WholeKey {
+        head: key,
+        beside: captures_beside(captures),
+    };
+    let identifiers = whole.captures();
     put_head(t, xs, i, key);
-    t.put_field(xs, i, 11, n);
-    put_identifiers(t, xs, i, captures, n);
+    t.put_field(xs, i, 11, identifiers.count);
+    put_identifiers(t, xs, i, identifiers);
 }

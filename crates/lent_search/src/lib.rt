@@ -6,43 +6,43 @@ ghost use Rattle.std.specs.declared.cmp.Ordering.{Ordering as AnOrdering};
 ghost use Rattle.lent_order.specs.Order as Order;
 ghost use Rattle.base_search.specs.Search.{along};
 ghost use Rattle.lent_search.specs.Searches.{Compares};
-ghost use Rattle.def_effects.specs.Keys.{effect_key};
 ghost use Rattle.def_effects.specs.Places.{identifiers};
 ghost use Rattle.def_key_order.specs.KeyOrder.{compare_keys};
-ghost use Rattle.lent_effects.specs.Records.{effect_in, captures_of};
-ghost use Rattle.lent_keys.specs.KeyRecords.{key_with};
+ghost use Rattle.lent_effects.specs.Records.{captures_of};
+ghost use Rattle.lent_keys.specs.KeyRecords.{key_with, whole};
 ghost use Rattle.lent_layout.specs.Layout as Layout;
 ghost use Rattle.lent_context.specs.Lent as Lent;
 
 use lent_effect_read::effect_in;
 use lent_key_of::key_of;
-use lent_key_order::{compare_heads, compare_runs};
-use lent_keys::{Key, head_in, taken};
-use lent_layout::{CACHED, EFFECT_ORDER, INTERNED, KEY_ORDER, ONE_RUN};
+use lent_key_order::compare_keys;
+use lent_keys::{Key, WholeKey, captures_beside, captures_in, head_in, key_captures_in};
+use lent_layout::{CACHED, EFFECT_ORDER, INTERNED, KEY_ORDER};
 use lent_links::{interned_count, key_count};
 use lent_order::order_at;
 use std::cmp::Ordering;
 
-// A key against that of interned effect k; the key's captures stand beside it, the record's in the record.
-// Captures are compared only where the rest is equal.
-pub fn compare_effect(context: &[u32], k: u32, key: Key, captures: &[u32]) -> Ordering
-    ensures { result
-        ≡ compare_keys (key_with key (identifiers (captures_of captures.now)))
-        (effect_key (effect_in Layout.interned context.now k)) }
+// The key of interned effect k, with the identifiers of its captures.
+#[tactic(auto, using(lent_keys::proofs::Laws::KeyRecord::effect_key_is))]
+pub fn interned_key(context: &[u32], k: u32) -> WholeKey<'_>
+    ensures { whole result ≡ Lent.interned_key context.now k }
 {
     let i = k as usize;
-    let other = key_of(effect_in(INTERNED, context, i));
-    let heads = compare_heads(key, other);
-    match heads {
-        Ordering::Less => Ordering::Less,
-        Ordering::Equal => {
-            let n = taken(key.captured, ONE_RUN.field(captures, 0, 0));
-            let m = taken(other.captured, INTERNED.field(context, i, 17));
-            compare_runs(
-                ONE_RUN, captures, 0, 1, 5, n, INTERNED, context, i, 18, 5, m,
-            )
-        }
-        Ordering::Greater => Ordering::Greater,
+    WholeKey {
+        head: key_of(effect_in(INTERNED, context, i)),
+        beside: captures_in(INTERNED, context, i),
+    }
+}
+
+// The key of number v, with the identifiers of its captures.
+#[tactic(auto, using(crate::proofs::Laws::Find::cached_key_is))]
+pub fn cached_key(context: &[u32], v: u32) -> WholeKey<'_>
+    ensures { whole result ≡ Lent.key_here context.now v }
+{
+    let i = v as usize;
+    WholeKey {
+        head: head_in(CACHED, context, i),
+        beside: key_captures_in(CACHED, context, i),
     }
 }
 
@@ -77,51 +77,43 @@ fn search<F: Fn(u32) -> Ordering>(n: u32, compare: F) -> Result<u32, u32>
 pub fn find_effect(context: &[u32], key: Key, captures: &[u32]) -> Result<u32, u32>
     ensures { result ≡ Lent.effect_spot context.now (key_with key (identifiers (captures_of captures.now))) }
 {
+    let sought = WholeKey {
+        head: key,
+        beside: captures_beside(captures),
+    };
     search(
         interned_count(context),
         |j: u32| -> Ordering
             ensures { result
-                ≡ compare_keys (key_with key (identifiers (captures_of captures.entry.now)))
+                ≡ compare_keys (whole sought.entry)
                 (Lent.interned_key context.entry.now (Order.order_at Layout.effect_order context.entry.now j)) }
-        { compare_effect(context, order_at(EFFECT_ORDER, context, j), key, captures) },
+        {
+            compare_keys(
+                sought,
+                interned_key(context, order_at(EFFECT_ORDER, context, j)),
+            )
+        },
     )
 }
 
 // ---- cached numbers
-
-// A key against that of number v; the key's captures stand beside it, the number's in its record.
-// Captures are compared only where the rest is equal.
-pub fn compare_key(context: &[u32], v: u32, key: Key, captures: &[u32]) -> Ordering
-    ensures { result
-        ≡ compare_keys (key_with key (identifiers (captures_of captures.now)))
-        (Lent.key_here context.now v) }
-{
-    let i = v as usize;
-    let other = head_in(CACHED, context, i);
-    let heads = compare_heads(key, other);
-    match heads {
-        Ordering::Less => Ordering::Less,
-        Ordering::Equal => {
-            let n = taken(key.captured, ONE_RUN.field(captures, 0, 0));
-            let m = CACHED.field(context, i, 11);
-            compare_runs(ONE_RUN, captures, 0, 1, 5, n, CACHED, context, i, 12, 1, m)
-        }
-        Ordering::Greater => Ordering::Greater,
-    }
-}
 
 // Where the order of the cached keys has a key, or would have it.
 // By halves; on any words it ends.
 pub fn find_key(context: &[u32], key: Key, captures: &[u32]) -> Result<u32, u32>
     ensures { result ≡ Lent.key_spot context.now (key_with key (identifiers (captures_of captures.now))) }
 {
+    let sought = WholeKey {
+        head: key,
+        beside: captures_beside(captures),
+    };
     search(
         key_count(context),
         |j: u32| -> Ordering
             ensures { result
-                ≡ compare_keys (key_with key (identifiers (captures_of captures.entry.now)))
+                ≡ compare_keys (whole sought.entry)
                 (Lent.key_here context.entry.now (Order.order_at Layout.key_order context.entry.now j)) }
-        { compare_key(context, order_at(KEY_ORDER, context, j), key, captures) },
+        { compare_keys(sought, cached_key(context, order_at(KEY_ORDER, context, j))) },
     )
 }
 

@@ -1,6 +1,6 @@
 -- Which class of refusal the order of the interned effects earns (document 01, 'Refused calls': "an index lies outside its range",
 -- "two entries of one key, wrong order, an unused word not zero"). Assumes nothing: these are definitions.
-use Rattle.std.specs.Prelude.{ℕ, suc, Bool, true, false, not, ◌&&◌, List, ltb, Some}
+use Rattle.std.specs.Prelude.{ℕ, suc, ◌<◌, ◌≡◌, Bool, true, false, not, ◌&&◌, List, ltb, Some}
 use Rattle.std.specs.declared.cmp.Ordering.{Ordering}
 use Rattle.std.specs.declared.cmp.Ordering.TheVariants.{Less, Equal, Greater}
 use Rattle.def_effects.specs.Keys.{EffectKey}
@@ -21,6 +21,10 @@ is_less Greater = false
 -- neighbours of one key are "two entries of one key"
 unfoldable pub descends : (ℕ → EffectKey) → (ℕ → ℕ) → ℕ → ℕ → Bool
 descends key ord n j = ltb (suc j) n && not (is_less (compare_keys (key (ord j)) (key (ord (suc j)))))
+
+-- of two words a call can answer nothing but how their keys compare; `post` says what it can answer
+abbrev pub Compares : (ℕ → ℕ → Ordering → Type 0) → (ℕ → EffectKey) → Type 0
+Compares post key = (a b : ℕ) (o : Ordering) → a < 4294967296 → b < 4294967296 → post a b o → o ≡ compare_keys (key a) (key b)
 
 -- a place of the order: the number of one of n effects, and its key before the next
 unfoldable pub place_class : List ℕ → ℕ → ℕ → ℕ

@@ -2,61 +2,52 @@
 // Two entries of one key stand side by side in it, so that no pairs are compared.
 #![tactic(auto)]
 
-ghost use Rattle.std.specs.Prelude.{◌≡◌};
+ghost use Rattle.std.specs.Prelude.{◌≡◌, ℕ};
+ghost use Rattle.def_effects.specs.Keys.{EffectKey};
 ghost use Rattle.def_key_order.specs.KeyOrder.{compare_keys};
 ghost use Rattle.lent_context.specs.Lent.{interned_key};
 ghost use Rattle.lent_layout.specs.Layout as Layout;
 ghost use Rattle.lent_order.specs.Order.{order_at};
 ghost use Rattle.def_refusals.specs.Verdicts.{class_of};
-ghost use Rattle.refuse_words.specs.Classes.{lowest_below};
-ghost use Rattle.refuse_order.specs.Order.{descends, place_class, order_class};
+ghost use Rattle.refuse_order.specs.Order.{Compares, descends, place_class, order_class};
 
 use def_refusals::{Refusal, Verdict};
-use lent_effect_read::effect_in;
-use lent_key_of::key_of;
-use lent_key_order::{compare_heads, compare_runs};
-use lent_keys::taken;
-use lent_layout::{EFFECT_ORDER, INTERNED};
+use lent_key_order::compare_keys;
+use lent_layout::EFFECT_ORDER;
 use lent_links::interned_count;
 use lent_order::order_at;
+use lent_search::interned_key;
+use lent_tables::Table;
 use refuse_class::lower;
 use refuse_words::{earns, lowest, stray_after, word_class};
 use std::cmp::Ordering;
 
 // The keys of two interned effects.
-// Captures are compared only where the rest is equal.
 pub fn compare_records(context: &[u32], a: u32, b: u32) -> Ordering
     ensures { result ≡ compare_keys (interned_key context.now a) (interned_key context.now b) }
 {
-    let i = a as usize;
-    let j = b as usize;
-    let key = key_of(effect_in(INTERNED, context, i));
-    let other = key_of(effect_in(INTERNED, context, j));
-    let heads = compare_heads(key, other);
-    match heads {
-        Ordering::Less => Ordering::Less,
-        Ordering::Equal => {
-            let n = taken(key.captured, INTERNED.field(context, i, 17));
-            let m = taken(other.captured, INTERNED.field(context, j, 17));
-            compare_runs(
-                INTERNED, context, i, 18, 5, n, INTERNED, context, j, 18, 5, m,
-            )
-        }
-        Ordering::Greater => Ordering::Greater,
-    }
+    compare_keys(interned_key(context, a), interned_key(context, b))
 }
 
-// Whether the effect at place j of an order of n does not come before the one at the next place, if there is one.
-fn descends(context: &[u32], n: u32, j: u32) -> bool
-    ensures { result
-        ≡ descends (interned_key context.now) (order_at Layout.effect_order context.now) n j }
+// Whether what stands at place j of an order of n does not come before what stands at the next place, if there is one.
+// `compare` says how the keys of two numbers compare.
+pub fn descends<F: Fn(u32, u32) -> Ordering>(
+    order: Table,
+    context: &[u32],
+    n: u32,
+    j: u32,
+    compare: F,
+) -> bool
+    requires { F.IsAlwaysCallable compare }
+    ensures { (key : ℕ → EffectKey) → Compares (F.post compare) key
+        → result ≡ descends key (order_at order context.now) n j }
 {
     if j >= n.saturating_sub(1) {
         return false;
     }
-    let a = order_at(EFFECT_ORDER, context, j);
-    let b = order_at(EFFECT_ORDER, context, j + 1);
-    compare_records(context, a, b).is_ge()
+    let a = order_at(order, context, j);
+    let b = order_at(order, context, j + 1);
+    compare(a, b).is_ge()
 }
 
 // What place j of an order of n effects earns.
@@ -65,14 +56,9 @@ fn place_class(context: &[u32], n: u32, j: u32) -> Verdict
     ensures { class_of result ≡ place_class context.now n j }
 {
     let inside = word_class(Some(n as u64), order_at(EFFECT_ORDER, context, j));
-    lower(inside, earns(Refusal::Order, descends(context, n, j)))
-}
-
-// What the n places of an order earn.
-fn places_class(context: &[u32], n: u32) -> Verdict
-    ensures { class_of result ≡ lowest_below n (place_class context.now n) }
-{
-    lowest(n as usize, |k| place_class(context, n, k as u32))
+    let compare = |a: u32, b: u32| compare_records(context, a, b);
+    let misplaced = descends(EFFECT_ORDER, context, n, j, compare);
+    lower(inside, earns(Refusal::Order, misplaced))
 }
 
 // What the order of the interned effects earns.
@@ -81,6 +67,6 @@ pub fn order_class(context: &[u32]) -> Verdict
     ensures { class_of result ≡ order_class context.now }
 {
     let n = interned_count(context);
-    let places = places_class(context, n);
+    let places = lowest(n as usize, |k| place_class(context, n, k as u32));
     lower(places, stray_after(EFFECT_ORDER, context, n as usize))
 }

@@ -1,15 +1,13 @@
 -- Keys are compared by their heads, then by the captures that they take. Assumes nothing.
-use Rattle.std.specs.Prelude.{ℕ, suc, ◌≡◌, List, [], Option, None, Some}
+use Rattle.std.specs.Prelude.{ℕ, suc, ◌≡◌, List, Option, None, Some}
 use Rattle.std.proofs.Common.{arith, sym, ap, ap₂, ◌∙◌, ⊎_elim}
-use Rattle.base_tests.specs.Tests.{ite}
 use Rattle.base_tests.proofs.Laws.Order.{lt_or_ge}
 use Rattle.std.specs.Option.{option_cmp}
-use Rattle.std.specs.Ordering.{nat_cmp, ordering_then}
+use Rattle.std.specs.Ordering.{nat_cmp, ordering_then, MatchOrdering}
 use Rattle.std.specs.declared.cmp.Ordering.{Ordering}
 use Rattle.std.specs.declared.cmp.Ordering.TheVariants.{Less, Equal, Greater}
 use Rattle.base_search.specs.Comparings.{compare_numbers, first, compare_lists}
 use Rattle.base_search.proofs.Laws.Comparings.{less_is, more_is, same_is, first_assoc, numbers_compared}
-use Rattle.def_effects.specs.Keys.{EffectKey}
 use Rattle.def_key_order.specs.KeyOrder.{optional, compare_keys}
 use Rattle.lent_keys.specs.declared.Key.{Key}
 use Rattle.lent_keys.specs.KeyRecords.{key_with}
@@ -45,30 +43,25 @@ seven a b c d e f g r = sym (
     (first_assoc f g r))))))
 
 -- heads first
-pub keys_parts : (a b : Key) (is js : List ℕ) → compare_keys (key_with a is) (key_with b js) ≡ first (compare_heads a b) (compare_lists (ite a.captured is []) (ite b.captured js []))
+pub keys_parts : (a b : Key) (is js : List ℕ) → compare_keys (key_with a is) (key_with b js) ≡ first (compare_heads a b) (compare_lists (key_with a is).captures (key_with b js).captures)
 unfolding compare_keys key_with compare_heads compare_lists
 keys_parts a b is js =
     seven (compare_numbers a.code b.code) (compare_numbers (optional a.from) (optional b.from)) (compare_numbers (optional a.into) (optional b.into))
     (compare_numbers a.kind b.kind) (compare_numbers a.reason b.reason) (compare_numbers (optional a.function) (optional b.function)) (compare_numbers a.identity b.identity)
-    (compare_lists (ite a.captured is []) (ite b.captured js []))
+    (compare_lists (key_with a is).captures (key_with b js).captures)
 
-module _ (a b : Key) (is js : List ℕ) (x : EffectKey) (e : key_with b js ≡ x) (h : Ordering) (heads : h ≡ compare_heads a b) where
-  -- the comparison, by how the heads compare
-  decided : (o : Ordering) → h ≡ o → compare_keys (key_with a is) x ≡ first o (compare_lists (ite a.captured is []) (ite b.captured js []))
-  decided o p =
-      ap (compare_keys (key_with a is)) (sym e) ∙ keys_parts a b is js
-      ∙ ap (λ (y : Ordering). first y (compare_lists (ite a.captured is []) (ite b.captured js []))) (sym heads ∙ p)
+-- captures decide where the heads do not
+pub heads_decide : (a b : Key) (is js : List ℕ) (h r : Ordering) → h ≡ compare_heads a b
+    → MatchOrdering h (r ≡ Less) (r ≡ compare_lists (key_with a is).captures (key_with b js).captures) (r ≡ Greater) → r ≡ compare_keys (key_with a is) (key_with b js)
+heads_decide a b is js h r heads m = decides h m ∙ ap (λ (o : Ordering). first o rest) heads ∙ sym (keys_parts a b is js)
+  where
+    rest : Ordering
+    rest = compare_lists (key_with a is).captures (key_with b js).captures
 
-  -- heads that differ decide
-  pub head_less : h ≡ Less → Less ≡ compare_keys (key_with a is) x
-  head_less p = sym (decided Less p)
-
-  pub head_more : h ≡ Greater → Greater ≡ compare_keys (key_with a is) x
-  head_more p = sym (decided Greater p)
-
-  -- else the captures do
-  pub head_same : (r : Ordering) → h ≡ Equal → r ≡ compare_lists (ite a.captured is []) (ite b.captured js []) → r ≡ compare_keys (key_with a is) x
-  head_same r p q = q ∙ sym (decided Equal p)
+    decides : (o : Ordering) → MatchOrdering o (r ≡ Less) (r ≡ rest) (r ≡ Greater) → r ≡ first o rest
+    decides Less e = e
+    decides Equal e = e
+    decides Greater e = e
 
 -- the heads, part by part
 pub heads_are : (a b : Key)

@@ -1,22 +1,22 @@
 -- Laws by which a loop over two runs of numbers meets their comparison. Assumes nothing.
 use Prim.Native.Nat.{ℕ, zero, suc, ◌+◌, ◌*◌, ◌-◌, ◌≤◌, ◌<◌}
 use Rattle.std.proofs.Common.{arith, ◌∙◌, mul-le-mul_left, ⊎_elim}
-use Rattle.std.specs.Prelude.{◌≡◌, refl, true, false, List}
+use Rattle.std.specs.Prelude.{◌≡◌, refl, true, false, [], ◌∷◌}
 use Rattle.std.proofs.Math.Path.{sym, ap, ap₂}
 use Rattle.std.proofs.lemmas.Bool.{false≢true}
 use Rattle.std.specs.Ordering.{is_ne}
 use Rattle.std.specs.declared.cmp.Ordering.{Ordering}
 use Rattle.std.specs.declared.cmp.Ordering.TheVariants.{Less, Equal, Greater}
 use Rattle.base_search.specs.Comparings.{compare_numbers, first, compare_lists}
-use Rattle.lent_tables.specs.declared.Table.{Table}
 use Rattle.lent_tables.specs.Words.{field}
 use Rattle.lent_tables.proofs.Laws.Word.{field_out, within_no_word}
 use Rattle.base_tests.proofs.Laws.Order.{lt_or_ge}
 use Rattle.base_search.proofs.Laws.Comparings.{less_is, more_is, same_is}
 use Rattle.lent_key_order.specs.Runs.{Past}
 use Rattle.lent_key_order.proofs.Laws.Heads.{both_suc}
-use Rattle.lent_keys.specs.KeyRecords.{numbers_in}
-use Rattle.lent_keys.proofs.Laws.Number.{numbers_more, numbers_none, numbers_all}
+use Rattle.lent_keys.specs.declared.Numbers.{Numbers}
+use Rattle.lent_keys.specs.KeyRecords.{numbers_in, listed}
+use Rattle.lent_keys.proofs.Laws.Number.{listed_from, numbers_more, numbers_none, numbers_all}
 
 -- ---- numbers
 
@@ -36,67 +36,79 @@ shifted n m k a b = ⊎_elim
 
 -- ---- two runs
 
-module _ (t : Table) (xs : List ℕ) (i w s : ℕ) (u : Table) (ys : List ℕ) (j v r : ℕ) where
+-- number k of a run
+abbrev pub number_of : Numbers → ℕ → ℕ
+number_of r k = field r.table r.words.now r.row (r.first + k * r.step)
+
+-- past its record every number of a run is 0
+zero_number : (r : Numbers) (k : ℕ) → Past r.table r.step k → number_of r k ≡ 0
+zero_number r k p =
+    field_out r.table r.words.now r.row (r.first + k * r.step)
+    (within_no_word r.table r.row (r.first + k * r.step) (let x = p.1 in let y = spread k r.step p.0 in omega arith))
+
+module _ (a b : Numbers) where
   -- what is left to compare, from number k on
-  abbrev pub left : ℕ → ℕ → ℕ → Ordering
-  left k n m = compare_lists (numbers_in t xs i w s k (n - k)) (numbers_in u ys j v r k (m - k))
+  abbrev pub left : ℕ → Ordering
+  left k = compare_lists (listed_from a k) (listed_from b k)
 
-  pub left_all : (n m : ℕ) → compare_lists (numbers_in t xs i w s 0 n) (numbers_in u ys j v r 0 m) ≡ left 0 n m
-  left_all n m = sym (ap₂ compare_lists (numbers_all t xs i w s n) (numbers_all u ys j v r m))
+  pub left_all : compare_lists (listed a) (listed b) ≡ left 0
+  left_all = sym (ap₂ compare_lists (numbers_all a.table a.words.now a.row a.first a.step a.count) (numbers_all b.table b.words.now b.row b.first b.step b.count))
 
-  module _ (k n m : ℕ) (l : k < n) where
+  -- a run that is not done, one that is
+  more : (r : Numbers) (k : ℕ) → k < r.count → listed_from r k ≡ number_of r k ∷ listed_from r (k + 1)
+  more r k l = numbers_more r.table r.words.now r.row r.first r.step k r.count l
+
+  none : (r : Numbers) (k : ℕ) → r.count ≤ k → listed_from r k ≡ []
+  none r k l = numbers_none r.table r.words.now r.row r.first r.step k r.count l
+
+  module _ (k : ℕ) (l : k < a.count) where
     -- the second run is done
-    pub second_done : m ≤ k → Greater ≡ left k n m
+    pub second_done : b.count ≤ k → Greater ≡ left k
     unfolding compare_lists
-    second_done h = sym (ap₂ compare_lists (numbers_more t xs i w s k n l) (numbers_none u ys j v r k m h))
+    second_done h = sym (ap₂ compare_lists (more a k l) (none b k h))
 
-    module _ (h : k < m) (x y : ℕ) (ex : x ≡ field t xs i (w + k * s)) (ey : y ≡ field u ys j (v + k * r)) (o : Ordering) (eo : o ≡ compare_numbers x y) where
-      one : left k n m ≡ first o (left (k + 1) n m)
+    module _ (h : k < b.count) (x y : ℕ) (ex : x ≡ number_of a k) (ey : y ≡ number_of b k) (o : Ordering) (eo : o ≡ compare_numbers x y) where
+      one : left k ≡ first o (left (k + 1))
       unfolding compare_lists
-      one =
-          ap₂ compare_lists (numbers_more t xs i w s k n l) (numbers_more u ys j v r k m h)
-          ∙ ap (λ (z : Ordering). first z (left (k + 1) n m)) (ap₂ compare_numbers (sym ex) (sym ey) ∙ sym eo)
+      one = ap₂ compare_lists (more a k l) (more b k h) ∙ ap (λ (z : Ordering). first z (left (k + 1))) (ap₂ compare_numbers (sym ex) (sym ey) ∙ sym eo)
 
-      pub one_differs : is_ne o ≡ true → o ≡ left k n m
+      pub one_differs : is_ne o ≡ true → o ≡ left k
       one_differs p = sym (one ∙ decides o p)
         where
-          decides : (q : Ordering) → is_ne q ≡ true → first q (left (k + 1) n m) ≡ q
+          decides : (q : Ordering) → is_ne q ≡ true → first q (left (k + 1)) ≡ q
           decides Less e = refl
           decides Equal e = absurd (false≢true e)
           decides Greater e = refl
 
-      pub one_same : is_ne o ≡ false → left k n m ≡ left (k + 1) n m
+      pub one_same : is_ne o ≡ false → left k ≡ left (k + 1)
       one_same p = one ∙ goes_on o p
         where
-          goes_on : (q : Ordering) → is_ne q ≡ false → first q (left (k + 1) n m) ≡ left (k + 1) n m
+          goes_on : (q : Ordering) → is_ne q ≡ false → first q (left (k + 1)) ≡ left (k + 1)
           goes_on Less e = absurd (false≢true (sym e))
           goes_on Equal e = refl
           goes_on Greater e = absurd (false≢true (sym e))
 
-  -- past both records every number is 0
-  zero_number : (t : Table) (xs : List ℕ) (i w s k : ℕ) → Past t s k → field t xs i (w + k * s) ≡ 0
-  zero_number t xs i w s k p = field_out t xs i (w + k * s) (within_no_word t i (w + k * s) (let a = p.1 in let b = spread k s p.0 in omega arith))
-
-  -- so the counts of what is left decide
-  zeros_left : (a b k : ℕ) → Past t s k → Past u r k → compare_lists (numbers_in t xs i w s k a) (numbers_in u ys j v r k b) ≡ compare_numbers a b
+  -- past both records the counts of what is left decide
+  zeros_left : (n m k : ℕ) → Past a.table a.step k → Past b.table b.step k
+      → compare_lists (numbers_in a.table a.words.now a.row a.first a.step k n) (numbers_in b.table b.words.now b.row b.first b.step k m) ≡ compare_numbers n m
   unfolding compare_lists numbers_in
   zeros_left zero zero k p q = sym (same_is 0)
-  zeros_left zero (suc b) k p q = sym (less_is 0 (suc b) (omega arith))
-  zeros_left (suc a) zero k p q = sym (more_is (suc a) 0 (omega arith))
-  zeros_left (suc a) (suc b) k p q =
-      ap (λ (o : Ordering). first o (compare_lists (numbers_in t xs i w s (suc k) a) (numbers_in u ys j v r (suc k) b)))
-      (ap₂ compare_numbers (zero_number t xs i w s k p) (zero_number u ys j v r k q) ∙ same_is 0)
-      ∙ zeros_left a b (suc k) (p.0, (let x = p.1 in omega arith)) (q.0, (let x = q.1 in omega arith)) ∙ sym (both_suc a b)
+  zeros_left zero (suc m) k p q = sym (less_is 0 (suc m) (omega arith))
+  zeros_left (suc n) zero k p q = sym (more_is (suc n) 0 (omega arith))
+  zeros_left (suc n) (suc m) k p q =
+      ap (λ (o : Ordering). first o (compare_lists (numbers_in a.table a.words.now a.row a.first a.step (suc k) n) (numbers_in b.table b.words.now b.row b.first b.step (suc k) m)))
+      (ap₂ compare_numbers (zero_number a k p) (zero_number b k q) ∙ same_is 0)
+      ∙ zeros_left n m (suc k) (p.0, (let x = p.1 in omega arith)) (q.0, (let x = q.1 in omega arith)) ∙ sym (both_suc n m)
 
   -- the counts themselves, where both have come as far
-  pub past_both : (k n m : ℕ) (o : Ordering) → k < n → k < m → Past t s k × Past u r k → o ≡ compare_numbers n m → o ≡ left k n m
-  past_both k n m o l h p e = e ∙ shifted n m k (omega arith) (omega arith) ∙ sym (zeros_left (n - k) (m - k) k p.0 p.1)
+  pub past_both : (k : ℕ) (o : Ordering) → k < a.count → k < b.count → Past a.table a.step k → Past b.table b.step k → o ≡ compare_numbers a.count b.count → o ≡ left k
+  past_both k o l h p q e = e ∙ shifted a.count b.count k (omega arith) (omega arith) ∙ sym (zeros_left (a.count - k) (b.count - k) k p q)
 
   -- the first run is done
-  pub first_done : (k n m : ℕ) → n ≤ k → k < m → Less ≡ left k n m
+  pub first_done : (k : ℕ) → a.count ≤ k → k < b.count → Less ≡ left k
   unfolding compare_lists
-  first_done k n m h l = sym (ap₂ compare_lists (numbers_none t xs i w s k n h) (numbers_more u ys j v r k m l))
+  first_done k h l = sym (ap₂ compare_lists (none a k h) (more b k l))
 
-  pub both_done : (k n m : ℕ) → n ≤ k → m ≤ k → Equal ≡ left k n m
+  pub both_done : (k : ℕ) → a.count ≤ k → b.count ≤ k → Equal ≡ left k
   unfolding compare_lists
-  both_done k n m h l = sym (ap₂ compare_lists (numbers_none t xs i w s k n h) (numbers_none u ys j v r k m l))
+  both_done k h l = sym (ap₂ compare_lists (none a k h) (none b k l))

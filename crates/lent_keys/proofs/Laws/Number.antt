@@ -1,14 +1,13 @@
 -- Runs of numbers in a record. Assumes nothing.
 use Prim.Native.Nat.{ℕ, zero, suc, ◌+◌, ◌-◌, ◌*◌, ◌≤◌, ◌<◌}
-use Rattle.std.specs.Prelude.{◌≡◌, Bool, List, [], ◌∷◌, length}
+use Rattle.std.specs.Prelude.{◌≡◌, List, [], ◌∷◌, length}
 use Rattle.std.proofs.Math.Path.{refl, ap}
 use Rattle.std.proofs.Common.{ap₂, ◌∙◌, mul-le-mul}
-use Rattle.std.proofs.Math.Bool.{true, false}
 use native.Mathlib.Omega.{arith}
-use Rattle.base_tests.specs.Tests.{ite}
 use Rattle.def_effects.specs.Places.{identifiers}
 use Rattle.lent_tables.specs.declared.Table.{Table}
 use Rattle.lent_tables.specs.Words.{field, place_in, places_in}
+use Rattle.lent_keys.specs.declared.Numbers.{Numbers}
 use Rattle.lent_keys.specs.KeyRecords.{numbers_in}
 
 -- ---- runs of numbers
@@ -20,10 +19,6 @@ number_fits w k s h m n =
     let y : s ≤ 4294967295 = omega arith in
     let q : k * s ≤ 4294967295 * 4294967295 = mul-le-mul x y in
     omega arith
-
--- a number of a run is read
-pub reads_number : (t : Table) (c : List ℕ) (i w s k a b d x : ℕ) → a ≡ w → b ≡ k → d ≡ s → x ≡ field t c i (a + b * d) → x ≡ field t c i (w + k * s)
-reads_number t c i w s k a b d x e f g h = cc
 
 module _ (t : Table) (c : List ℕ) (i w s : ℕ) where
   -- a run that is not done begins with its number k
@@ -54,12 +49,14 @@ module _ (t : Table) (c : List ℕ) (i w s : ℕ) where
   numbers_count k zero = refl
   numbers_count k (suc n) = ap suc (numbers_count (suc k) n)
 
-  -- a run of which none may be taken
-  -- a key without captures takes none of those beside it
-  pub numbers_taken : (b : Bool) (n : ℕ) → ite b (numbers_in t c i w s 0 n) [] ≡ numbers_in t c i w s 0 (ite b n 0)
-  unfolding numbers_in
-  numbers_taken true n = refl
-  numbers_taken false n = refl
+-- what a run has from its number k on
+abbrev pub listed_from : Numbers → ℕ → List ℕ
+listed_from r k = numbers_in r.table r.words.now r.row r.first r.step k (r.count - k)
+
+-- a run of none
+pub none_listed : (t : Table) (c : List ℕ) (i w s : ℕ) → numbers_in t c i w s 0 0 ≡ []
+unfolding numbers_in
+none_listed t c i w s = refl
 
 -- the identifiers of a run of places are a run of numbers
 pub places_numbers : (t : Table) (c : List ℕ) (i w k n : ℕ) → identifiers (places_in t c i w k n) ≡ numbers_in t c i w 5 k n

@@ -7,14 +7,14 @@ use Rattle.lent_keys.proofs.Laws.KeyRecord.{write_start, write_more, write_none}
 use Rattle.lent_keys.proofs.put_identifiers.Goals as goal
 
 pub loop-k-init : goal.loop-k-init
-loop-k-init c = (omega arith, write_start _ _ _ _ _, refl)
+loop-k-init c = (omega arith, write_start _ _ _ c.args.run, refl)
 
 pub overflow_add-k : goal.overflow_add-k
 overflow_add-k c = omega arith
 
 pub loop-k-preserved : goal.loop-k-preserved
 loop-k-preserved c =
-    (omega arith, write_more _ _ _ _ _ _ _ _ _ c.loop-k-test.true c.number_in-x.ensures refl c.put_field.ensures ∙ c.loop-k.invariant.1, ap length c.put_field.ensures ∙ put_length _ _ _ _ _ ∙ c.loop-k.invariant.2)
+    (omega arith, write_more _ _ _ c.args.run _ _ _ _ c.loop-k-test.true c.get.ensures refl c.put_field.ensures ∙ c.loop-k.invariant.1, ap length c.put_field.ensures ∙ put_length _ _ _ _ _ ∙ c.loop-k.invariant.2)
 
 pub returns : goal.returns
-returns c = write_none _ _ _ _ _ _ (omega arith) ∙ c.loop-k.invariant.1
+returns c = write_none _ _ _ c.args.run _ (omega arith) ∙ c.loop-k.invariant.1

@@ -4,4 +4,4 @@ use Rattle.lent_keys.proofs.put_key.Goals as goal
 
 pub returns : goal.returns
 returns c =
-    writes_key _ _ _ _ _ _ c.args.key _ _ _ c.field.ensures c.taken-n.ensures c.put_head.ensures c.put_field.ensures c.put_identifiers.ensures
+    writes_key _ _ _ _ _ _ c.args.key _ c.captures_beside.result c.captures-identifiers.result c.captures_beside.ensures c.captures-identifiers.ensures c.put_head.ensures c.put_field.ensures c.put_identifiers.ensures
