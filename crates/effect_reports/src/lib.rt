@@ -45,11 +45,7 @@ pub fn modified_diagnostic(p: Place, name: u32, a: AbstractValue) -> Diagnostic
 fn access_label(access: Span, own: Span) -> Span
     ensures { result ≡ access_label access own }
 {
-    if access == own {
-        NO_SPAN
-    } else {
-        access
-    }
+    if access == own { NO_SPAN } else { access }
 }
 
 // The diagnostic of an access before the declaration: message case 1, sentence 0.

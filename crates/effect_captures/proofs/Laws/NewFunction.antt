@@ -31,7 +31,6 @@ use Rattle.lent_world.specs.World.{lent, world}
 use Rattle.lent_world.specs.Promise.{comes}
 use Rattle.effect_intern.specs.Interning.{chosen}
 use Rattle.effect_captures.specs.NewFunctions.{function_kind, linked}
-use Rattle.lent_layout.specs.Layout.{one_run}
 
 -- ---- a new function
 
