@@ -52,7 +52,11 @@ NOW = {
     "effect_freeze with_entries": "the counts of `lent_world::World::run` are written where they stand: the contracts of `effect_freeze::walk` and `effect_walk::freeze_function_captures_transitive`",
     "effect_parts with_session": "the session of `lent_world::World::run` is written where it stands: the contracts of the functions that change it",
     "image_decode kind_at": "`def_kinds::ValueKind::of_code`", "image_job no_job": "`image_job` `Reading.antt`: `said_of`", "image_run refused": "`image_pieces` `Pieces.antt`: `answer_of`",
-    "lent_diagnostics larger": "`max` of the library", "refuse_order is_less": "`is_ge` of the library; the definition of that name stays",
+    "image_class2 header_word": "`image_class2::word`", "image_class2 size_of": "`image_class2::Section::size`",
+    "lent_diagnostics larger": "`max` of the library",
+    "lent_keys number_in": "`lent_keys::Numbers::get`", "lent_keys taken": "`lent_keys::WholeKey::captures`",
+    "lent_search compare_effect": "`lent_key_order::compare_keys` of what `lent_search::interned_key` answers", "lent_search compare_key": "`lent_key_order::compare_keys` of what `lent_search::cached_key` answers",
+    "refuse_entries identifier_out_of_range": "nothing called it: its words stand in `state_calls::outside`", "refuse_instruction all_words": "`refuse_instruction::effect_words`, which has the same contract", "refuse_order is_less": "`is_ge` of the library; the definition of that name stays",
     **{f"image_text {n}": f"`image_text::Text::{n}`" for n in ("put_absent", "put_byte", "put_column", "put_newline", "put_number", "put_line", "put_decimal")}, "image_text put_text": "`image_text::Text::put_bytes`",
     **{f"lent_tables {n}": f"`lent_tables::Table::{n}`" for n in ("field", "put_field", "place_in", "put_place")},
 }
@@ -69,12 +73,13 @@ for row in r["functions not found again"]:
     out.append(f"| `{crate}::{'::'.join(name.split())}` | {NOW.get(key, 'the contracts of its callers: its body stands there as an operator, a closure or a method of the library')} |")
 DEFINED = {
     "call_apply_lent answer_of": "`told_beside` (`call_apply_lent` `Answers.antt`)", "call_apply_lent applied_with": "the same",
+    "call_parts copied_inside_from": "`copied_words` (`lent_tables` `Words.antt`)", "effect_function_context copied_places": "the same", "lent_effects copied_from": "the same",
     "call_parts kept_entries": "`keep_entries` (`def_transfer` `Instruction.antt`), which the contract cites itself now",
     "effect_acts sequel": "`follow` of the same file, and `answers` (`laws_monad` `Answers.antt`)",
     "effect_flow refuses": "`flows` of the same file, by the kind of flow",
     "effect_freeze with_entries": "`freezing` and `walk` of the definition, which the contracts cite themselves",
     "effect_parts writes": "`is_written` (`def_transfer` `Step.antt`), which the contract cites itself now",
-    "effect_walk Enters": "the contract of `effect_walk::freeze_function_captures_transitive`: `Does` at each depth that suffices", "effect_walk Still": "`Walked` of the same file", "effect_walk walking": "the same contract",
+    "effect_walk Enters": "the contract of `effect_walk::freeze_function_captures_transitive`: `Does` at each depth that suffices", "effect_walk Still": "the same contract, whose equation has flag, session, marks and what is listed, and `Walked` of the same file", "effect_walk walking": "the same contract",
     "image_class3_candidates codes_of": "`used_words` (`def_image` `Refusals.antt`), whose columns it was",
     "lent_keys option_of": "none needed: the definitions speak of the library's `Option`", "lent_values option_of": "the same",
     "lent_world after": "`seen` (`lent_world` `Promise.antt`)", "lent_world before": "the same",
@@ -108,7 +113,7 @@ for lemma, crates in old.items():
     if lemma not in now:
         for crate in crates:
             lost.setdefault(crate, []).append(lemma)
-out += ["", "### Lemmas that are no longer there", "", f"{sum(map(len, lost.values()))} of {len(old)} names. None was a theorem that README or docs/ states (docs/NAMES.md has two of them, `one_more_is` and `wrong_context_is`, among the names that changed): each was a step in the proof of one function of its crate (a turn of a loop that is `any`, `all`, a `for` over members or a method now; a way through a `match` or an `if` that the check finds alone; a way in which a part was refused, said of lists), and the contract of that function, which stands, states what the step was for.", ""]
+out += ["", "### Lemmas that are no longer there", "", f"{sum(map(len, lost.values()))} of {len(old)} names. None was a theorem that README or docs/ states (docs/NAMES.md has three of them, `one_more_is`, `wrong_context_is` and `values_of_is`, among the names that changed): each was a step in the proof of one function of its crate (a turn of a loop that is `any`, `all`, a `for` over members or a method now; a way through a `match` or an `if` that the check finds alone; a way in which a part was refused, said of lists), and the contract of that function, which stands, states what the step was for.", ""]
 out += [f"- `{crate}`: " + ", ".join(f"`{n}`" for n in sorted(names)) for crate, names in sorted(lost.items())]
 same = [d for d in r["definitions"]["changed"] if renamed(short(d[-2])) == renamed(short(d[-1]))]
 other = [d for d in r["definitions"]["changed"] if d not in same]
