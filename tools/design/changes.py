@@ -110,10 +110,9 @@ def lemmas(commit):
 old, now = lemmas(COMMIT), lemmas(None)
 lost = {}
 for lemma, crates in old.items():
-    if lemma not in now:
-        for crate in crates:
-            lost.setdefault(crate, []).append(lemma)
-out += ["", "### Lemmas that are no longer there", "", f"{sum(map(len, lost.values()))} of {len(old)} names. None was a theorem that README or docs/ states (docs/NAMES.md has three of them, `one_more_is`, `wrong_context_is` and `values_of_is`, among the names that changed): each was a step in the proof of one function of its crate (a turn of a loop that is `any`, `all`, a `for` over members or a method now; a way through a `match` or an `if` that the check finds alone; a way in which a part was refused, said of lists), and the contract of that function, which stands, states what the step was for.", ""]
+    for crate in crates - now.get(lemma, set()):
+        lost.setdefault(crate, []).append(lemma)
+out += ["", "### Lemmas that are no longer there", "", f"{sum(map(len, lost.values()))} of {sum(map(len, old.values()))}, by crate (some are private now, or stand in another crate). None was a theorem that README or docs/ states (docs/NAMES.md has three of them, `one_more_is`, `wrong_context_is` and `values_of_is`, among the names that changed): each was a step in the proof of one function of its crate (a turn of a loop that is `any`, `all`, a `for` over members or a method now; a way through a `match` or an `if` that the check finds alone; a way in which a part was refused, said of lists), and the contract of that function, which stands, states what the step was for.", ""]
 out += [f"- `{crate}`: " + ", ".join(f"`{n}`" for n in sorted(names)) for crate, names in sorted(lost.items())]
 same = [d for d in r["definitions"]["changed"] if renamed(short(d[-2])) == renamed(short(d[-1]))]
 other = [d for d in r["definitions"]["changed"] if d not in same]
