@@ -10,7 +10,7 @@ use def_effects::{Place, Span};
 use def_kinds::{AbstractValue, DEFAULT, ValueKind};
 use lent_slices::set;
 use std::io;
-use test_bytes::{fill_state, number, session};
+use test_bytes::{argument, fill_state, number, session};
 
 // Repetitions: a power of ten, up to a million; 9 is none.
 fn power(e: u32) -> u32 {
@@ -362,8 +362,9 @@ fn measure<const SETS: usize, const CONTEXT: usize, const CANDIDATES: usize, con
 // The tables of case 1 have room for 8 interned effects; the first call needs 3, and the others, which find three, 6.
 // Middling ones have room for 144: 136, the 7 that the candidates need, and one more. The others' context has the largest length.
 fn main(rt: HostRuntime) -> io::Result<()> {
-    let kind = number(&rt, 1);
-    let n = power(number(&rt, 2));
+    let mut text = [0u8; 16];
+    let kind = number(argument(&rt, 1, &mut text));
+    let n = power(number(argument(&rt, 2, &mut text)));
     let last = match kind {
         1 => measure::<32, 38614, 196, 1056>(kind, n, 1),
         2 => measure::<8192, 238534, 98, 9216>(kind, n, 512),

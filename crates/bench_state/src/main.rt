@@ -5,7 +5,7 @@
 use def_kinds::DEFAULT;
 use def_refusals::class_of;
 use std::io;
-use test_bytes::{fill_state, number, session};
+use test_bytes::{argument, fill_state, number, session};
 
 // Repetitions: a power of ten, up to a million.
 fn power(e: u32) -> u32 {
@@ -78,16 +78,18 @@ fn once(op: u32, values: &mut [u64], sets: &mut [u64], values2: &[u64], sets2: &
 }
 
 fn main(rt: HostRuntime) -> io::Result<()> {
+    let mut text = [0u8; 16];
+    let op = number(argument(&rt, 1, &mut text));
+    let is_full = number(argument(&rt, 2, &mut text)) == 1;
+    let times = power(number(argument(&rt, 3, &mut text)));
     let mut values = [0u64; 1024];
     let mut sets = [0u64; 8192];
     let mut values2 = [0u64; 1024];
     let mut sets2 = [0u64; 8192];
-    let op = number(&rt, 1);
-    let is_full = number(&rt, 2) == 1;
     fill(&mut values, &mut sets, is_full);
     fill(&mut values2, &mut sets2, is_full);
     let mut last = 0;
-    for _ in 0..power(number(&rt, 3)) {
+    for _ in 0..times {
         last = once(op, &mut values, &mut sets, &values2, &sets2);
     }
     println!(rt; "{last}")

@@ -1,12 +1,11 @@
 // State and context saved to scratch, before an instruction runs.
 #![tactic(auto)]
 
-ghost use Rattle.std.specs.Prelude.{◌≡◌, ◌≤◌, length};
+ghost use Rattle.std.specs.Prelude.{◌≡◌};
 ghost use Rattle.call_undo.specs.Saves.{saved_state, saved_context};
-ghost use Rattle.lent_layout.specs.Layout as Layout;
 
 use lent_copies::copy;
-use lent_layout::{EFFECTS_FROM, INTERNED_COUNT, SAVED, SAVED_FROM, SAVED_WORDS};
+use lent_layout::{SAVED, SAVED_FROM};
 
 // Values and n words of sets are copied to scratch, one after the other.
 // 1,024 words, then as many as the sets have.
@@ -17,28 +16,13 @@ pub fn save_state(values: &[u64], sets: &[u64], n: u32, scratch: &mut [u64])
     copy(sets, 0, scratch, 1024, n, 0);
 }
 
-// The words that are saved of a context, where both lists have them all: no test at each word.
-// An accepted call always comes here, so that the copy runs as fast as memory does.
-fn copy_saved(context: &[u32], scratch: &mut [u32])
-    requires { ((Layout.interned).base ≤ length context.now) × (Layout.saved_words ≤ length scratch.old) }
-    ensures { scratch.new ≡ saved_context context.now scratch.old }
-{
-    for k in 0..SAVED_WORDS {
-        scratch[k] = context[INTERNED_COUNT + k];
-    }
-}
-
 // The words of a context between its functions and its interned effects are copied to scratch.
 // The count of interned effects is the first of them.
 #[tactic(auto, unfolding(call_undo::specs::Saves::saved_context))]
 pub fn save_context(context: &[u32], scratch: &mut [u32])
     ensures { scratch.new ≡ saved_context context.now scratch.old }
 {
-    if context.len() < EFFECTS_FROM || scratch.len() < SAVED_WORDS {
-        copy(context, SAVED_FROM, scratch, 0, SAVED, 0);
-        return;
-    }
-    copy_saved(context, scratch);
+    copy(context, SAVED_FROM, scratch, 0, SAVED, 0);
 }
 
 // State and context are saved.

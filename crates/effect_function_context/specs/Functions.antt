@@ -18,4 +18,7 @@ copied_context c f ws = copied_words Layout.contexts c f 0 80 (set ws 0 (field L
 -- a Capture of a place that is defined and Primitive, Frozen or Global
 -- what the definition's `update_context` asks
 unfoldable pub becomes_read : List ℕ → List ℕ → Place → Bool
-becomes_read vs ss p = eqb p.effect Places.Capture && (is_some (set_at ss p.identifier) && (copied (kind_of (value_at vs) (set_at ss p.identifier)).kind || is_frozen (kind_of (value_at vs) (set_at ss p.identifier)).kind))
+becomes_read vs ss p =
+    eqb p.effect Places.Capture
+    && (is_some (set_at ss p.identifier)
+    && (copied (kind_of (value_at vs) (set_at ss p.identifier)).kind || is_frozen (kind_of (value_at vs) (set_at ss p.identifier)).kind))

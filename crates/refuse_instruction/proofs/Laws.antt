@@ -1,4 +1,2 @@
 pub mod Use
 pub mod Instruction
-pub mod Split
-pub mod Parts

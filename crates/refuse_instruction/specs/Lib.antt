@@ -1,2 +1,1 @@
 pub mod EffectClasses
-pub mod Parts

@@ -2,7 +2,7 @@
 // A limit is none for a word without use, else the number that the word has to lie below.
 #![tactic(auto)]
 
-ghost use Rattle.std.specs.Prelude.{◌≡◌, ◌<◌, ℕ, Option};
+ghost use Rattle.std.specs.Prelude.{◌≡◌, ◌<◌, ◌+◌, ℕ, Option, length};
 ghost use Rattle.base_tests.specs.Tests.{ite};
 ghost use Rattle.def_refusals.specs.Verdicts.{number_of, class_of};
 ghost use Rattle.refuse_words.specs.Classes as Classes;
@@ -101,22 +101,18 @@ pub fn record_class<F: Fn(usize) -> Option<u64>>(
 // What stands past the end of the list counts as zero.
 #[tactic(auto, unfolding(crate::specs::Classes::lent_from))]
 fn lent_from(xs: &[u32], from: usize, n: usize) -> usize
-    ensures { result ≡ Classes.lent_from xs.now from n }
+    ensures value { result ≡ Classes.lent_from xs.now from n }
+    ensures within { (k : ℕ) → k < result → from + k < length xs.now }
 {
     xs.len().saturating_sub(from).min(n)
 }
 
 // What n words without use earn, from one on: Order where one of them is not zero.
-// The words are gathered bit by bit, so that the loop has one read for each word and no branch.
 pub fn stray_from(xs: &[u32], from: usize, n: usize) -> Verdict
     ensures { class_of result ≡ stray_from xs.now from n }
 {
     let m = lent_from(xs, from, n);
-    let mut all: u32 = 0;
-    for k in 0..m {
-        all |= xs[from + k];
-    }
-    earns(Refusal::Order, all != 0)
+    earns(Refusal::Order, (0..m).any(|k| xs[from + k] != 0))
 }
 
 // What the words of a table after its first n records earn.

@@ -14,9 +14,11 @@ all_values = 2 ^ 1024 - 2
 -- word 0 is no value number
 abbrev pub ValuesFilled : ℕ → List ℕ → List ℕ → Type 0
 ValuesFilled n old new =
-    (length new ≡ length old) × ((v : ℕ) → v < length old → value_at new v ≡ ite (ltb 0 v && ltb v n) (Some (mk Mutable 2048)) (value_at old v))
+    (length new ≡ length old)
+    × ((v : ℕ) → v < length old → value_at new v ≡ ite (ltb 0 v && ltb v n) (Some (mk Mutable 2048)) (value_at old v))
 
 -- the identifiers below n have all values, and the other rows stay
 abbrev pub SetsFilled : ℕ → List ℕ → List ℕ → Type 0
 SetsFilled n old new =
-    (length new ≡ length old) × ((m : ℕ) → length old ≡ 16 * m → (i : ℕ) → i < m → set_at new i ≡ ite (ltb i n) (Some all_values) (set_at old i))
+    (length new ≡ length old)
+    × ((m : ℕ) → length old ≡ 16 * m → (i : ℕ) → i < m → set_at new i ≡ ite (ltb i n) (Some all_values) (set_at old i))

@@ -1,5 +1,6 @@
--- What is read from the bytes of a file, and how differences are counted. Assumes nothing: these are definitions.
-use Rattle.std.specs.Prelude.{ℕ, ◌+◌, List, Bool, true, false, ltb, length, take, min}
+-- What is read from the bytes of a file and from a text, and how differences are counted. Assumes nothing: these are definitions.
+use Rattle.std.specs.Prelude.{ℕ, ◌+◌, ◌<◌, ◌≡◌, List, Bool, true, false, ltb, length, take, min}
+use Rattle.std.specs.Str.Parse.{IsNumeral, digits_value, without_leading_plus}
 use lib.ListN.{replicate}
 use Rattle.std.specs.Int.{w32, from_le_bytes}
 use Rattle.base_tests.specs.Tests.{ite}
@@ -19,3 +20,11 @@ has n xs = ite (ltb (length xs) n) false true
 -- the first word, its lowest byte first
 abbrev pub word : List ℕ → ℕ
 word xs = from_le_bytes w32 (front 4 xs)
+
+-- a text writes a number that a word holds: decimal digits, after a plus or not
+abbrev pub WritesWord : List ℕ → Type 0
+WritesWord text = IsNumeral 10 (without_leading_plus text) × (digits_value 10 (without_leading_plus text) < 4294967296)
+
+-- n is the number that a text writes, or 0 where it writes none that a word holds
+abbrev pub Written : List ℕ → ℕ → Type 0
+Written text n = (WritesWord text → n ≡ digits_value 10 (without_leading_plus text)) × ((WritesWord text → ⊥) → n ≡ 0)

@@ -1,9 +1,8 @@
 // What the programs share: words of a file as they are read and compared, whole buffers, arguments, and what the benchmarks and the replays lend.
-// No contract can say what a file or an argument gives, so that `argument` and `number` have none.
 #![tactic(auto)]
 
 ghost use Rattle.std.specs.Prelude.{◌≡◌, ◌≤◌, ◌<◌, true, false, IfOk, length, drop, eqb};
-ghost use Rattle.test_bytes.specs.Reads.{counted, front, has, word};
+ghost use Rattle.test_bytes.specs.Reads.{Written, counted, front, has, word};
 ghost use Rattle.test_bytes.specs.Full.{ValuesFilled, SetsFilled};
 
 use def_effects::{Session, Span};
@@ -104,18 +103,22 @@ pub fn read_full(input: &mut impl Read, buffer: &mut [u8]) -> io::Result<usize>
     Ok(done)
 }
 
-// Argument i, or an empty text where it is missing, too long or no text.
-pub fn argument<'a>(rt: &impl Env, i: usize, buffer: &'a mut [u8]) -> &'a str {
+// Argument i, or an empty text where it is missing, longer than the buffer, or no text.
+// What an argument is, no contract of the system says.
+pub fn argument<'a>(rt: &impl Env, i: usize, buffer: &'a mut [u8]) -> &'a str
+    ensures { length result.now ≤ length buffer.old }
+{
     match rt.arg(i, buffer) {
         Ok(n) => str::from_utf8(&buffer[..n]).unwrap_or(""),
         Err(_) => "",
     }
 }
 
-// Argument i as a number, or 0 where it is none.
-pub fn number(rt: &impl Env, i: usize) -> u32 {
-    let mut text = [0u8; 16];
-    argument(rt, i, &mut text).parse().unwrap_or(0)
+// The number that a text writes, or 0 where it writes none that a word holds.
+pub fn number(text: &str) -> u32
+    ensures { Written text.now result }
+{
+    text.parse().unwrap_or(0)
 }
 
 // ---- what is lent
