@@ -83,6 +83,7 @@ DEFINED = {
     "image_class3_candidates codes_of": "`used_words` (`def_image` `Refusals.antt`), whose columns it was",
     "lent_keys option_of": "none needed: the definitions speak of the library's `Option`", "lent_values option_of": "the same",
     "lent_world after": "`seen` (`lent_world` `Promise.antt`)", "lent_world before": "the same",
+    "refuse_instruction middle_word": "`record_class` of `effect_limit` (`refuse_words` `Classes.antt`, `refuse_instruction` `EffectClasses.antt`): seven words of it", "refuse_instruction place_word": "the same: five words of it",
     "refuse_words limit_of": "none needed: limits are `Option` in code and definitions",
     "state_calls kind_answer": "`outcome` (`state_calls` `Answers.antt`)", "state_calls mutation_answer": "the same", "state_calls test_answer": "the same",
 }
