@@ -26,11 +26,7 @@ use lent_world::World;
 fn set_words(sets: &[u64]) -> u32
     ensures { result ≡ at_most 8192 (length sets.now) }
 {
-    if sets.len() > 8192 {
-        8192
-    } else {
-        sets.len() as u32
-    }
+    sets.len().min(8192) as u32
 }
 
 // How many records a list of candidates has, but no more than 64.
@@ -38,8 +34,7 @@ fn set_words(sets: &[u64]) -> u32
 fn candidate_count(candidates: &[u32]) -> u32
     ensures { result ≡ at_most 64 (candidate_count candidates.now) }
 {
-    let n = candidates.len() / EFFECT_WORDS;
-    if n > 64 { 64 } else { n as u32 }
+    (candidates.len() / EFFECT_WORDS).min(64) as u32
 }
 
 // What an instruction has by value as it begins.

@@ -5,7 +5,7 @@ ghost use Rattle.std.specs.Prelude.{◌≡◌};
 ghost use Rattle.call_undo.specs.Saves.{saved_state, saved_context};
 
 use lent_copies::copy;
-use lent_layout::{SAVED, SAVED_FROM};
+use lent_layout::{INTERNED_COUNT, SAVED_WORDS};
 
 // Values and n words of sets are copied to scratch, one after the other.
 // 1,024 words, then as many as the sets have.
@@ -22,7 +22,7 @@ pub fn save_state(values: &[u64], sets: &[u64], n: u32, scratch: &mut [u64])
 pub fn save_context(context: &[u32], scratch: &mut [u32])
     ensures { scratch.new ≡ saved_context context.now scratch.old }
 {
-    copy(context, SAVED_FROM, scratch, 0, SAVED, 0);
+    copy(context, INTERNED_COUNT as u32, scratch, 0, SAVED_WORDS as u32, 0);
 }
 
 // State and context are saved.

@@ -9,7 +9,7 @@ ghost use Rattle.lent_copies.specs.Cleared.{Cleared};
 ghost use Rattle.lent_world.specs.Promise.{Kept};
 
 use lent_copies::copy;
-use lent_layout::{EFFECT_WORDS, EFFECTS_FROM, SAVED, SAVED_FROM};
+use lent_layout::{EFFECT_WORDS, EFFECTS_FROM, INTERNED_COUNT, SAVED_WORDS};
 use lent_links::interned_count;
 use lent_slices::{get_or, set};
 use lent_world::World;
@@ -47,7 +47,7 @@ pub fn restore_context(context: &mut [u32], scratch: &[u32])
     let before = get_or(scratch, 0, 0);
     let after = interned_count(context);
     forget_effects(context, before, after);
-    copy(scratch, 0, context, SAVED_FROM, SAVED, 0);
+    copy(scratch, 0, context, INTERNED_COUNT as u32, SAVED_WORDS as u32, 0);
 }
 
 // ---- both

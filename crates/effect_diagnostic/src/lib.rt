@@ -9,7 +9,7 @@ ghost use Rattle.lent_world.specs.Promise.{seen, Kept, comes, Does, Unwritten};
 use def_effects::{AliasingDiagnostic, Diagnostic};
 use def_refusals::Refusal;
 use lent_diagnostics::{
-    find_identity, find_instance, identity_count, instance_count, put_diagnostic,
+    Numbered, find_identity, find_instance, identity_count, instance_count, put_diagnostic,
 };
 use lent_layout::DIAGNOSTIC_COUNT;
 use lent_slices::set;
@@ -32,22 +32,23 @@ pub fn identity_for(world: &World, d: Diagnostic) -> Result<u32, Refusal>
 }
 
 // The place of an equal record, or of a new one; 10 refuses the 257th.
-pub fn instance_for(world: &mut World, identity: u32, d: Diagnostic) -> Result<u32, Refusal>
+pub fn instance_for(world: &mut World, x: Numbered) -> Result<u32, Refusal>
     ensures kept { Kept world.old world.new }
     ensures unwritten { Unwritten world.old world.new }
     ensures does { Does
-        (Context.new_instance identity d (Lent.find_instance world.old.context.now identity d))
+        (Context.new_instance x.identity x.diagnostic
+        (Lent.find_instance world.old.context.now x.identity x.diagnostic))
         world.old world.new result }
 {
     let context = &mut *world.context;
-    if let Some(n) = find_instance(context, identity, d) {
+    if let Some(n) = find_instance(context, x) {
         return Ok(n);
     }
     let n = instance_count(context);
     if n >= 256 {
         return Err(Refusal::Diagnostics);
     }
-    put_diagnostic(context, n, identity, d);
+    put_diagnostic(context, n, x);
     set(context, DIAGNOSTIC_COUNT, n + 1);
     Ok(n)
 }
@@ -60,6 +61,10 @@ pub fn intern_diagnostic(world: &mut World, d: Diagnostic) -> Result<AliasingDia
     ensures does { Does (Context.intern_diagnostic d) world.old world.new result }
 {
     let identity = identity_for(world, d)?;
-    let instance = instance_for(world, identity, d)?;
+    let x = Numbered {
+        identity,
+        diagnostic: d,
+    };
+    let instance = instance_for(world, x)?;
     Ok(AliasingDiagnostic { identity, instance })
 }

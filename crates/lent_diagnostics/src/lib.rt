@@ -92,44 +92,34 @@ pub fn diagnostic_in(context: &[u32], k: u32) -> Numbered
 pub fn identities_before(context: &[u32], n: u32) -> u64
     ensures { result ≡ identities (diagnostics_in context.now 0 n) }
 {
-    let mut most: u64 = 0;
-    for k in 0..n {
-        let identity = DIAGNOSTICS.field(context, k as usize, 0);
-        most = (identity as u64 + 1).max(most);
-    }
-    most
+    (0..n)
+        .map(|k| DIAGNOSTICS.field(context, k as usize, 0) as u64 + 1)
+        .max()
+        .unwrap_or(0)
 }
 
 // The identity of the first of n diagnostics with the same identifier, message and help.
 pub fn identity_before(context: &[u32], n: u32, d: Diagnostic) -> Option<u32>
     ensures { result ≡ Pure.find_identity (diagnostics_in context.now 0 n) d }
 {
-    for k in 0..n {
-        let x = diagnostic_in(context, k);
-        if same_identity(d, x.diagnostic) {
-            return Some(x.identity);
-        }
-    }
-    None
+    (0..n)
+        .find(|&k| same_identity(d, diagnostic_in(context, k).diagnostic))
+        .map(|k| diagnostic_in(context, k).identity)
 }
 
-// Whether a record has an identity and the labels of a diagnostic.
-pub fn is_instance(x: Numbered, identity: u32, d: Diagnostic) -> bool
-    ensures { result ≡ eqb identity x.identity && same_labels d x.diagnostic }
+// Whether a record has the identity and the labels of one that is sought.
+pub fn is_instance(x: Numbered, sought: Numbered) -> bool
+    ensures { result ≡ eqb sought.identity x.identity && same_labels sought.diagnostic x.diagnostic }
 {
-    identity == x.identity && same_labels(d, x.diagnostic)
+    sought.identity == x.identity && same_labels(sought.diagnostic, x.diagnostic)
 }
 
-// The place of the first of n records with an identity and the labels of a diagnostic.
-pub fn instance_before(context: &[u32], n: u32, identity: u32, d: Diagnostic) -> Option<u32>
-    ensures { result ≡ Pure.find_instance 0 (diagnostics_in context.now 0 n) identity d }
+// The place of the first of n records with the identity and the labels of one that is sought.
+pub fn instance_before(context: &[u32], n: u32, sought: Numbered) -> Option<u32>
+    ensures { result ≡ Pure.find_instance 0 (diagnostics_in context.now 0 n)
+        sought.identity sought.diagnostic }
 {
-    for k in 0..n {
-        if is_instance(diagnostic_in(context, k), identity, d) {
-            return Some(k);
-        }
-    }
-    None
+    (0..n).find(|&k| is_instance(diagnostic_in(context, k), sought))
 }
 
 // How many identities there are.
@@ -149,22 +139,23 @@ pub fn find_identity(context: &[u32], d: Diagnostic) -> Option<u32>
     identity_before(context, instance_count(context), d)
 }
 
-// The place of the first record with an identity and the labels of a diagnostic.
+// The place of the first record with the identity and the labels of one that is sought.
 // This is the second look-up of intern_aliasing_diagnostic.
 #[tactic(auto, unfolding(lent_context::specs::Lent::find_instance))]
-pub fn find_instance(context: &[u32], identity: u32, d: Diagnostic) -> Option<u32>
-    ensures { result ≡ Lent.find_instance context.now identity d }
+pub fn find_instance(context: &[u32], sought: Numbered) -> Option<u32>
+    ensures { result ≡ Lent.find_instance context.now sought.identity sought.diagnostic }
 {
-    instance_before(context, instance_count(context), identity, d)
+    instance_before(context, instance_count(context), sought)
 }
 
 // A diagnostic with its identity is written as record k.
 // Nine words; past 255 there is nothing to write.
-pub fn put_diagnostic(context: &mut [u32], k: u32, identity: u32, d: Diagnostic)
-    ensures { context.new ≡ Lent.put_diagnostic context.old k identity d }
+pub fn put_diagnostic(context: &mut [u32], k: u32, x: Numbered)
+    ensures { context.new ≡ Lent.put_diagnostic context.old k x.identity x.diagnostic }
 {
     let i = k as usize;
-    DIAGNOSTICS.put_field(context, i, 0, identity);
+    let d = x.diagnostic;
+    DIAGNOSTICS.put_field(context, i, 0, x.identity);
     DIAGNOSTICS.put_field(context, i, 1, d.identifier);
     DIAGNOSTICS.put_field(context, i, 2, d.case);
     DIAGNOSTICS.put_field(context, i, 3, d.sentence);

@@ -90,11 +90,6 @@ pub const SAVED_WORDS: usize = 25347;
 
 pub const EFFECTS_FROM: usize = 37830;
 
-// The same for `lent_copies::copy`, which counts in words of 32 bits: from where on, and how many.
-pub const SAVED_FROM: u32 = 12483;
-
-pub const SAVED: u32 = 25347;
-
 // ---- effects in slices of their own
 
 // How many words the record of an effect has.

@@ -37,17 +37,10 @@ fn is_keyed(context: &[u32], v: u32) -> bool
 }
 
 // How many of the numbers below m have a key.
-#[tactic(auto, using(crate::proofs::Laws::KeyOrder::none_counted, crate::proofs::Laws::KeyOrder::counted_next), unfolding(base_search::specs::Counting::how_many))]
 fn keyed(context: &[u32], m: u32) -> u32
     ensures { result ≡ how_many (Lent.is_keyed context.now) m }
 {
-    let mut n: u32 = 0;
-    for k in 0..m {
-        if is_keyed(context, k) {
-            n += 1;
-        }
-    }
-    n
+    (0..m).map(|v| u32::from(is_keyed(context, v))).sum()
 }
 
 // Whether the number at place j of an order of n has no key, or its key does not come before the next.

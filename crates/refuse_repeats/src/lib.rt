@@ -13,10 +13,8 @@ pub fn diagnostic_twice(context: &[u32], k: u32) -> bool
     ensures { result ≡ diagnostic_twice context.now k }
 {
     let x = diagnostic_in(context, k);
-    let d = x.diagnostic;
-    let identity = x.identity;
-    match identity_before(context, k, d) {
-        None => identity as u64 != identities_before(context, k),
-        Some(m) => identity != m || instance_before(context, k, identity, d).is_some(),
+    match identity_before(context, k, x.diagnostic) {
+        None => x.identity as u64 != identities_before(context, k),
+        Some(m) => x.identity != m || instance_before(context, k, x).is_some(),
     }
 }

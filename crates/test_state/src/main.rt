@@ -161,7 +161,7 @@ fn variant_of(n: u32) -> MutateVariant {
 fn check_write(record: &mut Reading, state: &State, now: Session, i: u32, kind: ValueKind) {
     let w = state_read_kinds::may_write(&state.values, &state.sets, now, i);
     record.check(w.is_ok());
-    record.check(w.unwrap_or(false) == matches!(kind, ValueKind::Mutable | ValueKind::Context));
+    record.check(w.unwrap_or(false) == kind.is_writable());
 }
 
 // An operation on one state, compared with the first words of its answer; the session after it.

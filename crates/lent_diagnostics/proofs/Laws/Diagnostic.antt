@@ -1,18 +1,19 @@
 -- Laws by which the code of diagnostics meets the definitions. Assumes nothing.
-use Rattle.std.specs.Prelude.{ℕ, suc, max, ◌+◌, ◌-◌, ◌≤◌, ◌<◌, ◌≡◌, Bool, ◌&&◌, eqb, get_or, Option, None, Some}
+use Rattle.std.specs.Prelude.{ℕ, zero, suc, max, map, ◌+◌, ◌-◌, ◌≤◌, ◌<◌, ◌≡◌, refl, Bool, ◌&&◌, eqb, get_or, Option, None, Some}
+use Rattle.std.specs.List.{range_with_len, fold, reduce}
+use Rattle.std.specs.Option.{MatchOption, IsSomeAnd, option_map, unwrap_or}
+use Rattle.std.proofs.lemmas.Iterator.Adapters.{option_map_id}
 use native.Mathlib.Omega.{arith}
 use Rattle.std.proofs.Common.{add-one, ◌∙◌}
 use Rattle.std.proofs.Math.Path.{sym, ap}
 use Rattle.std.proofs.Math.Bool.{true, false}
-use mathlib.Core.List.{List, [], ◌∷◌}
+use mathlib.Core.List.{List}
 use Rattle.def_effects.specs.declared.Diagnostic.{Diagnostic}
 use Rattle.def_transfer.specs.Diagnostics.{same_identity, same_labels}
 use Rattle.def_transfer.specs.Pure.{Interned, identities, find_identity as first_identity, find_instance as first_instance}
 use Rattle.lent_tables.specs.Words.{field, put_field}
 use Rattle.lent_layout.specs.Layout as Layout
 use Rattle.lent_context.specs.Lent.{diagnostic_in, diagnostics_in, instance_count, put_diagnostic}
-use Rattle.lent_diagnostics.specs.declared.Numbered.{Numbered}
-use Rattle.lent_diagnostics.specs.Numbered.{interned_of}
 
 -- ---- records of diagnostics
 
@@ -50,120 +51,84 @@ pub diagnostic_written : (c c0 c1 c2 c3 c4 c5 c6 c7 c8 : List ℕ) (k i n : ℕ)
 unfolding put_diagnostic
 diagnostic_written c c0 c1 c2 c3 c4 c5 c6 c7 c8 k i n d e h0 h1 h2 h3 h4 h5 h6 h7 h8 = cc
 
--- the diagnostics that are left, with one to look at
-diagnostics_more : (c : List ℕ) (k n : ℕ) → k < n → diagnostics_in c k (n - k) ≡ diagnostic_in c k ∷ diagnostics_in c (k + 1) (n - (k + 1))
-unfolding diagnostics_in
-diagnostics_more c k n h =
-    let m : n - k ≡ suc (n - (k + 1)) = omega arith in
-    ap (diagnostics_in c k) m ∙ ap (λ (z : ℕ). diagnostic_in c k ∷ diagnostics_in c z (n - (k + 1))) (sym (add-one k))
-
--- the diagnostics that are left when none is
--- the loop's end
-diagnostics_none : (c : List ℕ) (k n : ℕ) → n ≤ k → diagnostics_in c k (n - k) ≡ []
-unfolding diagnostics_in
-diagnostics_none c k n h =
-    let m : n - k ≡ 0 = omega arith in
-    ap (diagnostics_in c k) m
-
--- a loop begins with all n
-diagnostics_all : (c : List ℕ) (n : ℕ) → diagnostics_in c 0 n ≡ diagnostics_in c 0 (n - 0)
-diagnostics_all c n =
-    let a : n ≡ n - 0 = omega arith in
-    ap (diagnostics_in c 0) a
+-- whether a record is the instance
+-- the definition's test
+abbrev pub is_instance : ℕ → Diagnostic → Interned → Bool
+is_instance i d x = eqb i x.identity && same_labels d x.diagnostic
 
 -- ---- how many identities there are
 
 -- the larger of three numbers, from the left as from the right
--- the definition counts from the right, the loop from the left
-larger_three : (a b c : ℕ) → max a (max (suc b) c) ≡ max (max (b + 1) a) c
+larger_three : (a b c : ℕ) → max (max a (b + 1)) c ≡ max a (max (suc b) c)
 larger_three a b c = omega arith
 
--- one more diagnostic
-pub identities_more : (c : List ℕ) (k n i x most r : ℕ) → k < n → i ≡ k → x ≡ field Layout.diagnostics c i 0 → r ≡ max (x + 1) most
-    → max most (identities (diagnostics_in c k (n - k))) ≡ max r (identities (diagnostics_in c (k + 1) (n - (k + 1))))
-unfolding identities diagnostic_in
-identities_more c k n i x most r l e h g =
-    ap (λ (ds : List Interned). max most (identities ds)) (diagnostics_more c k n l)
-    ∙ larger_three most (field Layout.diagnostics c k 0) (identities (diagnostics_in c (k + 1) (n - (k + 1))))
-    ∙ ap (λ (z : ℕ). max z (identities (diagnostics_in c (k + 1) (n - (k + 1))))) (ap (λ (y : ℕ). max (y + 1) most) (ap (λ (j : ℕ). field Layout.diagnostics c j 0) (sym e) ∙ sym h) ∙ sym g)
+module _ (c : List ℕ) where
+  -- one more than the identity of record k
+  abbrev pub above : ℕ → ℕ
+  above k = field Layout.diagnostics c k 0 + 1
 
--- the last of n diagnostics is counted
--- the loop's end is the whole
-pub identities_end : (c : List ℕ) (k n most : ℕ) → n ≤ k → max 0 (identities (diagnostics_in c 0 (n - 0))) ≡ max most (identities (diagnostics_in c k (n - k))) → most ≡ identities (diagnostics_in c 0 n)
-unfolding identities
-identities_end c k n most l inv =
-    let z : identities (diagnostics_in c k (n - k)) ≡ 0 = ap identities (diagnostics_none c k n l) in
-    let y : identities (diagnostics_in c 0 n) ≡ identities (diagnostics_in c 0 (n - 0)) = ap identities (diagnostics_all c n) in
-    omega arith
+  -- the highest of n records from k on, or a number before them
+  -- the definition counts from the right, the code from the left
+  highest_from : (n k m : ℕ) → fold max m (map above (range_with_len k n)) ≡ max m (identities (diagnostics_in c k n))
+  unfolding identities diagnostics_in diagnostic_in
+  highest_from zero k m = omega arith
+  highest_from (suc n) k m =
+      highest_from n (k + 1) (max m (above k))
+      ∙ ap (λ (j : ℕ). max (max m (above k)) (identities (diagnostics_in c j n))) (add-one k)
+      ∙ larger_three m (field Layout.diagnostics c k 0) (identities (diagnostics_in c (suc k) n))
+
+  -- the highest of n records
+  pub identities_are : (n : ℕ) → unwrap_or (reduce max (map above (range_with_len 0 n))) 0 ≡ identities (diagnostics_in c 0 n)
+  unfolding identities diagnostics_in diagnostic_in
+  identities_are zero = refl
+  identities_are (suc n) =
+      highest_from n 1 (above 0)
+      ∙ ap (λ (z : ℕ). max z (identities (diagnostics_in c 1 n))) (add-one (field Layout.diagnostics c 0 0))
 
 -- ---- the two searches
 
-module _ (c : List ℕ) (d : Diagnostic) (k n : ℕ) where
-  -- the search of an identity, with one record to look at
-  identity_next : k < n → first_identity (diagnostics_in c k (n - k)) d
-      ≡ elim (same_identity d (diagnostic_in c k).diagnostic) as (λ x. Option ℕ) [ true ↦ Some (diagnostic_in c k).identity | false ↦ first_identity (diagnostics_in c (k + 1) (n - (k + 1))) d ]
-  unfolding first_identity
-  identity_next l = ap (λ (ds : List Interned). first_identity ds d) (diagnostics_more c k n l)
+-- a search of the records from k on, of which n are left: a test, and what is made of the place of the first that passes
+module _ (test : ℕ → Bool) (a : ℕ → ℕ) (search : ℕ → ℕ → Option ℕ) (none : (k : ℕ) → search k 0 ≡ None)
+    (next : (k n : ℕ) → search k (suc n) ≡ elim (test k) as (λ b. Option ℕ) [ true ↦ Some (a k) | false ↦ search (suc k) n ]) where
+  -- the first k do not pass
+  passed : (n k : ℕ) → k ≤ n → ((j : ℕ) → 0 ≤ j → j < k → test j ≡ false) → search 0 n ≡ search k (n - k)
+  passed n zero l h = let m : n ≡ n - 0 = omega arith in ap (search 0) m
+  passed n (suc k) l h =
+      let m : n - k ≡ suc (n - suc k) = omega arith in
+      passed n k (omega arith) (λ j z b. h j z (omega arith))
+      ∙ ap (search k) m
+      ∙ next k (n - suc k)
+      ∙ ap (λ (b : Bool). elim b as (λ x. Option ℕ) [ true ↦ Some (a k) | false ↦ search (suc k) (n - suc k) ]) (h k (omega arith) (omega arith))
 
-  -- a turn passes over record k
-  pub identity_passed : (x : Numbered) (b : Bool) → k < n → interned_of x ≡ diagnostic_in c k → b ≡ same_identity d x.diagnostic → b ≡ false
-      → first_identity (diagnostics_in c k (n - k)) d ≡ first_identity (diagnostics_in c (k + 1) (n - (k + 1))) d
-  identity_passed x b l g h z =
-      identity_next l
-      ∙ ap (λ (t : Bool). elim t as (λ x. Option ℕ) [ true ↦ Some (diagnostic_in c k).identity | false ↦ first_identity (diagnostics_in c (k + 1) (n - (k + 1))) d ])
-      (ap (λ (y : Interned). same_identity d y.diagnostic) (sym g) ∙ sym h ∙ z)
+  -- what the search of the numbers below n finds
+  searched : (n : ℕ) (r : Option ℕ) → MatchOption r ((k : ℕ) → 0 ≤ k → k < n → test k ≡ false) (λ i. (0 ≤ i) × (i < n) × (test i ≡ true) × ((k : ℕ) → 0 ≤ k → k < i → test k ≡ false)) → option_map a r ≡ search 0 n
+  searched n None h = let m : n - n ≡ 0 = omega arith in sym (passed n n (omega arith) h ∙ ap (search n) m ∙ none n)
+  searched n (Some i) h =
+      let m : n - i ≡ suc (n - suc i) = omega (arith, h.1) in
+      sym (passed n i (omega (arith, h.1)) h.3
+      ∙ ap (search i) m
+      ∙ next i (n - suc i)
+      ∙ ap (λ (b : Bool). elim b as (λ x. Option ℕ) [ true ↦ Some (a i) | false ↦ search (suc i) (n - suc i) ]) h.2)
 
-  module _ (inv : first_identity (diagnostics_in c 0 (n - 0)) d ≡ first_identity (diagnostics_in c k (n - k)) d) where
-    -- the definition's search is what the loop has left to do
-    identity_left : first_identity (diagnostics_in c 0 n) d ≡ first_identity (diagnostics_in c k (n - k)) d
-    identity_left = ap (λ (ds : List Interned). first_identity ds d) (diagnostics_all c n) ∙ inv
+-- what a function that computes `a` makes of the value in a `Some`
+pub mapped : (P : ℕ → ℕ → Type 0) (a : ℕ → ℕ) (r o : Option ℕ) → MatchOption r (o ≡ None) (λ x. IsSomeAnd o (P x)) → ((x y : ℕ) → P x y → y ≡ a x) → o ≡ option_map a r
+mapped P a None o h k = h
+mapped P a (Some x) None h k = absurd h
+mapped P a (Some x) (Some y) h k = ap Some (k x y h)
 
-    -- the search ends at record k
-    pub identity_found : (x : Numbered) (b : Bool) → k < n → interned_of x ≡ diagnostic_in c k → b ≡ same_identity d x.diagnostic → b ≡ true → Some x.identity ≡ first_identity (diagnostics_in c 0 n) d
-    identity_found x b l g h z =
-        ap (λ (y : Interned). Some y.identity) g
-        ∙ sym (identity_left ∙ identity_next l
-        ∙ ap (λ (t : Bool). elim t as (λ x. Option ℕ) [ true ↦ Some (diagnostic_in c k).identity | false ↦ first_identity (diagnostics_in c (k + 1) (n - (k + 1))) d ])
-        (ap (λ (y : Interned). same_identity d y.diagnostic) (sym g) ∙ sym h ∙ z))
+module _ (c : List ℕ) (n : ℕ) (r : Option ℕ) where
+  -- the search of an identity
+  pub identity_is : (d : Diagnostic)
+      → MatchOption r ((k : ℕ) → 0 ≤ k → k < n → same_identity d (diagnostic_in c k).diagnostic ≡ false)
+      (λ i. (0 ≤ i) × (i < n) × (same_identity d (diagnostic_in c i).diagnostic ≡ true) × ((k : ℕ) → 0 ≤ k → k < i → same_identity d (diagnostic_in c k).diagnostic ≡ false))
+      → option_map (λ k. (diagnostic_in c k).identity) r ≡ first_identity (diagnostics_in c 0 n) d
+  unfolding first_identity diagnostics_in
+  identity_is d h = searched (λ k. same_identity d (diagnostic_in c k).diagnostic) (λ k. (diagnostic_in c k).identity) (λ k m. first_identity (diagnostics_in c k m) d) (λ k. refl) (λ k m. refl) n r h
 
-    -- the search ends without a record
-    pub identity_nowhere : n ≤ k → None ≡ first_identity (diagnostics_in c 0 n) d
-    unfolding first_identity
-    identity_nowhere l = sym (identity_left ∙ ap (λ (ds : List Interned). first_identity ds d) (diagnostics_none c k n l))
-
-module _ (c : List ℕ) (m : ℕ) (d : Diagnostic) (k n : ℕ) where
-  -- whether a record is the instance
-  -- the definition's test
-  abbrev is_instance : Interned → Bool
-  is_instance x = eqb m x.identity && same_labels d x.diagnostic
-
-  -- the search of an instance, with one record to look at
-  instance_next : k < n → first_instance k (diagnostics_in c k (n - k)) m d
-      ≡ elim (is_instance (diagnostic_in c k)) as (λ x. Option ℕ) [ true ↦ Some k | false ↦ first_instance (k + 1) (diagnostics_in c (k + 1) (n - (k + 1))) m d ]
-  unfolding first_instance
-  instance_next l =
-      ap (λ (ds : List Interned). first_instance k ds m d) (diagnostics_more c k n l)
-      ∙ ap (λ (z : ℕ). elim (is_instance (diagnostic_in c k)) as (λ x. Option ℕ) [ true ↦ Some k | false ↦ first_instance z (diagnostics_in c (k + 1) (n - (k + 1))) m d ]) (sym (add-one k))
-
-  -- a turn passes over record k
-  pub instance_passed : (x : Numbered) (b : Bool) → k < n → interned_of x ≡ diagnostic_in c k → b ≡ (eqb m x.identity && same_labels d x.diagnostic) → b ≡ false
-      → first_instance k (diagnostics_in c k (n - k)) m d ≡ first_instance (k + 1) (diagnostics_in c (k + 1) (n - (k + 1))) m d
-  instance_passed x b l g h z =
-      instance_next l
-      ∙ ap (λ (t : Bool). elim t as (λ x. Option ℕ) [ true ↦ Some k | false ↦ first_instance (k + 1) (diagnostics_in c (k + 1) (n - (k + 1))) m d ]) (ap is_instance (sym g) ∙ sym h ∙ z)
-
-  module _ (inv : first_instance 0 (diagnostics_in c 0 (n - 0)) m d ≡ first_instance k (diagnostics_in c k (n - k)) m d) where
-    -- the definition's search is what the loop has left to do
-    instance_left : first_instance 0 (diagnostics_in c 0 n) m d ≡ first_instance k (diagnostics_in c k (n - k)) m d
-    instance_left = ap (λ (ds : List Interned). first_instance 0 ds m d) (diagnostics_all c n) ∙ inv
-
-    -- the search ends at record k
-    pub instance_found : (x : Numbered) (b : Bool) → k < n → interned_of x ≡ diagnostic_in c k → b ≡ (eqb m x.identity && same_labels d x.diagnostic) → b ≡ true → Some k ≡ first_instance 0 (diagnostics_in c 0 n) m d
-    instance_found x b l g h z =
-        sym (instance_left ∙ instance_next l
-        ∙ ap (λ (t : Bool). elim t as (λ x. Option ℕ) [ true ↦ Some k | false ↦ first_instance (k + 1) (diagnostics_in c (k + 1) (n - (k + 1))) m d ]) (ap is_instance (sym g) ∙ sym h ∙ z))
-
-    -- the search ends without a record
-    pub instance_nowhere : n ≤ k → None ≡ first_instance 0 (diagnostics_in c 0 n) m d
-    unfolding first_instance
-    instance_nowhere l = sym (instance_left ∙ ap (λ (ds : List Interned). first_instance k ds m d) (diagnostics_none c k n l))
+  -- the search of an instance
+  pub instance_is : (i : ℕ) (d : Diagnostic)
+      → MatchOption r ((k : ℕ) → 0 ≤ k → k < n → is_instance i d (diagnostic_in c k) ≡ false)
+      (λ j. (0 ≤ j) × (j < n) × (is_instance i d (diagnostic_in c j) ≡ true) × ((k : ℕ) → 0 ≤ k → k < j → is_instance i d (diagnostic_in c k) ≡ false))
+      → r ≡ first_instance 0 (diagnostics_in c 0 n) i d
+  unfolding first_instance diagnostics_in
+  instance_is i d h = sym (option_map_id r) ∙ searched (λ k. is_instance i d (diagnostic_in c k)) (λ k. k) (λ k m. first_instance k (diagnostics_in c k m) i d) (λ k. refl) (λ k m. refl) n r h

@@ -1,17 +1,16 @@
-use mathlib.Core.Path.{refl, ◌∙◌}
-use Rattle.lent_diagnostics.proofs.Laws.Diagnostic.{identity_passed, identity_found, identity_nowhere}
+-- `lent_diagnostics::identity_before` meets its contract: what the search of the records finds. Assumes nothing.
+use Rattle.std.specs.Prelude.{◌≡◌, true, false}
+use Rattle.std.proofs.Common.{rules, ◌∙◌}
+use Rattle.std.proofs.lemmas.Iterator.{first_from_Range}
+use Rattle.def_transfer.specs.Diagnostics.{same_identity}
+use Rattle.lent_context.specs.Lent.{diagnostic_in}
+use Rattle.lent_diagnostics.proofs.Laws.Diagnostic.{mapped, identity_is}
 use Rattle.lent_diagnostics.proofs.identity_before.Goals as goal
 
-pub loop-k-init : goal.loop-k-init
-loop-k-init c = refl
-
-pub returns-then-same_identity : goal.returns-then-same_identity
-returns-then-same_identity c =
-    identity_found _ _ _ _ c.loop-k.invariant _ _ c.loop-k-test.true c.diagnostic_in-x.ensures c.same_identity.ensures c.if-same_identity.true
-
-pub loop-k-preserved : goal.loop-k-preserved
-loop-k-preserved c =
-    c.loop-k.invariant ∙ identity_passed _ _ _ _ _ _ c.loop-k-test.true c.diagnostic_in-x.ensures c.same_identity.ensures c.if-same_identity.false
-
 pub returns : goal.returns
-returns c = identity_nowhere _ _ _ _ c.loop-k.invariant c.loop-k-test.false
+returns c =
+    mapped _ (λ k. (diagnostic_in c.args.context.now k).identity) c.find.result c.map.result c.map.ensures.cases (λ x y k. search rules)
+    ∙ identity_is c.args.context.now _ c.find.result c.args.d
+    (first_from_Range _ _ _ _ (λ k. same_identity c.args.d (diagnostic_in c.args.context.now k).diagnostic ≡ true)
+    (λ k. same_identity c.args.d (diagnostic_in c.args.context.now k).diagnostic ≡ false) c.find.ensures.ran
+    (λ x q k. search rules) (λ x q k. search rules))

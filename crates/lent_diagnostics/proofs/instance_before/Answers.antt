@@ -1,17 +1,13 @@
-use mathlib.Core.Path.{refl, ◌∙◌}
-use Rattle.lent_diagnostics.proofs.Laws.Diagnostic.{instance_passed, instance_found, instance_nowhere}
+-- `lent_diagnostics::instance_before` meets its contract: what the search of the records finds. Assumes nothing.
+use Rattle.std.specs.Prelude.{◌≡◌, true, false}
+use Rattle.std.proofs.Common.{rules}
+use Rattle.std.proofs.lemmas.Iterator.{first_from_Range}
+use Rattle.lent_context.specs.Lent.{diagnostic_in}
+use Rattle.lent_diagnostics.proofs.Laws.Diagnostic.{is_instance, instance_is}
 use Rattle.lent_diagnostics.proofs.instance_before.Goals as goal
 
-pub loop-k-init : goal.loop-k-init
-loop-k-init c = refl
-
-pub returns-then-is_instance : goal.returns-then-is_instance
-returns-then-is_instance c =
-    instance_found _ _ _ _ _ c.loop-k.invariant _ _ c.loop-k-test.true c.diagnostic_in.ensures c.is_instance.ensures c.if-is_instance.true
-
-pub loop-k-preserved : goal.loop-k-preserved
-loop-k-preserved c =
-    c.loop-k.invariant ∙ instance_passed _ _ _ _ _ _ _ c.loop-k-test.true c.diagnostic_in.ensures c.is_instance.ensures c.if-is_instance.false
-
 pub returns : goal.returns
-returns c = instance_nowhere _ _ _ _ _ c.loop-k.invariant c.loop-k-test.false
+returns c = instance_is c.args.context.now _ c.find.result c.args.sought.identity c.args.sought.diagnostic
+    (first_from_Range _ _ _ _ (λ k. is_instance c.args.sought.identity c.args.sought.diagnostic (diagnostic_in c.args.context.now k) ≡ true)
+    (λ k. is_instance c.args.sought.identity c.args.sought.diagnostic (diagnostic_in c.args.context.now k) ≡ false) c.find.ensures.ran
+    (λ x q k. search rules) (λ x q k. search rules))

@@ -1,15 +1,25 @@
--- Laws by which a loop counts the numbers that have a key. Assumes nothing.
-use Rattle.std.specs.Prelude.{ℕ, suc, ◌+◌, ◌≡◌, refl, Bool, List}
-use Rattle.std.proofs.Common.{arith, ap₂, ◌∙◌}
-use Rattle.std.proofs.Math.Path.{ap}
+-- How many of the numbers below m: a sum of ones, and no more than m. Assumes nothing.
+use Rattle.std.specs.Prelude.{ℕ, zero, suc, ◌+◌, ◌≤◌, ◌≡◌, refl, Bool, true, false, map}
+use Rattle.std.specs.List.{range_with_len, sum_by}
+use Rattle.std.proofs.Common.{arith, ap, ap₂, ◌∙◌}
+use Rattle.std.proofs.lemmas.List.FromFn.{sum_by-map-range_with_len_more}
 use Rattle.base_tests.specs.Tests.{ite}
 use Rattle.base_search.specs.Counting.{how_many}
-use Rattle.lent_context.specs.Lent.{is_keyed}
 
-pub none_counted : (c : List ℕ) → 0 ≡ how_many (is_keyed c) 0
-unfolding how_many
-none_counted c = refl
+module _ (p : ℕ → Bool) where
+  one : (b : Bool) → ite b 1 0 ≤ 1
+  one true = omega arith
+  one false = omega arith
 
-pub counted_next : (c : List ℕ) (k n r : ℕ) (b : Bool) → n ≡ how_many (is_keyed c) k → b ≡ is_keyed c k → r ≡ ite b 1 0 → n + r ≡ how_many (is_keyed c) (k + 1)
-unfolding how_many
-counted_next c k n r b e h g = ap₂ (λ (x y : ℕ). x + y) e (g ∙ ap (λ (t : Bool). ite t 1 0) h) ∙ ap (how_many (is_keyed c)) (let z : suc k ≡ k + 1 = omega arith in z)
+  pub how_many_le : (m : ℕ) → how_many p m ≤ m
+  unfolding how_many
+  how_many_le zero = omega arith
+  how_many_le (suc m) = let h = how_many_le m in let k = one (p m) in omega arith
+
+  pub counted : (m : ℕ) → sum_by (λ x. x) (map (λ k. ite (p k) 1 0) (range_with_len 0 m)) ≡ how_many p m
+  unfolding how_many
+  counted zero = refl
+  counted (suc m) =
+      ap (λ (n : ℕ). sum_by (λ x. x) (map (λ k. ite (p k) 1 0) (range_with_len 0 n))) (let z : suc m ≡ m + 1 = omega arith in z)
+      ∙ sum_by-map-range_with_len_more (λ x. x) (λ k. ite (p k) 1 0) 0 m m (omega arith)
+      ∙ ap (λ (x : ℕ). x + ite (p m) 1 0) (counted m)

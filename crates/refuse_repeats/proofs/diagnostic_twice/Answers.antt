@@ -6,9 +6,9 @@ use Rattle.refuse_repeats.proofs.diagnostic_twice.Goals as goal
 pub returns-in-None : goal.returns-in-None
 returns-in-None c = diagnostic_new _ _ _ c.diagnostic_in-x.ensures _ _ c.identity_before.ensures c.in-None.is c.identities_before.ensures
 
-pub returns-then-identity-m : goal.returns-then-identity-m
-returns-then-identity-m c = ap not (ne_eqb _ _ c.if-identity-m.true) ∙ diagnostic_other _ _ _ c.diagnostic_in-x.ensures _ _ c.identity_before.ensures c.in-Some.is c.if-identity-m.true
+pub returns-then-x-m : goal.returns-then-x-m
+returns-then-x-m c = ap not (ne_eqb _ _ c.if-x-m.true) ∙ diagnostic_other _ _ _ c.diagnostic_in-x.ensures _ _ c.identity_before.ensures c.in-Some.is c.if-x-m.true
 
-pub returns-else-identity-m : goal.returns-else-identity-m
-returns-else-identity-m c =
-    diagnostic_same _ _ _ c.diagnostic_in-x.ensures _ _ c.identity_before.ensures c.in-Some.is _ _ c.if-identity-m.false c.instance_before.ensures c.is_some.ensures
+pub returns-else-x-m : goal.returns-else-x-m
+returns-else-x-m c =
+    diagnostic_same _ _ _ c.diagnostic_in-x.ensures _ _ c.identity_before.ensures c.in-Some.is _ _ c.if-x-m.false c.instance_before.ensures c.is_some.ensures
