@@ -18,6 +18,7 @@ use effect_number::get_or_create_value_id;
 use effect_parts::{begin, create, emit, kind, kind_with_span};
 use lent_effects::AliasingEffect;
 use lent_key_of::two_key;
+use lent_keys::WholeKey;
 use lent_world::World;
 
 // An ImmutableCapture is listed, unless its source is Primitive or Global.
@@ -46,7 +47,7 @@ pub fn number_and_create(
     ensures kept { Kept world.old world.new }
     ensures does { Does (numbered code from into a) world.old world.new result }
 {
-    let number = get_or_create_value_id(world, two_key(code, from, into), &[])?;
+    let number = get_or_create_value_id(world, WholeKey::new(two_key(code, from, into), &[]))?;
     create(world, into, number, a);
     Ok(())
 }

@@ -21,6 +21,7 @@ use effect_number::get_or_create_value_id;
 use effect_parts::{begin, create, emit, kind};
 use lent_effects::AliasingEffect;
 use lent_key_of::{key_of, two_key};
+use lent_keys::WholeKey;
 use lent_world::World;
 
 // The first reason of a set, in their order; Other for none.
@@ -44,7 +45,7 @@ pub fn creating(world: &mut World, into: Place, k: ValueKind, reason: u32) -> Ve
         kind: k,
         reason,
     };
-    let number = get_or_create_value_id(world, key_of(e), &[])?;
+    let number = get_or_create_value_id(world, WholeKey::new(key_of(e), &[]))?;
     let value = AbstractValue {
         kind: k,
         reason: single(reason),
@@ -89,7 +90,7 @@ pub fn create_from(world: &mut World, from: Place, into: Place) -> Result<Next, 
 {
     begin(world, into.identifier)?;
     let a = kind(world, from.identifier);
-    let number = get_or_create_value_id(world, two_key(10, from, into), &[])?;
+    let number = get_or_create_value_id(world, WholeKey::new(two_key(10, from, into), &[]))?;
     create(world, into, number, a);
     Ok(list_created(world, from, into, a))
 }

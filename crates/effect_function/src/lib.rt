@@ -23,6 +23,7 @@ use effect_parts::{any_written, begin, create, emit};
 use lent_context::has_tracked_side_effect;
 use lent_effects::AliasingEffect;
 use lent_key_of::key_of;
+use lent_keys::WholeKey;
 use lent_links::put_link;
 use lent_world::World;
 
@@ -39,7 +40,7 @@ fn link_function(
     ensures does { Does (linked (captures_of taken.now) function into kind) world.old world.new result }
 {
     let key = key_of(AliasingEffect::CreateFunction { function, into });
-    let number = get_or_create_value_id(world, key, taken)?;
+    let number = get_or_create_value_id(world, WholeKey::new(key, taken))?;
     put_link(world.context, number, function);
     create(world, into, number, AbstractValue { kind, reason: 0 });
     Ok(())

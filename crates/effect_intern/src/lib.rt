@@ -18,6 +18,7 @@ use lent_effect_read::effect_in;
 use lent_effect_write::put_effect;
 use lent_effects::AliasingEffect;
 use lent_key_of::key_of;
+use lent_keys::WholeKey;
 use lent_layout::{EFFECT_ORDER, INTERNED, INTERNED_COUNT};
 use lent_links::interned_count;
 use lent_order::{insert, order_at};
@@ -83,7 +84,7 @@ pub fn intern_effect(
         (seen world.new) }
 {
     let context = &mut *world.context;
-    match find_effect(context, key_of(e), captures) {
+    match find_effect(context, WholeKey::new(key_of(e), captures)) {
         Ok(j) => {
             let k = order_at(EFFECT_ORDER, context, j);
             let x = effect_in(INTERNED, context, k as usize);

@@ -47,9 +47,13 @@ pub fn values_unordered(im: &[u32], k: u32) -> bool
 pub fn pairs_unordered(im: &[u32], k: u32) -> bool
     ensures { result ≡ pairs_unordered im.now k }
 {
-    let next = next_cell(im, Section::Pairs, k, 0);
-    let identifier = cell(im, Section::Pairs, k, 0);
-    next < identifier
-        || (next == identifier
-            && next_cell(im, Section::Pairs, k, 1) <= cell(im, Section::Pairs, k, 1))
+    let next = (
+        next_cell(im, Section::Pairs, k, 0),
+        next_cell(im, Section::Pairs, k, 1),
+    );
+    let pair = (
+        cell(im, Section::Pairs, k, 0),
+        cell(im, Section::Pairs, k, 1),
+    );
+    next <= pair
 }

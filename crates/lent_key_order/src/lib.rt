@@ -44,11 +44,7 @@ pub fn compare_runs(a: Numbers, b: Numbers) -> Ordering
             return o;
         }
     }
-    if a.count < b.count {
-        Ordering::Less
-    } else {
-        Ordering::Equal
-    }
+    a.count.cmp(&b.count)
 }
 
 // Two keys, each with the identifiers of captures beside it.

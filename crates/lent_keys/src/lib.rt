@@ -60,6 +60,17 @@ pub struct WholeKey<'a> {
 }
 
 impl<'a> WholeKey<'a> {
+    // A key with captures that are lent on their own.
+    // The words of captures as an effect has them, five for each.
+    pub fn new(head: Key, captures: &'a [u32]) -> Self
+        ensures { whole result ≡ key_with head (identifiers (captures_of captures.now)) }
+    {
+        WholeKey {
+            head,
+            beside: captures_beside(captures),
+        }
+    }
+
     // The identifiers of the captures that the key has: of those beside it all or none.
     #[tactic(auto, using(crate::proofs::Laws::Number::none_listed), unfolding(crate::specs::KeyRecords::key_with))]
     pub fn captures(self) -> Numbers<'a>
@@ -201,15 +212,11 @@ fn put_head(t: Table, xs: &mut [u32], i: usize, key: Key)
 
 // A key is written as record i, with the identifiers of its captures.
 // All its words but those of captures that it does not have.
-pub fn put_key(t: Table, xs: &mut [u32], i: usize, key: Key, captures: &[u32])
-    ensures { xs.new ≡ put_key t xs.old i (key_with key (identifiers (captures_of captures.now))) }
+pub fn put_key(t: Table, xs: &mut [u32], i: usize, key: WholeKey)
+    ensures { xs.new ≡ put_key t xs.old i (whole key.entry) }
 {
-    let whole = WholeKey {
-        head: key,
-        beside: captures_beside(captures),
-    };
-    let identifiers = whole.captures();
-    put_head(t, xs, i, key);
+    let identifiers = key.captures();
+    put_head(t, xs, i, key.head);
     t.put_field(xs, i, 11, identifiers.count);
     put_identifiers(t, xs, i, identifiers);
 }

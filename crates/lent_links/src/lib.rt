@@ -2,13 +2,11 @@
 #![tactic(auto)]
 
 ghost use Rattle.std.specs.Prelude.{◌≡◌};
-ghost use Rattle.def_effects.specs.Places.{identifiers};
-ghost use Rattle.lent_effects.specs.Records.{captures_of};
-ghost use Rattle.lent_keys.specs.KeyRecords.{key_with};
+ghost use Rattle.lent_keys.specs.KeyRecords.{whole};
 ghost use Rattle.lent_context.specs.Lent as Lent;
 
 use lent_keys;
-use lent_keys::{Key, option_in, put_option};
+use lent_keys::{WholeKey, option_in, put_option};
 use lent_layout::{CACHED, INTERNED_COUNT, KEY_COUNT, KEY_ORDER, LINKS};
 use lent_order::insert;
 use lent_slices::{get_or, set};
@@ -39,12 +37,11 @@ pub fn one_more(n: u32) -> u32
 
 // A number is cached under a key, comes p-th in the order of the keys, and is counted.
 // Past 511 there is no record to write.
-pub fn put_key(context: &mut [u32], p: u32, n: u32, key: Key, captures: &[u32])
-    ensures { context.new
-        ≡ Lent.cached_at context.old p n (key_with key (identifiers (captures_of captures.now))) }
+pub fn put_key(context: &mut [u32], p: u32, n: u32, key: WholeKey)
+    ensures { context.new ≡ Lent.cached_at context.old p n (whole key.entry) }
 {
     let count = key_count(context);
-    lent_keys::put_key(CACHED, context, n as usize, key, captures);
+    lent_keys::put_key(CACHED, context, n as usize, key);
     insert(KEY_ORDER, context, count, p, n);
     set(context, KEY_COUNT, one_more(count));
 }

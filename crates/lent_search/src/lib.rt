@@ -6,17 +6,15 @@ ghost use Rattle.std.specs.declared.cmp.Ordering.{Ordering as AnOrdering};
 ghost use Rattle.lent_order.specs.Order as Order;
 ghost use Rattle.base_search.specs.Search.{along};
 ghost use Rattle.lent_search.specs.Searches.{Compares};
-ghost use Rattle.def_effects.specs.Places.{identifiers};
 ghost use Rattle.def_key_order.specs.KeyOrder.{compare_keys};
-ghost use Rattle.lent_effects.specs.Records.{captures_of};
-ghost use Rattle.lent_keys.specs.KeyRecords.{key_with, whole};
+ghost use Rattle.lent_keys.specs.KeyRecords.{whole};
 ghost use Rattle.lent_layout.specs.Layout as Layout;
 ghost use Rattle.lent_context.specs.Lent as Lent;
 
 use lent_effect_read::effect_in;
 use lent_key_of::key_of;
 use lent_key_order::compare_keys;
-use lent_keys::{Key, WholeKey, captures_beside, captures_in, head_in, key_captures_in};
+use lent_keys::{WholeKey, captures_in, head_in, key_captures_in};
 use lent_layout::{CACHED, EFFECT_ORDER, INTERNED, KEY_ORDER};
 use lent_links::{interned_count, key_count};
 use lent_order::order_at;
@@ -74,22 +72,18 @@ fn search<F: Fn(u32) -> Ordering>(n: u32, compare: F) -> Result<u32, u32>
 
 // Where the order of the interned effects has a key, or would have it.
 // By halves; on any words it ends.
-pub fn find_effect(context: &[u32], key: Key, captures: &[u32]) -> Result<u32, u32>
-    ensures { result ≡ Lent.effect_spot context.now (key_with key (identifiers (captures_of captures.now))) }
+pub fn find_effect(context: &[u32], key: WholeKey) -> Result<u32, u32>
+    ensures { result ≡ Lent.effect_spot context.now (whole key.entry) }
 {
-    let sought = WholeKey {
-        head: key,
-        beside: captures_beside(captures),
-    };
     search(
         interned_count(context),
         |j: u32| -> Ordering
             ensures { result
-                ≡ compare_keys (whole sought.entry)
+                ≡ compare_keys (whole key.entry)
                 (Lent.interned_key context.entry.now (Order.order_at Layout.effect_order context.entry.now j)) }
         {
             compare_keys(
-                sought,
+                key,
                 interned_key(context, order_at(EFFECT_ORDER, context, j)),
             )
         },
@@ -100,20 +94,16 @@ pub fn find_effect(context: &[u32], key: Key, captures: &[u32]) -> Result<u32, u
 
 // Where the order of the cached keys has a key, or would have it.
 // By halves; on any words it ends.
-pub fn find_key(context: &[u32], key: Key, captures: &[u32]) -> Result<u32, u32>
-    ensures { result ≡ Lent.key_spot context.now (key_with key (identifiers (captures_of captures.now))) }
+pub fn find_key(context: &[u32], key: WholeKey) -> Result<u32, u32>
+    ensures { result ≡ Lent.key_spot context.now (whole key.entry) }
 {
-    let sought = WholeKey {
-        head: key,
-        beside: captures_beside(captures),
-    };
     search(
         key_count(context),
         |j: u32| -> Ordering
             ensures { result
-                ≡ compare_keys (whole sought.entry)
+                ≡ compare_keys (whole key.entry)
                 (Lent.key_here context.entry.now (Order.order_at Layout.key_order context.entry.now j)) }
-        { compare_keys(sought, cached_key(context, order_at(KEY_ORDER, context, j))) },
+        { compare_keys(key, cached_key(context, order_at(KEY_ORDER, context, j))) },
     )
 }
 

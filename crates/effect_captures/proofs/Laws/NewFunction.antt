@@ -6,7 +6,6 @@ use mathlib.Core.List.{List}
 use Rattle.def_kinds.specs.declared.ValueKind.{ValueKind}
 use Rattle.def_kinds.specs.Values.{mk}
 use Rattle.def_effects.specs.declared.Place.{Place}
-use Rattle.def_effects.specs.Places.{identifiers}
 use Rattle.def_effects.specs.Effects.{AliasingEffect, Capture, CreateFunction}
 use Rattle.def_effects.specs.Keys.{EffectKey, effect_key}
 use Rattle.def_transfer.specs.Monad.{Res, ok, refused, M, Done, and_then, ◌>>=◌, ◌>>◌, each}
@@ -19,8 +18,6 @@ use Rattle.def_transfer.specs.Step.{create, any_written, any_ref, update_context
 use Rattle.lent_effects.specs.declared.AliasingEffect.TheVariants as Head
 use Rattle.lent_effects.specs.Records.{effect_with, captures_of, counted_places, copied_captures}
 use Rattle.lent_effects.proofs.Laws.Capture.{captures_copied}
-use Rattle.lent_keys.specs.declared.Key.{Key}
-use Rattle.lent_keys.specs.KeyRecords.{key_with}
 use Rattle.lent_layout.specs.Layout as Layout
 use Rattle.lent_context.specs.Lent as Lent
 use Rattle.lent_work.specs.declared.Run.{Run}
@@ -35,22 +32,21 @@ use Rattle.effect_captures.specs.NewFunctions.{function_kind, linked}
 -- ---- a new function
 
 -- its number, its link and its place
-module _ (f : ℕ) (into : Place) (k : ValueKind) (key : Key) (ws : List ℕ)
-    (z : (ps : List Place) → key_with key (identifiers ps) ≡ effect_key (effect_with (Head.CreateFunction f into) ps)) where
+module _ (f : ℕ) (into : Place) (k : ValueKind) (key : EffectKey) (ps : List Place) (z : key ≡ effect_key (effect_with (Head.CreateFunction f into) ps)) where
   -- its number is that under the effect's key
-  function_number : (w : World lent) → get_or_create_value_id (effect_key (CreateFunction (captures_of ws) f into)) w ≡ get_or_create_value_id (key_with key (identifiers (captures_of ws))) w
+  function_number : (w : World lent) → get_or_create_value_id (effect_key (CreateFunction ps f into)) w ≡ get_or_create_value_id key w
   unfolding effect_with
-  function_number w = ap (λ (i : EffectKey). get_or_create_value_id i w) (sym (z (captures_of ws)))
+  function_number w = ap (λ (i : EffectKey). get_or_create_value_id i w) (sym z)
 
   -- no number is left
   -- "9 a fresh number is needed at next 512"
-  pub linked_full : (w u : World lent) (n : ℕ) → get_or_create_value_id (key_with key (identifiers (captures_of ws))) w ≡ refused n u → linked (captures_of ws) f into k w ≡ refused n u
+  pub linked_full : (w u : World lent) (n : ℕ) → get_or_create_value_id key w ≡ refused n u → linked ps f into k w ≡ refused n u
   unfolding linked
   linked_full w u n g = bind_fails _ _ _ _ _ (function_number _ ∙ g)
 
   -- the number is linked to the function
-  pub linked_done : (w u : World lent) (vs ss ds es os : List ℕ) (r : Run) (v : ℕ) → get_or_create_value_id (key_with key (identifiers (captures_of ws))) w ≡ ok v (world vs ss ds os r)
-      → es ≡ Lent.put_link ds v f → create into v (mk k 0) (world vs ss es os r) ≡ ok tt u → linked (captures_of ws) f into k w ≡ ok tt u
+  pub linked_done : (w u : World lent) (vs ss ds es os : List ℕ) (r : Run) (v : ℕ) → get_or_create_value_id key w ≡ ok v (world vs ss ds os r)
+      → es ≡ Lent.put_link ds v f → create into v (mk k 0) (world vs ss es os r) ≡ ok tt u → linked ps f into k w ≡ ok tt u
   unfolding linked link_to change
   linked_done w u vs ss ds es os r v g l c =
       bind_ok _ _ _ _ _ _ (function_number _ ∙ g) (then_ok _ _ _ _ _ _ (ap (λ (i : List ℕ). ok tt (world vs ss i os r)) (sym l)) c)

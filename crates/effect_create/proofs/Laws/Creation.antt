@@ -10,7 +10,6 @@ use Rattle.def_kinds.specs.Kinds.{copied, is_frozen}
 use Rattle.def_kinds.specs.Reasons.{has_reason, first_in, primary_reason, single}
 use Rattle.def_kinds.specs.Values.{mk}
 use Rattle.def_effects.specs.declared.Place.{Place}
-use Rattle.def_effects.specs.Places.{identifiers}
 use Rattle.def_effects.specs.Effects.{AliasingEffect, Create, CreateFrom}
 use Rattle.def_effects.specs.Keys.{EffectKey, effect_key, two}
 use Rattle.def_transfer.specs.Monad.{Res, ok, refused, M, Done, return, done}
@@ -20,9 +19,7 @@ use Rattle.def_transfer.specs.Context.{get_or_create_value_id, emit, begin}
 use Rattle.def_transfer.specs.Step as Step
 use Rattle.def_transfer.specs.Step.{create}
 use Rattle.lent_effects.specs.declared.AliasingEffect.TheVariants as Head
-use Rattle.lent_effects.specs.Records.{effect_with, captures_of}
-use Rattle.lent_keys.specs.declared.Key.{Key}
-use Rattle.lent_keys.specs.KeyRecords.{key_with}
+use Rattle.lent_effects.specs.Records.{effect_with}
 use Rattle.lent_work.specs.declared.Run.{Run}
 use Rattle.state_ops.specs.Lists.{assigned_values, assigned_sets}
 use Rattle.state_ops.proofs.Laws.Text.{assign_lists}
@@ -89,22 +86,21 @@ module _ (w : World lent) (p : Place) (k : ValueKind) (q : ℕ) (again : Aliasin
   unfolding Step.creating
   creating_refused n x e = then_fails _ _ _ _ _ e
 
-  module _ (u : World lent) (e : begin p.identifier w ≡ ok tt u) (key : Key) (ws : List ℕ)
-      (z : (ps : List Place) → key_with key (identifiers ps) ≡ effect_key (effect_with (Head.Create p k q) ps)) where
+  module _ (u : World lent) (e : begin p.identifier w ≡ ok tt u) (key : EffectKey) (ps : List Place) (z : key ≡ effect_key (effect_with (Head.Create p k q) ps)) where
     -- its number is that under the effect's key
-    create_number : (x : World lent) → get_or_create_value_id (effect_key (Create p k q)) x ≡ get_or_create_value_id (key_with key (identifiers (captures_of ws))) x
+    create_number : (x : World lent) → get_or_create_value_id (effect_key (Create p k q)) x ≡ get_or_create_value_id key x
     unfolding effect_with
-    create_number x = ap (λ (i : EffectKey). get_or_create_value_id i x) (sym (z (captures_of ws)))
+    create_number x = ap (λ (i : EffectKey). get_or_create_value_id i x) (sym z)
 
     -- no number is left
     -- "9 a fresh number is needed at next 512"
-    pub creating_full : (n : ℕ) (x : World lent) → get_or_create_value_id (key_with key (identifiers (captures_of ws))) u ≡ refused n x → Step.creating again p k q w ≡ refused n x
+    pub creating_full : (n : ℕ) (x : World lent) → get_or_create_value_id key u ≡ refused n x → Step.creating again p k q w ≡ refused n x
     unfolding Step.creating
     creating_full n x g = then_ok _ _ _ _ _ _ e (bind_fails _ _ _ _ _ (create_number _ ∙ g))
 
     -- the place gets its number, with the kind and that one reason
-    pub creating_done : (v : ℕ) (x : World lent) → get_or_create_value_id (key_with key (identifiers (captures_of ws))) u ≡ ok v x → (b : ℕ) (y t : World lent) → b ≡ single q → create p v (mk k b) x ≡ ok tt y
-        → emit (effect_with (Head.Create p k q) (captures_of ws)) y ≡ ok tt t → Step.creating again p k q w ≡ ok tt t
+    pub creating_done : (v : ℕ) (x : World lent) → get_or_create_value_id key u ≡ ok v x → (b : ℕ) (y t : World lent) → b ≡ single q → create p v (mk k b) x ≡ ok tt y
+        → emit (effect_with (Head.Create p k q) ps) y ≡ ok tt t → Step.creating again p k q w ≡ ok tt t
     unfolding Step.creating effect_with
     creating_done v x g b y t s c l =
         then_ok _ _ _ _ _ _ e (bind_ok _ _ _ _ _ _ (create_number _ ∙ g)
@@ -126,19 +122,19 @@ module _ (w u : World lent) (from into : Place) (a : AbstractValue) (again : Ali
 
 -- ---- a place gets the number under a key of two places
 
-module _ (w : World lent) (code : ℕ) (from into : Place) (a : AbstractValue) (key : Key) (ks : List ℕ) (z : (is : List ℕ) → key_with key is ≡ two code from into) where
+module _ (w : World lent) (code : ℕ) (from into : Place) (a : AbstractValue) (key : EffectKey) (z : key ≡ two code from into) where
   -- its number is that under the two places
-  two_number : (x : World lent) → get_or_create_value_id (two code from into) x ≡ get_or_create_value_id (key_with key ks) x
-  two_number x = ap (λ (i : EffectKey). get_or_create_value_id i x) (sym (z ks))
+  two_number : (x : World lent) → get_or_create_value_id (two code from into) x ≡ get_or_create_value_id key x
+  two_number x = ap (λ (i : EffectKey). get_or_create_value_id i x) (sym z)
 
   -- no number is left
   -- "9 a fresh number is needed at next 512"
-  pub numbered_full : (n : ℕ) (x : World lent) → get_or_create_value_id (key_with key ks) w ≡ refused n x → numbered code from into a w ≡ refused n x
+  pub numbered_full : (n : ℕ) (x : World lent) → get_or_create_value_id key w ≡ refused n x → numbered code from into a w ≡ refused n x
   unfolding numbered
   numbered_full n x g = bind_fails _ _ _ _ _ (two_number _ ∙ g)
 
   -- the place gets it
-  pub numbered_done : (v : ℕ) (x y : World lent) → get_or_create_value_id (key_with key ks) w ≡ ok v x → create into v a x ≡ ok tt y → numbered code from into a w ≡ ok tt y
+  pub numbered_done : (v : ℕ) (x y : World lent) → get_or_create_value_id key w ≡ ok v x → create into v a x ≡ ok tt y → numbered code from into a w ≡ ok tt y
   unfolding numbered
   numbered_done v x y g c = bind_ok _ _ _ _ _ _ (two_number _ ∙ g) c
 
@@ -211,17 +207,17 @@ module _ (w : World lent) (from into : Place) (again : AliasingEffect → M (Wor
   from_refused n x e = then_fails _ _ _ _ _ e
 
   module _ (u : World lent) (e : begin into.identifier w ≡ ok tt u) (a : AbstractValue) (s : World lent) (k : State.kind from.identifier u ≡ ok a s)
-      (key : Key) (ks : List ℕ) (z : (is : List ℕ) → key_with key is ≡ two 10 from into) where
+      (key : EffectKey) (z : key ≡ two 10 from into) where
     -- no number is left
     -- "9 a fresh number is needed at next 512"
-    pub from_full : (n : ℕ) (x : World lent) → get_or_create_value_id (key_with key ks) s ≡ refused n x → Step.creating_from again from into w ≡ refused n x
+    pub from_full : (n : ℕ) (x : World lent) → get_or_create_value_id key s ≡ refused n x → Step.creating_from again from into w ≡ refused n x
     unfolding Step.creating_from
-    from_full n x g = then_ok _ _ _ _ _ _ e (bind_ok _ _ _ _ _ _ k (bind_fails _ _ _ _ _ (two_number s 10 from into a key ks z _ ∙ g)))
+    from_full n x g = then_ok _ _ _ _ _ _ e (bind_ok _ _ _ _ _ _ k (bind_fails _ _ _ _ _ (two_number s 10 from into a key z _ ∙ g)))
 
     -- the place gets its number, with the source's kind and reasons
-    pub from_listed : (v : ℕ) (x y : World lent) (i : Res (World lent) Done) → get_or_create_value_id (key_with key ks) s ≡ ok v x → create into v a x ≡ ok tt y
+    pub from_listed : (v : ℕ) (x y : World lent) (i : Res (World lent) Done) → get_or_create_value_id key s ≡ ok v x → create into v a x ≡ ok tt y
         → Step.list_created again from into a y ≡ i → Step.creating_from again from into w ≡ i
     unfolding Step.creating_from
     from_listed v x y i g c l =
-        then_ok _ _ _ _ _ _ e (bind_ok _ _ _ _ _ _ k (bind_ok _ _ _ _ _ _ (two_number s 10 from into a key ks z _ ∙ g)
+        then_ok _ _ _ _ _ _ e (bind_ok _ _ _ _ _ _ k (bind_ok _ _ _ _ _ _ (two_number s 10 from into a key z _ ∙ g)
         (then_ok _ _ _ _ _ _ c l)))

@@ -7,7 +7,6 @@ use Rattle.def_effects.specs.declared.AliasingDiagnostic.{AliasingDiagnostic}
 use Rattle.def_effects.specs.Effects.{MutateFrozen, MutateGlobal, Impure}
 use Rattle.def_transfer.specs.Context.{diagnostic_of, refreshed}
 use Rattle.lent_effects.specs.declared.AliasingEffect.{AliasingEffect as Head}
-use Rattle.lent_effects.specs.declared.AliasingEffect.TheVariants as Head
 use Rattle.lent_effects.specs.Records.{effect_with}
 
 -- ---- the diagnostic of an effect, or another where it has none

@@ -104,11 +104,11 @@ module _ (a b : Numbers) where
   pub past_both : (k : ℕ) (o : Ordering) → k < a.count → k < b.count → Past a.table a.step k → Past b.table b.step k → o ≡ compare_numbers a.count b.count → o ≡ left k
   past_both k o l h p q e = e ∙ shifted a.count b.count k (omega arith) (omega arith) ∙ sym (zeros_left (a.count - k) (b.count - k) k p q)
 
-  -- the first run is done
-  pub first_done : (k : ℕ) → a.count ≤ k → k < b.count → Less ≡ left k
+  -- the first run is done, and the second was not before
+  -- the counts say whether it is now
+  pub first_ends : (k : ℕ) (o : Ordering) → a.count ≤ k → k ≤ a.count → k ≤ b.count → o ≡ compare_numbers a.count b.count → o ≡ left k
   unfolding compare_lists
-  first_done k h l = sym (ap₂ compare_lists (none a k h) (more b k l))
-
-  pub both_done : (k : ℕ) → a.count ≤ k → b.count ≤ k → Equal ≡ left k
-  unfolding compare_lists
-  both_done k h l = sym (ap₂ compare_lists (none a k h) (none b k l))
+  first_ends k o h m l e = e ∙ ⊎_elim
+      (λ g. less_is a.count b.count g ∙ sym (ap₂ compare_lists (none a k h) (more b k (omega arith))))
+      (λ g. let q : b.count ≡ a.count = omega arith in ap (compare_numbers a.count) q ∙ same_is a.count ∙ sym (ap₂ compare_lists (none a k h) (none b k (omega arith))))
+      (lt_or_ge a.count b.count)

@@ -6,4 +6,4 @@ use Rattle.lent_key_order.proofs.Laws.Runs.{left}
 use Rattle.lent_key_order.proofs.compare_runs.Given as goal
 
 abbrev pub invariant-loop-k : goal.invariant-loop-k
-invariant-loop-k l = (l.k ≤ l.a.count) × (compare_lists (listed l.a) (listed l.b) ≡ left l.a l.b l.k)
+invariant-loop-k l = (l.k ≤ l.a.count) × (l.k ≤ l.b.count) × (compare_lists (listed l.a) (listed l.b) ≡ left l.a l.b l.k)

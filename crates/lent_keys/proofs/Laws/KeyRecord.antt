@@ -80,10 +80,9 @@ writes_head t c c1 c2 c3 c4 c5 c6 c7 c8 i key h1 h2 h3 h4 h5 h6 h7 h8 = cc
 
 -- the writes of a key
 -- its head, the count of captures that it takes, and their identifiers
-pub writes_key : (t : Table) (c c1 c2 c3 : List ℕ) (i : ℕ) (key : Key) (is : List ℕ) (r q : Numbers) → listed r ≡ is → listed q ≡ (key_with key (listed r)).captures
+pub writes_key : (t : Table) (c c1 c2 c3 : List ℕ) (i : ℕ) (key : Key) (is : List ℕ) (q : Numbers) → listed q ≡ (key_with key is).captures
     → c1 ≡ put_head t c i (key_with key []) → c2 ≡ put_field t c1 i 11 q.count → c3 ≡ put_numbers t c2 i 12 1 0 (listed q) → c3 ≡ put_key t c i (key_with key is)
 unfolding put_key put_head key_with
-writes_key t c c1 c2 c3 i key is r q hr hq h1 h2 h3 =
-    let l : listed q ≡ (key_with key is).captures = hq ∙ ap (λ (js : List ℕ). (key_with key js).captures) hr in
+writes_key t c c1 c2 c3 i key is q l h1 h2 h3 =
     h3 ∙ ap₂ (λ (d : List ℕ) (js : List ℕ). put_numbers t d i 12 1 0 js)
     (h2 ∙ ap₂ (λ (d : List ℕ) (y : ℕ). put_field t d i 11 y) h1 (sym (numbers_count q.table q.words.now q.row q.first q.step 0 q.count) ∙ ap length l)) l

@@ -3,5 +3,4 @@ use Rattle.lent_keys.proofs.Laws.KeyRecord.{writes_key}
 use Rattle.lent_keys.proofs.put_key.Goals as goal
 
 pub returns : goal.returns
-returns c =
-    writes_key _ _ _ _ _ _ c.args.key _ c.captures_beside.result c.captures-identifiers.result c.captures_beside.ensures c.captures-identifiers.ensures c.put_head.ensures c.put_field.ensures c.put_identifiers.ensures
+returns c = writes_key _ _ _ _ _ _ _ _ c.captures-identifiers.result c.captures-identifiers.ensures c.put_head.ensures c.put_field.ensures c.put_identifiers.ensures

@@ -1,7 +1,7 @@
 -- Laws by which the key of a cached number and the search by halves meet the definitions. Assumes nothing.
 use Rattle.std.specs.Prelude.{ℕ, ◌+◌, ◌-◌, ◌≤◌, ◌<◌, ◌≡◌, List, Result, Ok, Err, None, Some}
 use Rattle.std.proofs.Math.Path.{sym, ap}
-use Rattle.std.proofs.Common.{ap₂, ◌∙◌}
+use Rattle.std.proofs.Common.{◌∙◌}
 use Rattle.std.specs.declared.cmp.Ordering.{Ordering}
 use Rattle.std.specs.declared.cmp.Ordering.TheVariants.{Less, Equal, Greater}
 use Rattle.base_search.specs.Search.{middle, halving, along}
@@ -47,16 +47,14 @@ search_over c n lo hi h inv = sym (inv ∙ is_over c lo hi h)
 abbrev pub sought : (ℕ → EffectKey) → (ℕ → ℕ) → EffectKey → ℕ → Ordering
 sought key_of ord key j = compare_keys key (key_of (ord j))
 
--- both searches are such, of a key with the identifiers beside it
-pub effect_search : (c : List ℕ) (key : Key) (is ids : List ℕ) (n : ℕ) (s : Result ℕ ℕ) → is ≡ ids → n ≡ interned_count c
-    → s ≡ along (sought (interned_key c) (order_at Layout.effect_order c) (key_with key is)) n → s ≡ effect_spot c (key_with key ids)
+-- both searches are such
+pub effect_search : (c : List ℕ) (key : EffectKey) (n : ℕ) (s : Result ℕ ℕ) → n ≡ interned_count c → s ≡ along (sought (interned_key c) (order_at Layout.effect_order c) key) n → s ≡ effect_spot c key
 unfolding effect_spot
-effect_search c key is ids n s k e h = h ∙ ap₂ (λ (js : List ℕ) (m : ℕ). along (sought (interned_key c) (order_at Layout.effect_order c) (key_with key js)) m) k e
+effect_search c key n s e h = h ∙ ap (along (sought (interned_key c) (order_at Layout.effect_order c) key)) e
 
-pub key_search : (c : List ℕ) (key : Key) (is ids : List ℕ) (n : ℕ) (s : Result ℕ ℕ) → is ≡ ids → n ≡ key_count c
-    → s ≡ along (sought (key_here c) (order_at Layout.key_order c) (key_with key is)) n → s ≡ key_spot c (key_with key ids)
+pub key_search : (c : List ℕ) (key : EffectKey) (n : ℕ) (s : Result ℕ ℕ) → n ≡ key_count c → s ≡ along (sought (key_here c) (order_at Layout.key_order c) key) n → s ≡ key_spot c key
 unfolding key_spot
-key_search c key is ids n s k e h = h ∙ ap₂ (λ (js : List ℕ) (m : ℕ). along (sought (key_here c) (order_at Layout.key_order c) (key_with key js)) m) k e
+key_search c key n s e h = h ∙ ap (along (sought (key_here c) (order_at Layout.key_order c) key)) e
 
 -- ---- the number where a search ended
 

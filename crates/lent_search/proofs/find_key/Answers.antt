@@ -2,4 +2,4 @@ use Rattle.lent_search.proofs.Laws.Find.{key_search}
 use Rattle.lent_search.proofs.find_key.Goals as goal
 
 pub returns : goal.returns
-returns c = key_search _ _ _ _ _ _ c.captures_beside.ensures c.key_count.ensures (c.search.ensures _ (λ j o l h. h))
+returns c = key_search _ _ _ _ c.key_count.ensures (c.search.ensures _ (λ j o l h. h))
