@@ -9,15 +9,14 @@ ghost use Rattle.lent_world.specs.Promise.{Kept, Does};
 ghost use Rattle.state_ops.specs.Lists.{freezes};
 ghost use Rattle.effect_walk.specs.Walks.{value_from, Walked};
 
-use def_kinds::{AbstractValue, ValueKind, single};
 use def_refusals::{Refusal, Verdict};
 use lent_context::context_count;
 use lent_functions::context_identifier;
 use lent_links::{link_of, one_more};
 use lent_members::next_member;
 use lent_sets::is_defined;
-use lent_values::put_value;
 use lent_world::World;
+use state_freeze::freeze_value;
 use state_ops::kind_of;
 
 // Whether a freeze acts on a place: it is defined, and Mutable, Context or MaybeFrozen.
@@ -30,14 +29,14 @@ pub fn opens(world: &World, i: u32) -> bool
 
 // The lowest value of a place from `from` on, if there is one.
 // A walk lends the whole world to what it enters, so that no iterator can hold on to the sets meanwhile.
+#[tactic(auto, unfolding(crate::specs::Walks::value_from))]
 pub fn value_from(world: &World, i: u32, from: u32) -> Option<u32>
     ensures { result ≡ value_from world.now.sets.now i from }
 {
     if !is_defined(world.sets, i) {
         return None;
     }
-    let m = next_member(world.sets, i, from);
-    if m < 1024 { Some(m) } else { None }
+    next_member(world.sets, i, from)
 }
 
 // The identifier of a context place of a function.
@@ -45,18 +44,6 @@ fn entered_place(world: &World, f: u32, k: u32) -> u32
     ensures { result ≡ Words.field Layout.contexts world.now.context.now f (k * 5) }
 {
     context_identifier(world.context, f, k)
-}
-
-// A value becomes Frozen with one reason.
-// The walk freezes a value before it enters it.
-pub fn freeze_value(values: &mut [u64], v: u32, reason: u32)
-    ensures { values.new ≡ Rattle.effect_walk.specs.Walks.frozen values.old v reason }
-{
-    let frozen = AbstractValue {
-        kind: ValueKind::Frozen,
-        reason: single(reason),
-    };
-    put_value(values, v as usize, frozen);
 }
 
 // Enters a value: counts the entry, then looks at the context of the value's function in order, and freezes and enters each value

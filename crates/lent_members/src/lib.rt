@@ -3,27 +3,27 @@
 
 ghost use Rattle.std.specs.Prelude.{◌≡◌, length, eqb};
 ghost use Rattle.std.specs.Int.Count.{ones};
-ghost use Rattle.lent_sets.specs.Rows.{number, set_at, next_member, row_number};
+ghost use Rattle.lent_sets.specs.Rows.{number, set_at, row_number};
 ghost use Rattle.base_sets.specs.Members.{values_of};
-ghost use Rattle.lent_members.specs.Members.{rest};
+ghost use Rattle.lent_members.specs.Members.{member_from, rest};
 ghost use Rattle.std.specs.Iterator.{YieldsFirst, item_count};
 
 use lent_sets::{is_defined, row_word};
 use lent_slices::get_or;
 
-// The lowest member of row i from `from` on, or 1,024.
+// The lowest member of row i from `from` on, if there is one.
 // A loop over the values of a set goes by it; a word without members is one step.
-pub fn next_member(rows: &[u64], i: u32, from: u32) -> u32
-    ensures { result ≡ next_member rows.now i from }
+pub fn next_member(rows: &[u64], i: u32, from: u32) -> Option<u32>
+    ensures { result ≡ member_from rows.now i from }
 {
     for w in from / 64..16 {
         let v = from.max(w * 64);
         let rest = row_word(rows, i, w) >> (v % 64);
         if rest != 0 {
-            return v + u64::trailing_zeros(rest);
+            return Some(v + u64::trailing_zeros(rest));
         }
     }
-    from.max(1024)
+    None
 }
 
 // The members of the set of an identifier, ascending: an iterator that looks for the next from a place of the row on.
@@ -43,13 +43,9 @@ impl<'a> Iterator for MemberIter<'a> {
 
     #[tactic(auto, using(crate::proofs::Laws::Members::some_left, crate::proofs::Laws::Members::none_left))]
     fn next(&mut self) -> Option<u32> {
-        let v = next_member(self.rows, self.i, self.from);
-        if v < 1024 {
-            self.from = v + 1;
-            Some(v)
-        } else {
-            None
-        }
+        let v = next_member(self.rows, self.i, self.from)?;
+        self.from = v + 1;
+        Some(v)
     }
 }
 

@@ -9,11 +9,11 @@ use lent_sets::{is_defined, row_word};
 
 // Whether the row of identifier i earns 3: a member from 512 + n on.
 // Members are below 1,024, so none can be where the list is full.
-#[tactic(auto, using(refuse_entries::proofs::Laws::Row::out_undefined, refuse_entries::proofs::Laws::Row::out_full, refuse_entries::proofs::Laws::Row::out_search))]
+#[tactic(auto, using(refuse_entries::proofs::Laws::Row::out_undefined, refuse_entries::proofs::Laws::Row::out_full, crate::proofs::Laws::Search::out_found))]
 pub fn row_out_of_range(sets: &[u64], i: u32, n: u32) -> bool
     ensures { result ≡ row_out_of_range n sets.now i }
 {
-    is_defined(sets, i) && n < 512 && next_member(sets, i, 512 + n) < 1024
+    is_defined(sets, i) && n < 512 && next_member(sets, i, 512 + n).is_some()
 }
 
 // Whether one of the 16 words of row i is not zero.
@@ -29,7 +29,7 @@ fn row_in_use(sets: &[u64], i: u32) -> bool
 fn row_too_new(sets: &[u64], i: u32, next: u32) -> bool
     ensures { result ≡ row_too_new next sets.now i }
 {
-    is_defined(sets, i) && next_member(sets, i, next.max(1)) < 512
+    is_defined(sets, i) && next_member(sets, i, next.max(1)).is_some_and(|v| v < 512)
 }
 
 // Whether the row of identifier i earns 4: a member not handed out yet, or not defined and not zero.

@@ -11,10 +11,15 @@ use Rattle.base_tests.specs.Tests.{is_some}
 use Rattle.lent_values.specs.Cells.{value_at, put_value}
 use Rattle.lent_sets.specs.Rows.{set_at, put_set}
 
+-- a value made Frozen with one reason, in the list of values
+-- "every value of the set becomes Frozen with that one reason"
+abbrev pub frozen : List ℕ → ℕ → ℕ → List ℕ
+frozen vs v reason = put_value vs v (mk Frozen (single reason))
+
 -- each of some values becomes Frozen with one reason
 unfoldable pub freeze_all : ℕ → List ℕ → List ℕ → List ℕ
 freeze_all reason [] vs = vs
-freeze_all reason (m ∷ ms) vs = freeze_all reason ms (put_value vs m (mk Frozen (single reason)))
+freeze_all reason (m ∷ ms) vs = freeze_all reason ms (frozen vs m reason)
 
 -- whether a freeze acts on a place
 unfoldable pub freezes : List ℕ → List ℕ → ℕ → Bool

@@ -87,7 +87,7 @@ fn check_set(record: &mut Reading, sets: &[u64], i: u32) {
     record.expect(i);
     record.expect(lent_members::size(sets, i));
     for v in 1..1024 {
-        if lent_members::next_member(sets, i, v) == v {
+        if lent_members::next_member(sets, i, v) == Some(v) {
             record.expect(v);
         }
     }

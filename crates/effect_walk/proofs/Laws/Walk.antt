@@ -1,16 +1,14 @@
 -- Laws by which the code of the walk meets the definition. Assumes nothing.
-use Rattle.std.specs.Prelude.{ℕ, zero, suc, ◌+◌, ◌-◌, ◌*◌, ◌≤◌, ◌<◌, ◌≡◌, Bool, ltb, ◌&&◌, Option, None, Some}
+use Rattle.std.specs.Prelude.{ℕ, zero, suc, ◌+◌, ◌-◌, ◌*◌, ◌≤◌, ◌<◌, ◌≡◌, Bool, ◌&&◌, Option, None, Some}
 use native.Mathlib.Omega.{arith}
-use Rattle.std.proofs.Common.{add-one, ap₂, ◌∙◌, lt-ltb, le-ltb, ltb-true, ltb-false}
+use Rattle.std.proofs.Common.{add-one, ap₂, ◌∙◌}
 use Rattle.std.proofs.Math.Path.{refl, sym, ap}
 use Rattle.std.proofs.Math.Bool.{true, false}
 use mathlib.Core.List.{List, [], ◌∷◌}
+use Rattle.std.proofs.lemmas.Option.{none-some}
 use Rattle.base_tests.specs.Tests.{ite, is_some}
-use Rattle.def_kinds.specs.declared.ValueKind.TheVariants.{Frozen}
 use Rattle.def_kinds.specs.declared.AbstractValue.{AbstractValue}
 use Rattle.def_kinds.specs.Kinds.{freezable}
-use Rattle.def_kinds.specs.Reasons.{single}
-use Rattle.def_kinds.specs.Values.{mk}
 use Rattle.def_effects.specs.declared.Place.{Place}
 use Rattle.def_transfer.specs.Monad.{Res, ok, refused, M, Done, and_then, ◌>>=◌, return, refuse, when◌then◌else◌, each}
 use Rattle.def_transfer.specs.Tables.{World}
@@ -18,11 +16,12 @@ use Rattle.def_transfer.specs.State.{kind_of, ask, change, set_of, peek, initial
 use Rattle.base_sets.specs.Members.{values_of}
 use Rattle.def_transfer.specs.Context.{function_context, linked_context, count_entry}
 use Rattle.def_transfer.specs.Walk.{freeze_and_enter, enter_place, enter_context, freeze_function_captures_transitive}
-use Rattle.lent_values.specs.Cells.{value_at, put_value}
-use Rattle.lent_sets.specs.Rows.{set_at, left, next_member, row_number}
-use Rattle.lent_sets.proofs.Laws.Row.{next_ge, none_of}
+use Rattle.lent_values.specs.Cells.{value_at}
+use Rattle.lent_sets.specs.Rows.{set_at, left, row_number}
+use Rattle.lent_sets.proofs.Laws.Row.{none_of}
+use Rattle.lent_members.specs.Members.{member_from}
 use Rattle.lent_members.proofs.Laws.Members.{all_left, some_left, none_left}
-use Rattle.state_ops.specs.Lists.{freezes}
+use Rattle.state_ops.specs.Lists.{frozen, freezes}
 use Rattle.lent_tables.specs.Words.{field, place_in, places_in}
 use Rattle.lent_tables.proofs.Laws.Word.{places_more, places_none}
 use Rattle.lent_layout.specs.Layout as Layout
@@ -33,7 +32,7 @@ use Rattle.laws_monad.proofs.Laws.Each.{each_ok, each_fails, each_done}
 use Rattle.lent_world.specs.World.{lent, world, one_more}
 use Rattle.lent_world.specs.declared.World.{World as Lent}
 use Rattle.lent_world.specs.Promise.{seen}
-use Rattle.effect_walk.specs.Walks.{frozen, value_from, Walked}
+use Rattle.effect_walk.specs.Walks.{value_from, Walked}
 
 -- ---- the small functions
 
@@ -44,10 +43,6 @@ opens_not vs ss i b e h = sym (ap (λ (x : Bool). x && freezable (kind_of (value
 pub opens_is : (vs ss : List ℕ) (i : ℕ) (b r : Bool) (a : AbstractValue) → b ≡ is_some (set_at ss i) → b ≡ true → a ≡ kind_of (value_at vs) (set_at ss i) → r ≡ freezable a.kind → r ≡ freezes vs ss i
 unfolding freezes
 opens_is vs ss i b r a e h g f = f ∙ ap (λ (x : AbstractValue). freezable x.kind) g ∙ sym (ap (λ (x : Bool). x && freezable (kind_of (value_at vs) (set_at ss i)).kind) (sym e ∙ h))
-
-pub frozen_is : (vs us : List ℕ) (v i b reason : ℕ) → i ≡ v → b ≡ single reason → us ≡ put_value vs i (mk Frozen b) → us ≡ frozen vs v reason
-unfolding frozen
-frozen_is vs us v i b reason e f g = g ∙ ap₂ (λ (x y : ℕ). put_value vs x (mk Frozen y)) e f
 
 -- ---- an entry is counted
 
@@ -137,7 +132,7 @@ module _ (F : ℕ → M (World lent) Done) (reason : ℕ) where
 
 -- the code freezes a value as the definition does
 freezes_value : (vs us ss cs os : List ℕ) (r : Run) (v reason : ℕ) → us ≡ frozen vs v reason → freeze_value reason v (world vs ss cs os r) ≡ ok tt (world us ss cs os r)
-unfolding freeze_value initialize frozen
+unfolding freeze_value initialize
 freezes_value vs us ss cs os r v reason e = ap (λ (l : List ℕ). ok tt (world l ss cs os r)) (sym e)
 
 -- ---- what a walk leaves
@@ -175,26 +170,6 @@ module _ {A : Type 0} (reason : ℕ) (f : (ℕ → M (World lent) Done) → A �
 
 -- ---- the values of a place, from a number on
 
--- the lowest of them
--- the code looks whether the place is defined, then for a member
-module _ (ss : List ℕ) (i from : ℕ) (b : Bool) (e : b ≡ is_some (set_at ss i)) where
-  pub from_none : b ≡ false → None ≡ value_from ss i from
-  unfolding value_from
-  from_none h = sym (ap (λ (x : Bool). ite (x && ltb (next_member ss i from) 1024) (Some (next_member ss i from)) None) (sym e ∙ h))
-
-  module _ (h : b ≡ true) (m : ℕ) (g : m ≡ next_member ss i from) where
-    told : (y : Bool) → ltb m 1024 ≡ y → ite y (Some m) None ≡ value_from ss i from
-    unfolding value_from
-    told y l =
-        sym (ap (λ (x : Bool). ite (x && ltb (next_member ss i from) 1024) (Some (next_member ss i from)) None) (sym e ∙ h)
-        ∙ ap (λ (k : ℕ). ite (ltb k 1024) (Some k) None) (sym g) ∙ ap (λ (x : Bool). ite x (Some m) None) l)
-
-    pub from_some : m < 1024 → Some m ≡ value_from ss i from
-    from_some l = told true (lt-ltb m 1024 l)
-
-    pub from_past : 1024 ≤ m → None ≡ value_from ss i from
-    from_past l = told false (le-ltb m 1024 l)
-
 -- what there is of them
 unfoldable pub values_from : List ℕ → ℕ → ℕ → List ℕ
 values_from ss i from = ite (is_some (set_at ss i)) (left (row_number ss i) from) []
@@ -213,26 +188,20 @@ module _ (ss : List ℕ) (i : ℕ) where
     -- the next of them, and those behind it
     pub values_some : (m : ℕ) → o ≡ Some m → (values_from ss i from ≡ m ∷ values_from ss i (m + 1)) × (from ≤ m) × (m < 1024)
     unfolding values_from value_from
-    values_some m h = go (is_some (set_at ss i)) (ltb (next_member ss i from) 1024) refl (sym e ∙ h)
+    values_some m h = go (is_some (set_at ss i)) (sym e ∙ h)
       where
-        go : (x y : Bool) → ltb (next_member ss i from) 1024 ≡ y → ite (x && y) (Some (next_member ss i from)) None ≡ Some m
-            → (ite x (left (row_number ss i) from) [] ≡ m ∷ ite x (left (row_number ss i) (m + 1)) []) × (from ≤ m) × (m < 1024)
-        go true true l q =
-            let n : m ≡ next_member ss i from = sym (ap (λ (z : Option ℕ). elim z [ None ↦ 0 | Some k ↦ k ]) q) in
-            let b : m < 1024 = rw n (ltb-true _ _ l) in
-            (some_left ss i from m n b, next_ge ss i from m n, b)
-        go true false l q = absurd (let z : false ≡ true = ap is_some q in let t : ◌≡◌ {A = ℕ} 0 1 = cc in omega arith)
-        go false y l q = absurd (let z : false ≡ true = ap is_some q in let t : ◌≡◌ {A = ℕ} 0 1 = cc in omega arith)
+        go : (x : Bool) → ite x (member_from ss i from) None ≡ Some m → (ite x (left (row_number ss i) from) [] ≡ m ∷ ite x (left (row_number ss i) (m + 1)) []) × (from ≤ m) × (m < 1024)
+        go true q = some_left ss i from _ refl m q
+        go false q = absurd (none-some m q)
 
     -- none is left
     pub values_none : o ≡ None → values_from ss i from ≡ []
     unfolding values_from value_from
-    values_none h = go (is_some (set_at ss i)) (ltb (next_member ss i from) 1024) refl (sym e ∙ h)
+    values_none h = go (is_some (set_at ss i)) (sym e ∙ h)
       where
-        go : (x y : Bool) → ltb (next_member ss i from) 1024 ≡ y → ite (x && y) (Some (next_member ss i from)) None ≡ None → ite x (left (row_number ss i) from) [] ≡ []
-        go true true l q = absurd (let z : true ≡ false = ap is_some q in let t : ◌≡◌ {A = ℕ} 0 1 = cc in omega arith)
-        go true false l q = none_left ss i from _ refl (ltb-false _ _ l)
-        go false y l q = refl
+        go : (x : Bool) → ite x (member_from ss i from) None ≡ None → ite x (left (row_number ss i) from) [] ≡ []
+        go true q = none_left ss i from _ refl q
+        go false q = refl
 
 -- the loop over the values of a place
 module _ (reason : ℕ) (f : (ℕ → M (World lent) Done) → ℕ → M (World lent) Done) where

@@ -2,10 +2,11 @@
 -- Assumes nothing.
 use native.Mathlib.Omega.{arith}
 use Rattle.std.specs.Prelude.{◌≡◌, ◌+◌, ◌*◌, ◌/◌, max}
-use Rattle.std.proofs.Common.{sym, ap, ◌∙◌, ⊎_elim}
+use Rattle.std.proofs.Common.{refl, sym, ap, ◌∙◌, ⊎_elim}
 use Rattle.base_tests.proofs.Laws.Order.{lt_or_ge}
 use Rattle.lent_sets.specs.Rows.{next_member, row_word}
 use Rattle.lent_sets.proofs.Laws.Code.{next_none, next_found, next_end}
+use Rattle.lent_members.proofs.Laws.Members.{from_found, from_past}
 use Rattle.lent_members.proofs.next_member.Goals as goal
 
 pub returns-then-rest-ne0 : goal.returns-then-rest-ne0
@@ -13,8 +14,8 @@ returns-then-rest-ne0 c =
     let a = c.args in
     let v = c.max-v.result in
     let p : c.loop-w.w ≡ v / 64 = omega arith in
-    (next_found a.rows.now a.i v _ (c.row_word.ensures ∙ ap (row_word a.rows.now a.i) p) (omega arith) c.row_word.type_inv c.if-rest-ne0.true).0
-    ∙ ap (next_member a.rows.now a.i) c.max-v.ensures ∙ sym c.loop-w.invariant
+    let m = next_found a.rows.now a.i v _ (c.row_word.ensures ∙ ap (row_word a.rows.now a.i) p) (omega arith) c.row_word.type_inv c.if-rest-ne0.true in
+    from_found a.rows.now a.i a.from _ (m.0 ∙ ap (next_member a.rows.now a.i) c.max-v.ensures ∙ sym c.loop-w.invariant) m.1
 
 pub loop-w-preserved : goal.loop-w-preserved
 loop-w-preserved c =
@@ -29,7 +30,7 @@ loop-w-preserved c =
 pub returns : goal.returns
 returns c =
     let a = c.args in
-    ⊎_elim
-    (λ l. let u = max a.from (c.loop-w.w * 64) in let e : c.max.result ≡ u = omega arith in e ∙ sym (c.loop-w.invariant ∙ next_end a.rows.now a.i u (omega arith)))
-    (λ l. let e : c.max.result ≡ a.from = omega arith in e ∙ sym (next_end a.rows.now a.i a.from l))
-    (lt_or_ge a.from 1024)
+    from_past a.rows.now a.i a.from (next_member a.rows.now a.i a.from) refl (⊎_elim
+    (λ l. let u = max a.from (c.loop-w.w * 64) in let e : next_member a.rows.now a.i a.from ≡ u = c.loop-w.invariant ∙ next_end a.rows.now a.i u (omega arith) in omega arith)
+    (λ l. let e = next_end a.rows.now a.i a.from l in omega arith)
+    (lt_or_ge a.from 1024))

@@ -3,7 +3,7 @@ use Rattle.state_ops.proofs.Laws.List.{freeze_turn, freeze_done}
 use Rattle.state_freeze.proofs.freeze_values.Goals as goal
 
 pub loop-m-preserved : goal.loop-m-preserved
-loop-m-preserved c = (tt, tt, freeze_turn _ _ _ _ _ _ _ _ c.in-Some.ensures.steps c.single.ensures c.put_value.ensures c.loop-m.invariant.2)
+loop-m-preserved c = (tt, tt, freeze_turn _ _ _ _ _ _ _ c.in-Some.ensures.steps c.freeze_value.ensures c.loop-m.invariant.2)
 
 pub returns : goal.returns
 returns c = freeze_done _ _ _ _ c.in-None.ensures.steps.0 c.loop-m.invariant.2

@@ -8,25 +8,22 @@ use mathlib.Core.List.{List, [], ◌∷◌}
 use Rattle.std.proofs.Math.Seq.{drop-length}
 use Rattle.base_tests.proofs.Laws.Bool.{never}
 use Rattle.base_sets.specs.Members.{union, bits_of}
-use Rattle.def_kinds.specs.declared.ValueKind.TheVariants.{Frozen}
 use Rattle.def_kinds.specs.declared.AbstractValue.{AbstractValue}
-use Rattle.def_kinds.specs.Reasons.{single}
-use Rattle.def_kinds.specs.Values.{mk, or_default}
+use Rattle.def_kinds.specs.Values.{or_default}
 use Rattle.lent_values.specs.Cells.{value_at, put_value}
 use Rattle.lent_sets.specs.Rows.{set_at, number, add_set, put_set, copy_set, copied}
 use Rattle.base_tests.specs.Tests.{is_some}
 use Rattle.lent_sets.proofs.Laws.Row.{add_row}
 use Rattle.lent_sets.proofs.Laws.Code.{put_cut}
-use Rattle.state_ops.specs.Lists.{freeze_all, inserted, own_inserted, own_value, own_sets, set_or_own, assigned_values, assigned_sets, unions, phi_sets}
+use Rattle.state_ops.specs.Lists.{frozen, freeze_all, inserted, own_inserted, own_value, own_sets, set_or_own, assigned_values, assigned_sets, unions, phi_sets}
 
 -- ---- freezing the values of a place
 
 module _ (reason : ℕ) where
   -- a loop over values freezes the first of those that are left
-  pub freeze_turn : (vs us z l k : List ℕ) (v b : ℕ) → l ≡ v ∷ k → b ≡ single reason → us ≡ put_value vs v (mk Frozen b) → freeze_all reason l vs ≡ z → freeze_all reason k us ≡ z
+  pub freeze_turn : (vs us z l k : List ℕ) (v : ℕ) → l ≡ v ∷ k → us ≡ frozen vs v reason → freeze_all reason l vs ≡ z → freeze_all reason k us ≡ z
   unfolding freeze_all
-  freeze_turn vs us z l k v b e q g h =
-      ap (freeze_all reason k) (g ∙ ap (λ (c : ℕ). put_value vs v (mk Frozen c)) q) ∙ sym (ap (λ (m : List ℕ). freeze_all reason m vs) e) ∙ h
+  freeze_turn vs us z l k v e g h = ap (freeze_all reason k) g ∙ sym (ap (λ (m : List ℕ). freeze_all reason m vs) e) ∙ h
 
   pub freeze_done : (vs z l : List ℕ) → l ≡ [] → freeze_all reason l vs ≡ z → vs ≡ z
   unfolding freeze_all
