@@ -47,7 +47,14 @@ pub fn restore_context(context: &mut [u32], scratch: &[u32])
     let before = get_or(scratch, 0, 0);
     let after = interned_count(context);
     forget_effects(context, before, after);
-    copy(scratch, 0, context, INTERNED_COUNT as u32, SAVED_WORDS as u32, 0);
+    copy(
+        scratch,
+        0,
+        context,
+        INTERNED_COUNT as u32,
+        SAVED_WORDS as u32,
+        0,
+    );
 }
 
 // ---- both

@@ -20,11 +20,19 @@ pub fn clear_scratch(scratch64: &mut [u64], scratch32: &mut [u32])
 
 // n elements from `start` on are copied to another slice, from `at` on.
 // What lies past the first's end is read as `other`, what lies past the second's is not written.
+// Where both have them all they are copied at once, as fast as memory does it.
 pub fn copy<T: Copy>(from: &[T], start: u32, to: &mut [T], at: u32, n: u32, other: T)
     ensures { to.new ≡ copied_or other from.now start at n to.old }
 {
+    let start = start as usize;
+    let at = at as usize;
+    let n = n as usize;
+    if start + n <= from.len() && at + n <= to.len() {
+        to[at..at + n].copy_from_slice(&from[start..start + n]);
+        return;
+    }
     for k in 0..n {
-        let x = get_or(from, start as usize + k as usize, other);
-        set(to, at as usize + k as usize, x);
+        let x = get_or(from, start + k, other);
+        set(to, at + k, x);
     }
 }

@@ -1,2 +1,3 @@
 pub mod Use
 pub mod Instruction
+pub mod Split

@@ -13,10 +13,12 @@ ghost use Rattle.lent_layout.specs.Layout.{candidate_table};
 use def_effects::Place;
 use def_refusals::{Refusal, Verdict};
 use lent_diagnostics::instance_count;
-use lent_layout::{CANDIDATES, DIAGNOSTICS};
+use lent_layout::{CANDIDATES, DIAGNOSTICS, EFFECT_WORDS};
 use lent_tables::Table;
 use refuse_class::lower;
-use refuse_words::{ANY, earns, lowest, place_limit, record_class, run_limit, used_if};
+use refuse_words::{
+    ANY, earns, lowest, place_limit, record_class, run_limit, stray_from, used_if, words_class,
+};
 
 // How many identifiers and functions a state and its context have: what the numbers of both lie below.
 #[derive(Clone, Copy)]
@@ -112,13 +114,19 @@ fn effect_limit(by: Measures, w: usize) -> Option<u64>
     middle_limit(by, w - 11)
 }
 
-// What the words of an effect's record earn.
+// What the words of an effect's record earn. Only a CreateFunction has captures;
+// of any other effect the 80 words of captures have no use, and are tested at once.
 fn effect_words(t: Table, xs: &[u32], i: usize, by: Measures) -> Verdict
     ensures { class_of result
         ≡ record_class t xs.now
         (effect_limit by.counts.identifiers by.counts.functions by.diagnostics by.code by.captures) i }
 {
-    record_class(t, xs, i, |w| effect_limit(by, w))
+    if by.code == 13 || t.width != 98 || i >= (t.count as usize) {
+        return record_class(t, xs, i, |w| effect_limit(by, w));
+    }
+    let head = words_class(t, xs, i, 18, |w| effect_limit(by, w));
+    let from = t.base as usize + i * EFFECT_WORDS + 18;
+    lower(head, stray_from(xs, from, 80))
 }
 
 // Count where an effect with captures has more than sixteen.

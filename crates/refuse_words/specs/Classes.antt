@@ -56,7 +56,7 @@ unfoldable pub stray_from : List ℕ → ℕ → ℕ → ℕ
 stray_from c from n = lowest_below n (λ k. word_class None (get_or c (from + k) 0))
 
 -- how many of n words from one on stand in the list
--- a search of them ends there: past the end every word counts as zero
+-- a loop over them ends there: past the end every word counts as zero
 unfoldable pub lent_from : List ℕ → ℕ → ℕ → ℕ
 lent_from c from n = ite (ltb from (length c)) (ite (ltb n (length c - from)) n (length c - from)) 0
 

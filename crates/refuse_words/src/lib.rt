@@ -2,11 +2,11 @@
 // A limit is none for a word without use, else the number that the word has to lie below.
 #![tactic(auto)]
 
-ghost use Rattle.std.specs.Prelude.{◌≡◌, ◌<◌, ◌+◌, ℕ, Option, length};
+ghost use Rattle.std.specs.Prelude.{◌≡◌, ◌<◌, ℕ, Option};
 ghost use Rattle.base_tests.specs.Tests.{ite};
 ghost use Rattle.def_refusals.specs.Verdicts.{number_of, class_of};
 ghost use Rattle.refuse_words.specs.Classes as Classes;
-ghost use Rattle.refuse_words.specs.Classes.{lowest_below, record_class, word_class, used_if, place_limit, run_limit, stray_from, stray_after};
+ghost use Rattle.refuse_words.specs.Classes.{lowest_below, words_below, record_class, word_class, used_if, place_limit, run_limit, stray_from, stray_after};
 
 use def_refusals::{Refusal, Verdict};
 use lent_tables::Table;
@@ -79,7 +79,23 @@ pub fn lowest<F: Fn(usize) -> Verdict>(n: usize, test: F) -> Verdict
     worst
 }
 
-// What a record earns: the lowest of what its words earn, by a limit for each.
+// What the first n words of a record earn: the lowest of what each earns, by a limit for each.
+pub fn words_class<F: Fn(usize) -> Option<u64>>(
+    t: Table,
+    xs: &[u32],
+    i: usize,
+    n: usize,
+    limit: F,
+) -> Verdict
+    requires { F.IsAlwaysCallable limit }
+    ensures { (limits : ℕ → Option ℕ)
+        → ((w : ℕ) (l : _) → w < n → F.post limit w l → l ≡ limits w)
+        → class_of result ≡ words_below t xs.now limits i n }
+{
+    lowest(n, |w| word_class(limit(w), t.field(xs, i, w)))
+}
+
+// What a record earns: the lowest of what its words earn.
 pub fn record_class<F: Fn(usize) -> Option<u64>>(
     t: Table,
     xs: &[u32],
@@ -91,28 +107,29 @@ pub fn record_class<F: Fn(usize) -> Option<u64>>(
         → ((w : ℕ) (l : _) → w < t.width → F.post limit w l → l ≡ limits w)
         → class_of result ≡ record_class t xs.now limits i }
 {
-    lowest(
-        t.width as usize,
-        |w| word_class(limit(w), t.field(xs, i, w)),
-    )
+    words_class(t, xs, i, t.width as usize, limit)
 }
 
 // How many words of a lent list stand from one on, at most n.
 // What stands past the end of the list counts as zero.
 #[tactic(auto, unfolding(crate::specs::Classes::lent_from))]
 fn lent_from(xs: &[u32], from: usize, n: usize) -> usize
-    ensures value { result ≡ Classes.lent_from xs.now from n }
-    ensures within { (k : ℕ) → k < result → from + k < length xs.now }
+    ensures { result ≡ Classes.lent_from xs.now from n }
 {
     xs.len().saturating_sub(from).min(n)
 }
 
 // What n words without use earn, from one on: Order where one of them is not zero.
+// The words are gathered bit by bit, so that the loop has one read for each word and no branch.
 pub fn stray_from(xs: &[u32], from: usize, n: usize) -> Verdict
     ensures { class_of result ≡ stray_from xs.now from n }
 {
     let m = lent_from(xs, from, n);
-    earns(Refusal::Order, (0..m).any(|k| xs[from + k] != 0))
+    let mut all: u32 = 0;
+    for k in 0..m {
+        all |= xs[from + k];
+    }
+    earns(Refusal::Order, all != 0)
 }
 
 // What the words of a table after its first n records earn.

@@ -102,7 +102,10 @@ fn same<T: Word>(job: &mut Reading, list: &[T], limit: usize) {
 // They stand from word 37,830 of a context on.
 fn is_record(context: &[u32], k: u32, record: &[u32; 98]) -> bool {
     let base = 37830 + k as usize * 98;
-    record.iter().enumerate().all(|(w, x)| get_or(context, base + w, 0) == *x)
+    record
+        .iter()
+        .enumerate()
+        .all(|(w, x)| get_or(context, base + w, 0) == *x)
 }
 
 // Whether a given record is the interned effect that comes j-th by its key, and its number one of the first n.

@@ -1,7 +1,7 @@
 -- Laws by which the loops meet their definitions, and what a copy holds. Assumes nothing.
-use Rattle.std.specs.Prelude.{ℕ, zero, suc, ◌+◌, ◌-◌, ◌≤◌, ◌<◌, ◌≡◌, refl, List, length, get_or, set, replicate}
-use Rattle.std.proofs.Common.{arith, sym, ap, ap₂, ◌∙◌, length-set}
-use Rattle.std.proofs.lemmas.List.{length-replicate}
+use Rattle.std.specs.Prelude.{ℕ, zero, suc, ◌+◌, ◌-◌, ◌≤◌, ◌<◌, ◌≡◌, refl, List, [], ◌∷◌, ◌++◌, length, get_or, set, replicate, take, drop}
+use Rattle.std.proofs.Common.{arith, sym, ap, ap₂, ◌∙◌, length-set, append_assoc, drop-cons, take-suc-set, drop-set-lt}
+use Rattle.std.proofs.lemmas.List.{length-replicate, take-append-drop}
 use Rattle.lent_copies.specs.Copies.{zeros, copied_or}
 use Rattle.lent_copies.specs.Cleared.{Cleared}
 
@@ -39,6 +39,16 @@ copy_end o c ws us start at n k h e =
     let t : at + 0 ≡ at = omega arith in
     let z : n - 0 ≡ n = omega arith in
     sym (e ∙ ap (λ (y : ℕ). copied_or o c (start + k) (at + k) y us) m) ∙ ap₂ (λ (x y : ℕ). copied_or o c x y (n - 0) ws) s t ∙ ap (λ (y : ℕ). copied_or o c start at y ws) z
+
+-- a run that both lists have is copied as a whole
+pub copy_whole : {A : Type 0} (o : A) (c : List A) (start at n : ℕ) (ws : List A) → start + n ≤ length c → at + n ≤ length ws → take at ws ++ (take n (drop start c) ++ drop (at + n) ws) ≡ copied_or o c start at n ws
+unfolding copied_or
+copy_whole o c start at zero ws p q = ap (λ (k : ℕ). take at ws ++ drop k ws) (let z : at + 0 ≡ at = omega arith in z) ∙ take-append-drop at ws
+copy_whole {A} o c start at (suc n) ws p q =
+    ap₂ (λ (x y : List A). take at ws ++ (x ++ y)) (ap (take (suc n)) (drop-cons c start o (omega arith))) (ap (λ (k : ℕ). drop k ws) (let z : at + suc n ≡ suc at + n = omega arith in z))
+    ∙ sym (append_assoc (take at ws) (get_or c start o ∷ []) (take n (drop (suc start) c) ++ drop (suc at + n) ws))
+    ∙ ap₂ (λ (x y : List A). x ++ (take n (drop (suc start) c) ++ y)) (sym (take-suc-set ws at (get_or c start o) (omega arith))) (sym (drop-set-lt (suc at + n) ws at (get_or c start o) (omega arith)))
+    ∙ (let long = length-set ws at (get_or c start o) in copy_whole o c (suc start) (suc at) n (set ws at (get_or c start o)) (omega arith) (omega arith))
 
 -- the length stays
 pub copied_length : {A : Type 0} (o : A) (c : List A) (start at n : ℕ) (ws : List A) → length (copied_or o c start at n ws) ≡ length ws

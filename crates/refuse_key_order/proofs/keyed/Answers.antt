@@ -1,6 +1,5 @@
 -- `refuse_key_order::keyed` meets its contract: the sum of a one for each number that has a key. Assumes nothing.
-use Rattle.std.specs.List.{range_with_len}
-use Rattle.std.proofs.Common.{arith, rules, refl, ◌∙◌}
+use Rattle.std.proofs.Common.{arith, rules, ◌∙◌}
 use Rattle.std.proofs.lemmas.Iterator.{YieldsList-from_map, YieldsList-from_range}
 use Rattle.std.proofs.lemmas.Iterator.Consumers.{sum_from_yields_List, fits_from_yields_list}
 use Rattle.base_tests.specs.Tests.{ite}

@@ -1,18 +1,20 @@
--- Laws by which the search of words without use meets its definition: those past the end of the list are zero. Assumes nothing.
-use Rattle.std.specs.Prelude.{ℕ, zero, suc, ◌+◌, ◌-◌, ◌*◌, ◌≤◌, ◌<◌, ◌≡◌, Bool, true, false, not, List, eqb, ltb, get_or, length, None}
+-- Laws by which the loop over words without use meets its definition: they are gathered bit by bit. Assumes nothing.
+use Rattle.std.specs.Prelude.{ℕ, zero, suc, ◌+◌, ◌-◌, ◌*◌, ◌≤◌, ◌<◌, ◌≡◌, Bool, not, List, eqb, ltb, get_or, length, None}
 use Rattle.std.proofs.Math.Path.{refl, sym, ap}
-use Rattle.std.proofs.Common.{ap₂, ◌∙◌, ⊎_elim, le_refl, zero-mul, mul-le-mul}
+use Rattle.std.proofs.Common.{ap₂, ◌∙◌, ⊎_elim, le_refl, zero-mul, mul-le-mul, eq-eqb, ne_eqb}
 use native.Mathlib.Omega.{arith}
+use Rattle.std.specs.Int.Bits.{bit_or, bit_and, or_add_and, or_zero_l}
+use Rattle.std.proofs.lemmas.Nat.{and_le_l, and_le_r}
 use Rattle.std.proofs.Math.ListN.{get_or-eq_default}
 use Rattle.base_tests.proofs.Laws.Order.{lt_or_ge, same_or_not}
-use Rattle.base_tests.specs.Tests.{ite, any_below}
+use Rattle.base_tests.specs.Tests.{ite}
 use Rattle.base_tests.proofs.Laws.Choice.{ite_lt, ite_ge}
 use Rattle.lent_tables.specs.declared.Table.{Table}
 use Rattle.lent_tables.specs.Words.{index}
 use Rattle.refuse_class.specs.Class.{lower}
 use Rattle.refuse_class.proofs.Laws.Class.{lower_none, lower_alone}
 use Rattle.refuse_words.specs.Classes.{lowest_below, earns, word_class, stray_from, lent_from, stray_after}
-use Rattle.refuse_words.proofs.Laws.Class.{word_zero, lowest_none}
+use Rattle.refuse_words.proofs.Laws.Class.{word_zero, lowest_none, lowest_more}
 
 -- ---- the lowest class
 
@@ -30,21 +32,48 @@ lowest_rest f m (suc n) l h =
     kept : (a b : ℕ) → b ≡ 0 → a ≡ lower a b
     kept a b z = ⊎_elim (λ e. e ∙ sym z ∙ lower_none a b e) (λ n. lower_alone a b n z) (same_or_not a 0)
 
--- ---- a test of each of some words
+-- ---- bits
 
--- the class of two tests is that of either
-either : (b a : Bool) → lower (earns 4 a) (earns 4 b) ≡ earns 4 (elim b [ true ↦ true | false ↦ a ])
+-- numbers of which one and the other have no bit
+zeros : (x y a b : ℕ) → x + y ≡ a + b → y ≤ a → y ≤ b → x ≡ 0 → a ≡ 0
+zeros x y a b e p q z = omega arith
+
+-- a number with a bit keeps it
+or_some : (a b : ℕ) → (a ≡ 0 → ⊥) → bit_or a b ≡ 0 → ⊥
+or_some a b n e = n (zeros (bit_or a b) (bit_and a b) a b (or_add_and a b) (and_le_l a b) (and_le_r a b) e)
+
+-- 4 where a number has a bit
+abbrev pub bit_class : ℕ → ℕ
+bit_class x = earns 4 (not (eqb x 0))
+
+-- it is 0 of 0
+pub bit_none : (x : ℕ) → x ≡ 0 → 0 ≡ bit_class x
+bit_none x e = sym (ap (λ (b : Bool). earns 4 (not b)) (eq-eqb x 0 e))
+
+-- and 4 of any other
+pub bit_some : (x : ℕ) → (x ≡ 0 → ⊥) → 4 ≡ bit_class x
+bit_some x n = sym (ap (λ (b : Bool). earns 4 (not b)) (ne_eqb x 0 n))
+
+-- the lower of 4 and none
+four_none : lower 4 0 ≡ 4
 unfolding lower
-either true true = refl
-either true false = refl
-either false true = refl
-either false false = refl
+four_none = refl
 
--- the lowest of what some tests earn is earned where one of them holds
-any_class : (f : ℕ → Bool) (n : ℕ) → lowest_below n (λ k. earns 4 (f k)) ≡ earns 4 (any_below n f)
-unfolding lowest_below any_below
-any_class f zero = refl
-any_class f (suc n) = ap (λ (x : ℕ). lower x (earns 4 (f n))) (any_class f n) ∙ either (f n) (any_below n f)
+-- the lower of 4 and 4
+four_both : lower 4 4 ≡ 4
+unfolding lower
+four_both = refl
+
+-- the class of two words is that of their bits together
+gathered : (a x : ℕ) → lower (bit_class a) (bit_class x) ≡ bit_class (bit_or a x)
+gathered a x =
+    ⊎_elim
+    (λ e. sym (lower_none (bit_class a) (bit_class x) (sym (bit_none a e))) ∙ ap bit_class (sym (or_zero_l x)) ∙ ap (λ (y : ℕ). bit_class (bit_or y x)) (sym e))
+    (λ n.
+    ap (λ (y : ℕ). lower y (bit_class x)) (sym (bit_some a n))
+    ∙ ⊎_elim (λ e. ap (lower 4) (sym (bit_none x e)) ∙ four_none) (λ k. ap (lower 4) (sym (bit_some x k)) ∙ four_both) (same_or_not x 0)
+    ∙ bit_some (bit_or a x) (or_some a x n))
+    (same_or_not a 0)
 
 -- ---- stray words
 
@@ -93,13 +122,24 @@ module _ (c : List ℕ) (from n : ℕ) where
   lent_le : lent_from c from n ≤ n
   lent_le = ⊎_elim (λ l. let h = lent_in (lent_from c from n) n refl l in absurd (omega (arith, h.1))) (λ l. l) (lt_or_ge n (lent_from c from n))
 
-  -- all that stand in the list
-  -- the others are zero
-  pub stray_any : (m : ℕ) (r : Bool) → m ≡ lent_from c from n → r ≡ any_below m (λ k. not (eqb (get_or c (from + k) 0) 0)) → earns 4 r ≡ stray_from c from n
+  -- no word is gathered yet
+  pub stray_start : bit_class 0 ≡ stray_from c from 0
+  unfolding stray_from
+  stray_start = lowest_none (λ j. word_class None (get_or c (from + j) 0))
+
+  -- a word more
+  pub stray_more : (k a x : ℕ) → bit_class a ≡ stray_from c from k → x ≡ get_or c (from + k) 0 → bit_class (bit_or a x) ≡ stray_from c from (k + 1)
   unfolding stray_from word_class
-  stray_any m r e h =
-      ap (earns 4) (h ∙ ap (λ (x : ℕ). any_below x (λ k. not (eqb (get_or c (from + k) 0) 0))) e)
-      ∙ sym (any_class (λ k. not (eqb (get_or c (from + k) 0) 0)) (lent_from c from n))
+  stray_more k a x h e =
+      lowest_more (λ j. word_class None (get_or c (from + j) 0)) k (bit_class a) (bit_class x) (bit_class (bit_or a x)) h (ap bit_class e) (sym (gathered a x))
+
+  -- all that stand in the list
+  -- where the loop ends: the others are zero
+  pub stray_end : (m k a : ℕ) → m ≡ lent_from c from n → k ≤ m → m ≤ k → bit_class a ≡ stray_from c from k → bit_class a ≡ stray_from c from n
+  unfolding stray_from
+  stray_end m k a e p q h =
+      let g : k ≡ lent_from c from n = omega arith in
+      h ∙ ap (λ (x : ℕ). lowest_below x (λ j. word_class None (get_or c (from + j) 0))) g
       ∙ lowest_rest (λ j. word_class None (get_or c (from + j) 0)) (lent_from c from n) n lent_le
       (λ j r l. sym (word_zero (get_or c (from + j) 0) (get_or-eq_default c 0 (lent_past j l r))))
 
