@@ -22,14 +22,8 @@ pub fn save_state(values: &[u64], sets: &[u64], n: u32, scratch: &mut [u64])
 pub fn save_context(context: &[u32], scratch: &mut [u32])
     ensures { scratch.new ≡ saved_context context.now scratch.old }
 {
-    copy(
-        context,
-        INTERNED_COUNT as u32,
-        scratch,
-        0,
-        SAVED_WORDS as u32,
-        0,
-    );
+    let from = INTERNED_COUNT as u32;
+    copy(context, from, scratch, 0, SAVED_WORDS as u32, 0);
 }
 
 // State and context are saved.

@@ -47,14 +47,8 @@ pub fn restore_context(context: &mut [u32], scratch: &[u32])
     let before = get_or(scratch, 0, 0);
     let after = interned_count(context);
     forget_effects(context, before, after);
-    copy(
-        scratch,
-        0,
-        context,
-        INTERNED_COUNT as u32,
-        SAVED_WORDS as u32,
-        0,
-    );
+    let at = INTERNED_COUNT as u32;
+    copy(scratch, 0, context, at, SAVED_WORDS as u32, 0);
 }
 
 // ---- both
