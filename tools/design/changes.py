@@ -50,6 +50,7 @@ NOW = {
     "refuse_instruction is_code": "`==`", "state_calls either": "the language's own or", "state_pairs merged_flag": "the contract of `state_merge_calls::merge`",
     "call_apply_lent without_session": "the contract of `call_apply_lent::apply`",
     "effect_freeze with_entries": "the counts of `lent_world::World::run` are written where they stand: the contracts of `effect_freeze::walk` and `effect_walk::freeze_function_captures_transitive`",
+    "effect_walk freeze_value": "`state_freeze::freeze_value`, with the same contract",
     "effect_parts with_session": "the session of `lent_world::World::run` is written where it stands: the contracts of the functions that change it",
     "image_decode kind_at": "`def_kinds::ValueKind::of_code`", "image_job no_job": "`image_job` `Reading.antt`: `said_of`", "image_run refused": "`image_pieces` `Pieces.antt`: `answer_of`",
     "image_class2 header_word": "`image_class2::word`", "image_class2 size_of": "`image_class2::Section::size`",
@@ -79,6 +80,7 @@ DEFINED = {
     "effect_flow refuses": "`flows` of the same file, by the kind of flow",
     "effect_freeze with_entries": "`freezing` and `walk` of the definition, which the contracts cite themselves",
     "effect_parts writes": "`is_written` (`def_transfer` `Step.antt`), which the contract cites itself now",
+    "effect_walk frozen": "`frozen` of `state_ops` `Lists.antt`, with the same text",
     "effect_walk Enters": "the contract of `effect_walk::freeze_function_captures_transitive`: `Does` at each depth that suffices", "effect_walk Still": "the same contract, whose equation has flag, session, marks and what is listed, and `Walked` of the same file", "effect_walk walking": "the same contract",
     "image_class3_candidates codes_of": "`used_words` (`def_image` `Refusals.antt`), whose columns it was",
     "lent_keys option_of": "none needed: the definitions speak of the library's `Option`", "lent_values option_of": "the same",
@@ -125,7 +127,9 @@ out += ["", "### Constants and laws of code", ""]
 for d in r["ghost items and constants"]["changed"]:
     out.append(f"- `{' '.join(d[:-2])}`: `{short(d[-2])}` → `{short(d[-1])}`")
 for g in r["ghost items and constants"]["gone"]:
-    out.append(f"- `{' '.join(map(str, g))}` is gone")
+    constant = " ".join(map(str, g))
+    now = {"lent_layout const SAVED": "`SAVED_WORDS as u32`", "lent_layout const SAVED_FROM": "`INTERNED_COUNT as u32`"}.get(constant, "a variant of `image_class2::Section`" if constant.startswith("image_class") else None)
+    out.append(f"- `{constant}` is gone" + (f": {now}" if now else ""))
 out += ["", "### Signatures", ""]
 for name, old, new in r["signatures changed"]:
     out += [f"- `{name}`", "  ```", "  - " + old, "  + " + new, "  ```"]
