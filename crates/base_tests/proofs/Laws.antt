@@ -2,5 +2,4 @@ pub mod Order
 pub mod Bool
 pub mod Choice
 pub mod Below
-pub mod Chains
 pub mod Any

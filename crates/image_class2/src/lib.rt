@@ -9,6 +9,8 @@ ghost use Rattle.def_image.specs.Layout as Image;
 ghost use Rattle.def_image.specs.Layout.{cell, count_of, end_of, offset_of, size_of, start_of, word};
 ghost use Rattle.image_class2.specs.Sections.{number_of, SearchesAs};
 
+use lent_slices::get_or;
+
 // The sections of an image, in the order of the header's counts and offsets.
 #[derive(Clone, Copy, Debug, PartialEq, Eq)]
 pub enum Section {
@@ -64,7 +66,7 @@ impl Section {
 pub fn word(im: &[u32], i: usize) -> u32
     ensures { result ≡ word im.now i }
 {
-    im.get(i).copied().unwrap_or(0)
+    get_or(im, i, 0)
 }
 
 // How many records a section has, as the header says.

@@ -1,3 +1,4 @@
 pub mod Use
 pub mod Instruction
 pub mod Split
+pub mod Parts

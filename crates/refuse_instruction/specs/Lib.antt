@@ -1,1 +1,2 @@
 pub mod EffectClasses
+pub mod Parts

@@ -4,9 +4,10 @@
 
 ghost use Rattle.std.specs.Prelude.{◌≡◌, leb, not};
 ghost use Rattle.base_tests.specs.Tests.{ite};
-ghost use Rattle.refuse_words.specs.Classes.{lowest_below, record_class};
+ghost use Rattle.refuse_words.specs.Classes.{lowest_below, record_class, words_below};
 ghost use Rattle.def_refusals.specs.Verdicts.{class_of};
 ghost use Rattle.refuse_words.specs.Classes as Classes;
+ghost use Rattle.refuse_instruction.specs.Parts.{place_word, middle_word};
 ghost use Rattle.refuse_instruction.specs.EffectClasses.{uses, middle_limit, effect_limit, count_class, numbers_class, effect_class, place_class, instruction_class};
 ghost use Rattle.lent_layout.specs.Layout.{candidate_table};
 
@@ -17,7 +18,7 @@ use lent_layout::{CANDIDATES, DIAGNOSTICS, EFFECT_WORDS};
 use lent_tables::Table;
 use refuse_class::lower;
 use refuse_words::{
-    ANY, earns, lowest, place_limit, record_class, run_limit, stray_from, used_if, words_class,
+    ANY, earns, lowest, place_limit, record_class, run_limit, stray_from, used_if, word_class,
 };
 
 // How many identifiers and functions a state and its context have: what the numbers of both lie below.
@@ -114,6 +115,66 @@ fn effect_limit(by: Measures, w: usize) -> Option<u64>
     middle_limit(by, w - 11)
 }
 
+// What a place of five words earns, from word `first` of record i on; u is whether it is used.
+// Each word for itself: this is the most frequent test of a call.
+fn place_words(t: Table, xs: &[u32], i: usize, first: u32, u: bool, identifiers: u32) -> Verdict
+    ensures { class_of result ≡ lowest_below 5 (place_word t xs.now i first (ite u 1 0) identifiers) }
+{
+    let w = first as usize;
+    let a = t.field(xs, i, w);
+    let b = t.field(xs, i, w + 1);
+    let c = t.field(xs, i, w + 2);
+    let d = t.field(xs, i, w + 3);
+    let e = t.field(xs, i, w + 4);
+    let identifier = word_class(used_if(u, place_limit(identifiers, 0)), a);
+    let effect = word_class(used_if(u, place_limit(identifiers, 1)), b);
+    let reactive = word_class(used_if(u, place_limit(identifiers, 2)), c);
+    let start = word_class(used_if(u, place_limit(identifiers, 3)), d);
+    let end = word_class(used_if(u, place_limit(identifiers, 4)), e);
+    lower(
+        identifier,
+        lower(effect, lower(reactive, lower(start, end))),
+    )
+}
+
+// What the seven words after both places earn.
+fn middle_words(t: Table, xs: &[u32], i: usize, by: Measures) -> Verdict
+    ensures { class_of result
+        ≡ lowest_below 7 (middle_word t xs.now i by.counts.functions by.diagnostics by.code) }
+{
+    let kind = word_class(middle_limit(by, 0), t.field(xs, i, 11));
+    let reason = word_class(middle_limit(by, 1), t.field(xs, i, 12));
+    let mutation = word_class(middle_limit(by, 2), t.field(xs, i, 13));
+    let function = word_class(middle_limit(by, 3), t.field(xs, i, 14));
+    let identity = word_class(middle_limit(by, 4), t.field(xs, i, 15));
+    let instance = word_class(middle_limit(by, 5), t.field(xs, i, 16));
+    let count = word_class(middle_limit(by, 6), t.field(xs, i, 17));
+    lower(
+        kind,
+        lower(
+            reason,
+            lower(
+                mutation,
+                lower(function, lower(identity, lower(instance, count))),
+            ),
+        ),
+    )
+}
+
+// What the first 18 words earn, those before the captures: the code, two places, and what stands after them.
+fn head_words(t: Table, xs: &[u32], i: usize, by: Measures) -> Verdict
+    ensures { class_of result
+        ≡ words_below t xs.now
+        (effect_limit by.counts.identifiers by.counts.functions by.diagnostics by.code by.captures) i 18 }
+{
+    let identifiers = by.counts.identifiers;
+    let tag = word_class(Some(18), t.field(xs, i, 0));
+    let first = place_words(t, xs, i, 1, uses_place(by.code), identifiers);
+    let second = place_words(t, xs, i, 6, uses_destination(by.code), identifiers);
+    let rest = middle_words(t, xs, i, by);
+    lower(tag, lower(first, lower(second, rest)))
+}
+
 // What the words of an effect's record earn. Only a CreateFunction has captures;
 // of any other effect the 80 words of captures have no use, and are tested at once.
 fn effect_words(t: Table, xs: &[u32], i: usize, by: Measures) -> Verdict
@@ -124,7 +185,7 @@ fn effect_words(t: Table, xs: &[u32], i: usize, by: Measures) -> Verdict
     if by.code == 13 || t.width != 98 || i >= (t.count as usize) {
         return record_class(t, xs, i, |w| effect_limit(by, w));
     }
-    let head = words_class(t, xs, i, 18, |w| effect_limit(by, w));
+    let head = head_words(t, xs, i, by);
     let from = t.base as usize + i * EFFECT_WORDS + 18;
     lower(head, stray_from(xs, from, 80))
 }

@@ -6,7 +6,7 @@ ghost use Rattle.std.specs.Prelude.{◌≡◌, ◌<◌, ℕ, Option};
 ghost use Rattle.base_tests.specs.Tests.{ite};
 ghost use Rattle.def_refusals.specs.Verdicts.{number_of, class_of};
 ghost use Rattle.refuse_words.specs.Classes as Classes;
-ghost use Rattle.refuse_words.specs.Classes.{lowest_below, words_below, record_class, word_class, used_if, place_limit, run_limit, stray_from, stray_after};
+ghost use Rattle.refuse_words.specs.Classes.{lowest_below, record_class, word_class, used_if, place_limit, run_limit, stray_from, stray_after};
 
 use def_refusals::{Refusal, Verdict};
 use lent_tables::Table;
@@ -79,23 +79,7 @@ pub fn lowest<F: Fn(usize) -> Verdict>(n: usize, test: F) -> Verdict
     worst
 }
 
-// What the first n words of a record earn: the lowest of what each earns, by a limit for each.
-pub fn words_class<F: Fn(usize) -> Option<u64>>(
-    t: Table,
-    xs: &[u32],
-    i: usize,
-    n: usize,
-    limit: F,
-) -> Verdict
-    requires { F.IsAlwaysCallable limit }
-    ensures { (limits : ℕ → Option ℕ)
-        → ((w : ℕ) (l : _) → w < n → F.post limit w l → l ≡ limits w)
-        → class_of result ≡ words_below t xs.now limits i n }
-{
-    lowest(n, |w| word_class(limit(w), t.field(xs, i, w)))
-}
-
-// What a record earns: the lowest of what its words earn.
+// What a record earns: the lowest of what its words earn, by a limit for each.
 pub fn record_class<F: Fn(usize) -> Option<u64>>(
     t: Table,
     xs: &[u32],
@@ -107,7 +91,10 @@ pub fn record_class<F: Fn(usize) -> Option<u64>>(
         → ((w : ℕ) (l : _) → w < t.width → F.post limit w l → l ≡ limits w)
         → class_of result ≡ record_class t xs.now limits i }
 {
-    words_class(t, xs, i, t.width as usize, limit)
+    lowest(
+        t.width as usize,
+        |w| word_class(limit(w), t.field(xs, i, w)),
+    )
 }
 
 // How many words of a lent list stand from one on, at most n.

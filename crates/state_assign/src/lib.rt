@@ -4,10 +4,11 @@
 ghost use Rattle.std.specs.Prelude.{◌≡◌};
 ghost use Rattle.state_ops.specs.Lists.{own_inserted, assigned_values, assigned_sets, own_sets, phi_sets};
 
+use def_kinds::DEFAULT;
 use lent_members::is_empty;
 use lent_set_writes::{add_set, copy_set, define, put_set};
 use lent_sets::is_defined;
-use lent_values::{or_default, put_value, value_at};
+use lent_values::{put_value, value_at};
 
 // The own value of a place gets Mutable {Other}, unless it has an entry.
 // An assignment from a place that is not defined makes it so.
@@ -16,7 +17,7 @@ pub fn insert_own(values: &mut [u64], from: u32)
 {
     let v = 512 + (from as usize);
     if value_at(values, v).is_none() {
-        put_value(values, v, or_default(None));
+        put_value(values, v, DEFAULT);
     }
 }
 

@@ -18,6 +18,3 @@ same_or_not (suc a) (suc b) = ⊎_elim (λ e. inl (ap suc e)) (λ n. inr (λ e. 
 
 pub le_not_lt : (m n : ℕ) → leb n m ≡ not (ltb m n)
 le_not_lt m n = ⊎_elim (λ l. lt-leb n m l ∙ sym (ap not (lt-ltb m n l))) (λ l. le-leb n m l ∙ sym (ap not (le-ltb m n l))) (lt_or_ge m n)
-
-pub lt_not_le : (m n : ℕ) → ltb n m ≡ not (leb m n)
-lt_not_le m n = ⊎_elim (λ l. lt-ltb n m l ∙ sym (ap not (lt-leb m n l))) (λ l. le-ltb n m l ∙ sym (ap not (le-leb m n l))) (lt_or_ge n m)

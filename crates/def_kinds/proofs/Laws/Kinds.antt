@@ -1,6 +1,6 @@
 -- The order laws of kinds, reasons and abstract values: the join is idempotent, commutative and associative,
 -- so "above or equal" is a partial order and the join the least upper bound. Assumes nothing.
-use Rattle.std.specs.Prelude.{◌≡◌, refl, Bool, false, ◌&&◌, ℕ, zero, suc, ◌+◌, ◌-◌, ◌^◌, ◌%◌, ◌<◌, ◌≤◌, [], T, eqb, ltb, get_or}
+use Rattle.std.specs.Prelude.{◌≡◌, refl, Bool, false, ◌&&◌, ℕ, zero, suc, ◌+◌, ◌-◌, ◌^◌, ◌%◌, ◌<◌, ◌≤◌, T, eqb, ltb}
 use Rattle.std.proofs.Common.{sym, ap, ◌∙◌, lt_of_lt_of_le, arith, pow_mono, pow-add, eqb→eq, ltb→lt, eq-eqb as eqb-true, ne_eqb as eqb-false}
 use Rattle.std.proofs.Math.Nat.{div-eq_of_lt, mul-mod_left}
 use Rattle.std.proofs.Math.Dec.{eqb_refl}
@@ -60,11 +60,6 @@ kind_at_rest (suc (suc (suc zero))) a b c d e = refl
 kind_at_rest (suc (suc (suc (suc zero)))) a b c d e = absurd (d refl)
 kind_at_rest (suc (suc (suc (suc (suc zero))))) a b c d e = absurd (e refl)
 kind_at_rest (suc (suc (suc (suc (suc (suc n)))))) a b c d e = refl
-
--- the table's row of a kind, at the number of the other kind
-pub join_row : (k : ValueKind) (a b : ValueKind) (n : ℕ) → a ≡ k → n ≡ code_of b → kind_at (get_or (get_or join_table (code_of k) []) n 0) ≡ join_kind a b
-unfolding join_kind
-join_row k a b n p q = rw (p, q) refl
 
 -- ---- one computed test over the table
 

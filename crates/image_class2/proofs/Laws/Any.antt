@@ -1,9 +1,8 @@
--- What the search of a range, or of the sections, finds is what `any_below` finds. Assumes nothing.
-use Rattle.std.specs.Prelude.{ℕ, List, zero, suc, ◌+◌, ◌<◌, ◌≡◌, refl, Bool, true, false, length, get_or}
+-- What the search of the sections finds is what `any_below` finds of their numbers. Assumes nothing.
+use Rattle.std.specs.Prelude.{ℕ, List, zero, suc, ◌<◌, ◌≡◌, refl, Bool, true, false, length, get_or}
 use Rattle.std.specs.Bool.{MatchBool}
-use Rattle.std.specs.List.{range_with_len, AllWithin, HoldsAt}
+use Rattle.std.specs.List.{AllWithin, HoldsAt}
 use Rattle.std.proofs.Common.{arith, sym, ap, ◌∙◌}
-use Rattle.std.proofs.lemmas.List.FromFn.{length-range_with_len, get_or-range_with_len}
 use Rattle.base_tests.specs.Tests.{any_below}
 use Rattle.base_tests.proofs.Laws.Below.{any_yes, any_no}
 use Rattle.image_class2.specs.declared.Section.TheVariants.{Identifiers}
@@ -14,10 +13,6 @@ searched : {A : Type 0} (v : A → ℕ) (d : A) (xs : List A) (n : ℕ) (f : ℕ
     → MatchBool r ((k : ℕ) × (k < length xs) × HoldsAt (λ x. f (v x) ≡ true) xs k) (AllWithin (λ x. f (v x) ≡ false) xs 0 (length xs)) → r ≡ any_below n f
 searched v d xs n f true l e h = let lt : h.0 < n = (let m = h.1 in omega arith) in sym (any_yes n f h.0 lt (sym (ap f (e h.0 lt)) ∙ h.2 d))
 searched v d xs n f false l e h = sym (any_no n f (λ k lt. sym (ap f (e k lt)) ∙ h k d (omega arith) (omega arith)))
-
--- the numbers below n
-pub any_is : (n : ℕ) (f : ℕ → Bool) (r : Bool) → MatchBool r ((k : ℕ) × (k < length (range_with_len 0 n)) × HoldsAt (λ x. f x ≡ true) (range_with_len 0 n) k) (AllWithin (λ x. f x ≡ false) (range_with_len 0 n) 0 (length (range_with_len 0 n))) → r ≡ any_below n f
-any_is n f r h = searched (λ (x : ℕ). x) 0 (range_with_len 0 n) n f r (length-range_with_len 0 n) (λ k lt. get_or-range_with_len 0 n k 0 lt ∙ (let z : 0 + k ≡ k = omega arith in z)) h
 
 section_at : (k : ℕ) → k < 6 → number_of (get_or sections k Identifiers) ≡ k
 section_at zero h = refl

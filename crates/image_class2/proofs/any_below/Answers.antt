@@ -1,7 +1,7 @@
 -- `image_class2::any_below` meets its contract: what the search of a range finds. Assumes nothing.
 use Rattle.std.proofs.Common.{arith, rules, refl, sym, true, false, ◌≡◌}
 use Rattle.std.proofs.lemmas.Iterator.{cases_from_any, YieldsList-from_range}
-use Rattle.image_class2.proofs.Laws.Any.{any_is}
+use Rattle.base_tests.proofs.Laws.Any.{any_is}
 use Rattle.image_class2.proofs.any_below.Goals as goal
 
 pub returns : goal.returns
