@@ -1,6 +1,7 @@
 -- The context places of a function copied to a slice, and which of them become Read. Assumes nothing: these are definitions.
 use Rattle.std.specs.Prelude.{ℕ, List, set, Bool, ◌&&◌, ◌||◌, eqb}
 use Rattle.base_tests.specs.Tests.{is_some}
+use Rattle.def_kinds.specs.declared.ValueKind.{ValueKind}
 use Rattle.def_kinds.specs.Kinds.{copied, is_frozen}
 use Rattle.def_effects.specs.declared.Place.{Place}
 use Rattle.def_effects.specs.Places as Places
@@ -15,10 +16,14 @@ use Rattle.lent_layout.specs.Layout as Layout
 unfoldable pub copied_context : List ℕ → ℕ → List ℕ → List ℕ
 copied_context c f ws = copied_words Layout.contexts c f 0 80 (set ws 0 (field Layout.functions c f 1)) 1
 
+-- the kind of a place by what is lent
+abbrev pub lent_kind : List ℕ → List ℕ → ℕ → ValueKind
+lent_kind vs ss i = (kind_of (value_at vs) (set_at ss i)).kind
+
 -- a Capture of a place that is defined and Primitive, Frozen or Global
 -- what the definition's `update_context` asks
 unfoldable pub becomes_read : List ℕ → List ℕ → Place → Bool
 becomes_read vs ss p =
     eqb p.effect Places.Capture
     && (is_some (set_at ss p.identifier)
-    && (copied (kind_of (value_at vs) (set_at ss p.identifier)).kind || is_frozen (kind_of (value_at vs) (set_at ss p.identifier)).kind))
+    && (copied (lent_kind vs ss p.identifier) || is_frozen (lent_kind vs ss p.identifier)))
