@@ -20,7 +20,7 @@ pub fn apply_signature(
     values: &mut [u64],
     sets: &mut [u64],
     flag: bool,
-    context: &mut [u32],
+    context: &mut Context,
     session: Session,
     candidates: &[u32],
     lvalue: Place,
@@ -30,9 +30,9 @@ pub fn apply_signature(
     scratch32: &mut [u32],
 ) -> Result<Applied, Refusal>
     ensures { Meets
-        (lent_call values.old sets.old flag context.old session candidates.now lvalue own output.old scratch64.old
+        (lent_call values.old sets.old flag (held context.old) session candidates.now lvalue own output.old scratch64.old
         scratch32.old)
-        (left_by (told session flag result) values.new sets.new context.new output.new scratch64.new scratch32.new) }
+        (left_by (told session flag result) values.new sets.new (held context.new) output.new scratch64.new scratch32.new) }
 {
     let verdict = call_class(
         values, sets, flag, context, session, candidates, lvalue, own, output, scratch64, scratch32,

@@ -24,7 +24,7 @@ pub fn apply(
     values: &mut [u64],
     sets: &mut [u64],
     flag: bool,
-    context: &mut [u32],
+    context: &mut Context,
     session: &mut Session,
     candidates: &[u32],
     lvalue: Place,
@@ -34,9 +34,9 @@ pub fn apply(
     scratch32: &mut [u32],
 ) -> Result<Answer, Refusal>
     ensures { Meets
-        (lent_call values.old sets.old flag context.old session.old candidates.now lvalue own output.old scratch64.old
+        (lent_call values.old sets.old flag (held context.old) session.old candidates.now lvalue own output.old scratch64.old
         scratch32.old)
-        (left_by (told_beside session.new flag result) values.new sets.new context.new output.new scratch64.new
+        (left_by (told_beside session.new flag result) values.new sets.new (held context.new) output.new scratch64.new
         scratch32.new) }
 {
     let out = apply_signature(

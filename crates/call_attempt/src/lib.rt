@@ -92,7 +92,7 @@ pub fn attempt(
     values: &mut [u64],
     sets: &mut [u64],
     flag: bool,
-    context: &mut [u32],
+    context: &mut Context,
     session: Session,
     candidates: &[u32],
     lvalue: Place,
@@ -101,13 +101,13 @@ pub fn attempt(
     scratch64: &mut [u64],
     scratch32: &mut [u32],
 ) -> Result<Run, Refusal>
-    ensures { Ready values.old sets.old context.old output.old candidates.now scratch64.old
+    ensures { Ready values.old sets.old (held context.old) output.old candidates.now scratch64.old
         scratch32.old
         → Instruction.apply_signature
         (instruction_of candidates.now (candidate_count candidates.now) lvalue own)
-        (world values.old sets.old context.old output.old (start_run session flag))
+        (world values.old sets.old (held context.old) output.old (start_run session flag))
         ≡ answer (class_of result) tt
-        (world values.new sets.new context.new output.new (run_or (start_run session flag) result)) }
+        (world values.new sets.new (held context.new) output.new (run_or (start_run session flag) result)) }
 {
     let run = start_run(session, flag);
     let mut world = World {

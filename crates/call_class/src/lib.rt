@@ -23,14 +23,14 @@ use refuse_state::{state_refusal, wrong_lengths};
 #[tactic(auto, unfolding(call_outcome::specs::Calls::lengths_wrong))]
 fn lengths_wrong(
     sets: &[u64],
-    context: &[u32],
+    context: &Context,
     candidates: &[u32],
     output: &[u32],
     scratch64: &[u64],
     scratch32: &[u32],
 ) -> bool
     ensures { result
-        ≡ lengths_wrong (length sets.now) (wrong_context context.now candidates.now)
+        ≡ lengths_wrong (length sets.now) (wrong_context (held context.now) candidates.now)
         (length candidates.now) (length output.now) (length scratch64.now)
         (length scratch32.now) }
 {
@@ -45,14 +45,14 @@ fn lengths_wrong(
 // What an instruction earns, with as many candidates as there are records.
 // More than 64 are too many, however many there are.
 fn lent_class(
-    context: &[u32],
+    context: &Context,
     candidates: &[u32],
     lvalue: Place,
     own: u32,
     counts: Counts,
 ) -> Verdict
     ensures { class_of result
-        ≡ instruction_class counts.identifiers counts.functions context.now candidates.now
+        ≡ instruction_class counts.identifiers counts.functions (held context.now) candidates.now
         (length candidates.now / Layout.effect_words) lvalue own }
 {
     let n = candidates.len() / EFFECT_WORDS;
@@ -68,7 +68,7 @@ pub fn call_class(
     values: &[u64],
     sets: &[u64],
     flag: bool,
-    context: &[u32],
+    context: &Context,
     session: Session,
     candidates: &[u32],
     lvalue: Place,
@@ -79,7 +79,7 @@ pub fn call_class(
 ) -> Verdict
     ensures { class_of result
         ≡ call_class
-        (lent_call values.now sets.now flag context.now session candidates.now lvalue own output.now scratch64.now
+        (lent_call values.now sets.now flag (held context.now) session candidates.now lvalue own output.now scratch64.now
         scratch32.now) }
 {
     if lengths_wrong(sets, context, candidates, output, scratch64, scratch32)

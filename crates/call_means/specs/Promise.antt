@@ -2,17 +2,18 @@
 use Rattle.std.specs.Prelude.{ℕ, ◌≡◌, Bool, List}
 use Rattle.def_effects.specs.declared.Place.{Place}
 use Rattle.def_effects.specs.declared.Session.{Session}
+use Rattle.lent_layout.specs.Context.{ContextWords}
 use Rattle.call_outcome.specs.Calls.{Answered, Call, Outcome, call, given, outcome}
 use Rattle.call_outcome.specs.Isolation.{Isolation}
 use Rattle.call_means.specs.Meaning.{MeansPlain}
 
--- the lists that a call is lent, as it begins, with what it takes by value
-abbrev pub lent_call : List ℕ → List ℕ → Bool → List ℕ → Session → List ℕ → Place → ℕ → List ℕ → List ℕ → List ℕ → Call
+-- the lists that a call is lent and what the slices of its context hold, as it begins, with what it takes by value
+abbrev pub lent_call : List ℕ → List ℕ → Bool → ContextWords → Session → List ℕ → Place → ℕ → List ℕ → List ℕ → List ℕ → Call
 lent_call values sets flag context session candidates lvalue own output scratch64 scratch32 =
     call values sets flag context session candidates lvalue own output scratch64 scratch32
 
 -- what it answers, and the lists as it leaves them
-abbrev pub left_by : Answered → List ℕ → List ℕ → List ℕ → List ℕ → List ℕ → List ℕ → Outcome
+abbrev pub left_by : Answered → List ℕ → List ℕ → ContextWords → List ℕ → List ℕ → List ℕ → Outcome
 left_by r values sets context output scratch64 scratch32 =
     given r values sets context output scratch64 scratch32
 

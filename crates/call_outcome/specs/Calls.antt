@@ -1,6 +1,6 @@
 -- The call for one instruction: what it is lent and given, which class refuses it, and what comes of it (document 01, 'Refused calls').
 -- Assumes nothing: these are definitions.
-use Rattle.std.specs.Prelude.{ℕ, ◌+◌, ◌-◌, ◌*◌, ◌/◌, ◌%◌, Bool, not, ◌||◌, List, eqb, ltb, length, get_or, Result, Ok, Err}
+use Rattle.std.specs.Prelude.{ℕ, ◌+◌, ◌*◌, ◌/◌, ◌%◌, Bool, not, ◌||◌, List, eqb, ltb, length, Result, Ok, Err}
 use Rattle.base_tests.specs.Tests.{ite}
 use Rattle.lent_copies.specs.Copies.{zeros}
 use Rattle.def_effects.specs.declared.Place.{Place}
@@ -10,7 +10,9 @@ use Rattle.def_transfer.specs.Tables.{World}
 use Rattle.def_transfer.specs.Instruction.{Instruction, apply_signature}
 use Rattle.lent_work.specs.declared.Run.{Run}
 use Rattle.lent_work.specs.Marks.{no_marks}
+use Rattle.lent_tables.specs.declared.Table.{Table}
 use Rattle.lent_layout.specs.Layout as Layout
+use Rattle.lent_layout.specs.Context.{ContextWords}
 use Rattle.lent_world.specs.World.{lent, world}
 use Rattle.refuse_entries.specs.Words.{identifiers, state_refusal}
 use Rattle.refuse_class.specs.Class.{lower}
@@ -20,7 +22,8 @@ use Rattle.refuse_records.specs.Accepting.{context_class}
 use Rattle.call_parts.specs.Instructions.{instruction_of}
 use Rattle.lent_context.specs.Lent.{interned_count, effects_in}
 use Rattle.laws_room.specs.Room.{needs}
-use Rattle.call_outcome.specs.Attempts.{at_most}
+use Rattle.call_undo.specs.Saves.{saved_words}
+use Rattle.call_outcome.specs.Attempts.{at_most, lengths_of}
 use Rattle.def_refusals.specs.declared.Refusal.{Refusal}
 use Rattle.def_refusals.specs.Verdicts.{number_of}
 use Rattle.call_outcome.specs.declared.Applied.{Applied}
@@ -33,7 +36,7 @@ pub record Call : Type 0 where
   pub values : List ℕ
   pub sets : List ℕ
   pub flag : Bool
-  pub context : List ℕ
+  pub context : ContextWords
   pub session : Session
   pub candidates : List ℕ
   pub lvalue : Place
@@ -43,7 +46,7 @@ pub record Call : Type 0 where
   pub scratch32 : List ℕ
 
 -- the same, in the order of the function's parameters
-abbrev pub call : List ℕ → List ℕ → Bool → List ℕ → Session → List ℕ → Place → ℕ → List ℕ → List ℕ → List ℕ → Call
+abbrev pub call : List ℕ → List ℕ → Bool → ContextWords → Session → List ℕ → Place → ℕ → List ℕ → List ℕ → List ℕ → Call
 call vs ss flag cs session xs lvalue own os s64 s32 = record {
   values = vs;
   sets = ss;
@@ -77,13 +80,13 @@ pub record Outcome : Type 0 where
   pub applied : Answered
   pub values : List ℕ
   pub sets : List ℕ
-  pub context : List ℕ
+  pub context : ContextWords
   pub output : List ℕ
   pub scratch64 : List ℕ
   pub scratch32 : List ℕ
 
 -- the same, in the order of the function's parameters
-abbrev pub given : Answered → List ℕ → List ℕ → List ℕ → List ℕ → List ℕ → List ℕ → Outcome
+abbrev pub given : Answered → List ℕ → List ℕ → ContextWords → List ℕ → List ℕ → List ℕ → Outcome
 given a vs ss cs os s64 s32 = record { applied = a; values = vs; sets = ss; context = cs; output = os; scratch64 = s64; scratch32 = s32 }
 
 -- ---- 1 to 5
@@ -95,32 +98,44 @@ candidate_count xs = length xs / Layout.effect_words
 
 -- for how many interned effects a context has to have room: those that it has, and those that the candidates can intern
 -- no more than "a 2,049th key to intern" leaves, so that room for 2,048 always suffices
-unfoldable pub room_for : List ℕ → List ℕ → ℕ
-room_for cs xs = at_most 2048 (interned_count cs + needs (effects_in Layout.candidate_table xs 0 (candidate_count xs)))
+unfoldable pub room_for : ContextWords → List ℕ → ℕ
+room_for c xs = at_most 2048 (interned_count c + needs (effects_in Layout.candidate_table xs 0 (candidate_count xs)))
 
--- whether a context has the wrong length, by the room that it has to have: its last table is too short for it, longer than it can be, or ends in a part of a record
-unfoldable pub context_wrong : ℕ → ℕ → Bool
-context_wrong room context = ltb context ((Layout.interned).base + room * Layout.effect_words) || (ltb Layout.long context || not (eqb ((context - (Layout.interned).base) % Layout.effect_words) 0))
+-- whether a slice has the wrong length for a table of which n records are asked: too short for them, longer than the table can be, or ending in a
+-- part of a record
+unfoldable pub table_wrong : Table → ℕ → ℕ → Bool
+table_wrong t n words = ltb words (n * t.width) || (ltb (t.count * t.width) words || not (eqb (words % t.width) 0))
 
--- the same of the words themselves
-abbrev pub wrong_context : List ℕ → List ℕ → Bool
-wrong_context cs xs = context_wrong (room_for cs xs) (length cs)
+-- whether a slice of a context has the wrong length, for so many identifiers and room for so many interned effects
+-- at least as many records as are in use, and as the instruction can need; what can be written at any number is there for all numbers
+unfoldable pub context_wrong : ℕ → ℕ → ContextWords → Bool
+context_wrong identifiers room c =
+    table_wrong Layout.identifiers identifiers (length c.identifiers)
+    || (table_wrong Layout.functions (at_most 64 c.function_count) (length c.functions)
+    || (table_wrong Layout.contexts (at_most 64 c.function_count) (length c.contexts)
+    || (table_wrong Layout.links 512 (length c.links)
+    || (table_wrong Layout.cached 512 (length c.keys)
+    || (table_wrong Layout.key_order 512 (length c.key_order)
+    || (table_wrong Layout.interned room (length c.effects)
+    || (table_wrong Layout.effect_order room (length c.effect_order) || not (eqb (length c.diagnostics) Layout.diagnostics))))))))
 
--- whether a lent list has the wrong length: context, candidates, output list and scratch, by their lengths and that of the sets
+-- whether a lent list has the wrong length: context, candidates, output list and scratch
 -- "The output list has 1,120 records", 98 words each
-unfoldable pub lengths_wrong : ℕ → Bool → ℕ → ℕ → ℕ → ℕ → Bool
-lengths_wrong sets context candidates output scratch64 scratch32 =
-    context
-    || (not (eqb (candidates % Layout.effect_words) 0) || (not (eqb output Layout.output_words) || (not (eqb scratch32 Layout.saved_words) || not (eqb scratch64 (1024 + sets)))))
+unfoldable pub lengths_wrong : Call → Bool
+lengths_wrong c =
+    context_wrong (identifiers c.sets) (room_for c.context c.candidates) c.context
+    || (not (eqb (length c.candidates % Layout.effect_words) 0)
+    || (not (eqb (length c.output) Layout.output_words)
+    || (not (eqb (length c.scratch32) (saved_words (lengths_of c.context))) || not (eqb (length c.scratch64) (1024 + length c.sets)))))
 
 -- the lowest class that anything lent earns, or 0
 -- "Order 1 to 5 over the whole input"
 unfoldable pub call_class : Call → ℕ
 call_class c =
-    lower (earns 1 (lengths_wrong (length c.sets) (wrong_context c.context c.candidates) (length c.candidates) (length c.output) (length c.scratch64) (length c.scratch32)))
+    lower (earns 1 (lengths_wrong c))
     (lower (state_refusal c.values c.sets c.session.next c.session.access)
-    (lower (context_class (identifiers c.sets) (get_or c.context Layout.function_count 0) c.context c.session.next)
-    (instruction_class (identifiers c.sets) (get_or c.context Layout.function_count 0) c.context c.candidates (candidate_count c.candidates) c.lvalue c.own)))
+    (lower (context_class (identifiers c.sets) c.context c.session.next)
+    (instruction_class (identifiers c.sets) c.context.function_count c.context c.candidates (candidate_count c.candidates) c.lvalue c.own)))
 
 -- ---- what comes of a call
 

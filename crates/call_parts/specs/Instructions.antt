@@ -5,6 +5,7 @@ use Rattle.def_transfer.specs.Instruction.{Instruction, own_of}
 use Rattle.lent_tables.specs.Words.{field, copied_words}
 use Rattle.lent_effects.specs.Records.{counted_places}
 use Rattle.lent_layout.specs.Layout as Layout
+use Rattle.lent_layout.specs.Context.{ContextWords}
 use Rattle.lent_context.specs.Lent.{effects_in}
 use Rattle.lent_layout.specs.Layout.{candidate_table, inside_run}
 
@@ -19,5 +20,5 @@ inside_places ws = counted_places inside_run ws 0 0
 
 -- the count, then all 160 words of the places that a function mutates inside
 -- a slice as the places of a run stand in; the context changes while they are gone through
-unfoldable pub copied_inside : List ℕ → ℕ → List ℕ → List ℕ
-copied_inside c f ws = copied_words Layout.functions c f 3 160 (set ws 0 (field Layout.functions c f 2)) 1
+unfoldable pub copied_inside : ContextWords → ℕ → List ℕ → List ℕ
+copied_inside c f ws = copied_words Layout.functions c.functions f 3 160 (set ws 0 (field Layout.functions c.functions f 2)) 1

@@ -10,11 +10,12 @@ ghost use Rattle.def_transfer.specs.State as State;
 ghost use Rattle.lent_context.specs.Lent as Lent;
 ghost use Rattle.lent_world.specs.Promise.{seen, Kept};
 ghost use Rattle.call_parts.specs.Instructions.{copied_inside};
+ghost use Rattle.lent_layout.specs.Context.{held};
 
 use def_kinds::DEFAULT;
 use lent_context::context_count;
 use lent_functions::{context_identifier, inside_count};
-use lent_layout::FUNCTIONS;
+use lent_layout::{Context, FUNCTIONS};
 use lent_sets::is_defined;
 use lent_slices::set;
 use lent_values::put_value;
@@ -23,8 +24,8 @@ use state_assign::define_own;
 
 // Whether an identifier is among the context places of a function.
 // A place that is mutated inside counts only if it comes from outside.
-pub fn is_near(context: &[u32], f: u32, i: u32) -> bool
-    ensures { result ≡ Instruction.has i (identifiers (Lent.context_of context.now f)) }
+pub fn is_near(context: &Context, f: u32, i: u32) -> bool
+    ensures { result ≡ Instruction.has i (identifiers (Lent.context_of (held context.now) f)) }
 {
     (0..context_count(context, f)).any(|k| i == context_identifier(context, f, k))
 }
@@ -32,11 +33,11 @@ pub fn is_near(context: &[u32], f: u32, i: u32) -> bool
 // The places that a function mutates inside are copied to a slice of 161 words: the count, then the places.
 // The context changes while they are gone through.
 #[tactic(auto, unfolding(crate::specs::Instructions::copied_inside))]
-pub fn copy_inside(context: &[u32], f: u32, out: &mut [u32])
-    ensures { out.new ≡ copied_inside context.now f out.old }
+pub fn copy_inside(context: &Context, f: u32, out: &mut [u32])
+    ensures { out.new ≡ copied_inside (held context.now) f out.old }
 {
     set(out, 0, inside_count(context, f));
-    FUNCTIONS.copy_words(context, f as usize, 3, 160, out, 1);
+    FUNCTIONS.copy_words(context.functions, f as usize, 3, 160, out, 1);
 }
 
 // An lvalue that is not defined becomes defined as its own value, Mutable {Other}.

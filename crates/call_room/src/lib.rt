@@ -57,11 +57,11 @@ fn capped(total: u32, more: u64) -> u32
 }
 
 // For how many interned effects the context has to have room.
-pub fn room_for(context: &[u32], candidates: &[u32]) -> u32
-    ensures { result ≡ room_for context.now candidates.now }
+pub fn room_for(context: &Context, candidates: &[u32]) -> u32
+    ensures { result ≡ room_for (held context.now) candidates.now }
 {
     let n = candidates.len() / EFFECT_WORDS;
-    let mut total = capped(interned_count(context), 0);
+    let mut total = capped(context.effect_count, 0);
     for k in 0..n {
         total = capped(total, need_of(candidates, k));
     }
@@ -70,8 +70,8 @@ pub fn room_for(context: &[u32], candidates: &[u32]) -> u32
 
 // Whether a context has the wrong length, by the room that it has to have.
 #[tactic(auto, unfolding(call_outcome::specs::Calls::context_wrong))]
-pub fn context_wrong(context: &[u32], room: u32) -> bool
-    ensures { result ≡ context_wrong room (length context.now) }
+pub fn context_wrong(context: &Context, room: u32) -> bool
+    ensures { result ≡ context_wrong room (length (held context.now)) }
 {
     let least = EFFECTS_FROM + (room as usize) * EFFECT_WORDS;
     context.len() < least

@@ -26,8 +26,8 @@ pub fn restore_state(values: &mut [u64], sets: &mut [u64], n: u32, scratch: &[u6
 
 // Interned effects from record `from` to before record `to` become zero.
 // So those that a refused instruction appended go.
-pub fn forget_effects(context: &mut [u32], from: u32, to: u32)
-    ensures { context.new ≡ forgotten from to context.old }
+pub fn forget_effects(context: &mut Context, from: u32, to: u32)
+    ensures { held context.new ≡ forgotten from to (held context.old) }
 {
     if to <= from {
         return;
@@ -41,11 +41,11 @@ pub fn forget_effects(context: &mut [u32], from: u32, to: u32)
 
 // A context is put back: the effects appended since go, and the words that were saved return.
 // "After a refusal .. context .. are as before."
-pub fn restore_context(context: &mut [u32], scratch: &[u32])
-    ensures { context.new ≡ restored_context scratch.now context.old }
+pub fn restore_context(context: &mut Context, scratch: &[u32])
+    ensures { held context.new ≡ restored_context scratch.now (held context.old) }
 {
     let before = get_or(scratch, 0, 0);
-    let after = interned_count(context);
+    let after = context.effect_count;
     forget_effects(context, before, after);
     let at = INTERNED_COUNT as u32;
     copy(scratch, 0, context, at, SAVED_WORDS as u32, 0);

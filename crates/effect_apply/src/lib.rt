@@ -11,6 +11,7 @@ ghost use Rattle.effect_intern.specs.Interning.{chosen};
 ghost use Rattle.effect_acts.specs.Acts as Acts;
 ghost use Rattle.effect_flow.specs.Flows.{flows};
 ghost use Rattle.lent_world.specs.Promise.{Kept, Does};
+ghost use Rattle.lent_layout.specs.Context.{held};
 
 use def_effects::{MutateVariant, Place};
 use def_refusals::{Refusal, Verdict};
@@ -175,7 +176,7 @@ pub fn creating_chosen(
 ) -> Verdict
     ensures kept { Kept world.old world.new }
     ensures does { Does (Step.creating_function (Step.apply_effect depth)
-        (chosen world.old.context.now found (captures_of captures.now)) function into)
+        (chosen (held world.old.context.now) found (captures_of captures.now)) function into)
         world.old world.new result }
 {
     let mut taken = [0u32; RUN_WORDS];

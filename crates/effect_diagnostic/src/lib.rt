@@ -4,21 +4,20 @@
 ghost use Rattle.std.specs.Prelude.{◌≡◌};
 ghost use Rattle.def_transfer.specs.Context as Context;
 ghost use Rattle.lent_context.specs.Lent as Lent;
+ghost use Rattle.lent_layout.specs.Context.{held};
 ghost use Rattle.lent_world.specs.Promise.{seen, Kept, comes, Does, Unwritten};
 
 use def_effects::{AliasingDiagnostic, Diagnostic};
 use def_refusals::Refusal;
-use lent_diagnostics::{
-    Numbered, find_identity, find_instance, identity_count, instance_count, put_diagnostic,
-};
-use lent_layout::DIAGNOSTIC_COUNT;
+use lent_diagnostics::{find_identity, find_instance, identity_count};
+use lent_layout::Numbered;
 use lent_slices::set;
 use lent_world::World;
 
 // The identity of an equal message, or the next one; 10 refuses the 257th.
 // Nothing is written: an identity stands in the records that have it.
 pub fn identity_for(world: &World, d: Diagnostic) -> Result<u32, Refusal>
-    ensures { Context.new_identity (Lent.find_identity world.now.context.now d) (seen world.now)
+    ensures { Context.new_identity (Lent.find_identity (held world.now.context.now) d) (seen world.now)
         ≡ comes result (seen world.now) }
 {
     if let Some(n) = find_identity(world.context, d) {
@@ -37,19 +36,19 @@ pub fn instance_for(world: &mut World, x: Numbered) -> Result<u32, Refusal>
     ensures unwritten { Unwritten world.old world.new }
     ensures does { Does
         (Context.new_instance x.identity x.diagnostic
-        (Lent.find_instance world.old.context.now x.identity x.diagnostic))
+        (Lent.find_instance (held world.old.context.now) x.identity x.diagnostic))
         world.old world.new result }
 {
     let context = &mut *world.context;
     if let Some(n) = find_instance(context, x) {
         return Ok(n);
     }
-    let n = instance_count(context);
+    let n = context.diagnostic_count;
     if n >= 256 {
         return Err(Refusal::Diagnostics);
     }
-    put_diagnostic(context, n, x);
-    set(context, DIAGNOSTIC_COUNT, n + 1);
+    set(context.diagnostics, n as usize, x);
+    context.diagnostic_count = n + 1;
     Ok(n)
 }
 

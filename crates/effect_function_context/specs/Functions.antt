@@ -10,11 +10,12 @@ use Rattle.lent_values.specs.Cells.{value_at}
 use Rattle.lent_sets.specs.Rows.{set_at}
 use Rattle.lent_tables.specs.Words.{field, copied_words}
 use Rattle.lent_layout.specs.Layout as Layout
+use Rattle.lent_layout.specs.Context.{ContextWords}
 
 -- the count, then all eighty words
 -- the places change while they are gone through
-unfoldable pub copied_context : List ℕ → ℕ → List ℕ → List ℕ
-copied_context c f ws = copied_words Layout.contexts c f 0 80 (set ws 0 (field Layout.functions c f 1)) 1
+unfoldable pub copied_context : ContextWords → ℕ → List ℕ → List ℕ
+copied_context c f ws = copied_words Layout.contexts c.contexts f 0 80 (set ws 0 (field Layout.functions c.functions f 1)) 1
 
 -- the kind of a place by what is lent
 abbrev pub lent_kind : List ℕ → List ℕ → ℕ → ValueKind

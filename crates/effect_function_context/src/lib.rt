@@ -8,11 +8,12 @@ ghost use Rattle.lent_context.specs.Lent as Lent;
 ghost use Rattle.lent_effects.specs.Records.{captures_of};
 ghost use Rattle.lent_world.specs.Promise.{seen, Kept};
 ghost use Rattle.effect_function_context.specs.Functions.{copied_context, becomes_read};
+ghost use Rattle.lent_layout.specs.Context.{held};
 
 use def_effects::Place;
 use lent_context::{context_count, is_ref, make_read};
 use lent_functions::context_identifier;
-use lent_layout::{CONTEXTS, ONE_RUN, RUN_WORDS};
+use lent_layout::{CONTEXTS, Context, ONE_RUN, RUN_WORDS};
 use lent_sets::is_defined;
 use lent_slices::set;
 use lent_world::World;
@@ -20,7 +21,7 @@ use state_ops::kind_of;
 
 // Whether any context place of a function is a ref.
 pub fn any_ref(world: &World, f: u32) -> bool
-    ensures { Step.any_ref (Lent.context_of world.now.context.now f) (seen world.now).rest ≡ result }
+    ensures { Step.any_ref (Lent.context_of (held world.now.context.now) f) (seen world.now).rest ≡ result }
 {
     (0..context_count(world.context, f)).any(|k| is_ref(
         world.context,
@@ -31,11 +32,11 @@ pub fn any_ref(world: &World, f: u32) -> bool
 // The context places of a function are copied to a slice of 81 words: the count, then the places.
 // They change while they are gone through, and what is gone through is what they were.
 #[tactic(auto, unfolding(crate::specs::Functions::copied_context))]
-pub fn copy_context(context: &[u32], f: u32, out: &mut [u32])
-    ensures { out.new ≡ copied_context context.now f out.old }
+pub fn copy_context(context: &Context, f: u32, out: &mut [u32])
+    ensures { out.new ≡ copied_context (held context.now) f out.old }
 {
     set(out, 0, context_count(context, f));
-    CONTEXTS.copy_words(context, f as usize, 0, 80, out, 1);
+    CONTEXTS.copy_words(context.contexts, f as usize, 0, 80, out, 1);
 }
 
 // Whether a context place becomes Read: it is a Capture of a place that is defined and Primitive, Frozen or Global.
@@ -77,7 +78,7 @@ pub fn update_places(world: &mut World, f: u32, places: &[u32])
 // What is gone through are the places as they were before.
 pub fn update_context(world: &mut World, f: u32)
     ensures kept { Kept world.old world.new }
-    ensures does { each (Lent.context_of world.old.context.now f) (Step.update_context f) (seen world.old)
+    ensures does { each (Lent.context_of (held world.old.context.now) f) (Step.update_context f) (seen world.old)
         ≡ ok tt (seen world.new) }
 {
     let mut places = [0u32; RUN_WORDS];

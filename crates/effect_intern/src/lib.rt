@@ -9,6 +9,7 @@ ghost use Rattle.def_transfer.specs.Context.{diagnostic_of, refreshed};
 ghost use Rattle.def_transfer.specs.Monad.{ok};
 ghost use Rattle.laws_monad.specs.Answers.{answers};
 ghost use Rattle.lent_effects.specs.Records.{effect_with, captures_of};
+ghost use Rattle.lent_layout.specs.Context.{held};
 ghost use Rattle.lent_world.specs.Promise.{seen, Kept};
 ghost use Rattle.effect_intern.specs.Interning.{chosen};
 
@@ -19,11 +20,9 @@ use lent_effect_write::put_effect;
 use lent_effects::AliasingEffect;
 use lent_key_of::key_of;
 use lent_keys::WholeKey;
-use lent_layout::{EFFECT_ORDER, INTERNED, INTERNED_COUNT};
-use lent_links::interned_count;
+use lent_layout::{EFFECT_ORDER, INTERNED};
 use lent_order::{insert, order_at};
 use lent_search::find_effect;
-use lent_slices::set;
 use lent_world::World;
 
 // The effect that stands for another from now on: its place in the table if it was there before, and the effect.
@@ -79,28 +78,28 @@ pub fn intern_effect(
     ensures kept { Kept world.old world.new }
     ensures does { Context.intern_effect (effect_with e (captures_of captures.now)) (seen world.old)
         ≡ answers result
-        (λ a. ok (effect_with a.effect (chosen world.new.context.now a.found (captures_of captures.now)))
+        (λ a. ok (effect_with a.effect (chosen (held world.new.context.now) a.found (captures_of captures.now)))
         (seen world.new))
         (seen world.new) }
 {
     let context = &mut *world.context;
     match find_effect(context, WholeKey::new(key_of(e), captures)) {
         Ok(j) => {
-            let k = order_at(EFFECT_ORDER, context, j);
-            let x = effect_in(INTERNED, context, k as usize);
+            let k = order_at(EFFECT_ORDER, context.effect_order, j);
+            let x = effect_in(INTERNED, context.effects, k as usize);
             Ok(Interned {
                 found: Some(k),
                 effect: refresh(e, x),
             })
         }
         Err(p) => {
-            let n = interned_count(context);
+            let n = context.effect_count;
             if n >= 2048 {
                 return Err(Refusal::Interned);
             }
-            put_effect(INTERNED, context, n as usize, e, captures);
-            insert(EFFECT_ORDER, context, n, p, n);
-            set(context, INTERNED_COUNT, n + 1);
+            put_effect(INTERNED, context.effects, n as usize, e, captures);
+            insert(EFFECT_ORDER, context.effect_order, n, p, n);
+            context.effect_count = n + 1;
             Ok(Interned {
                 found: None,
                 effect: e,

@@ -41,7 +41,7 @@ pub fn value_from(world: &World, i: u32, from: u32) -> Option<u32>
 
 // The identifier of a context place of a function.
 fn entered_place(world: &World, f: u32, k: u32) -> u32
-    ensures { result ≡ Words.field Layout.contexts world.now.context.now f (k * 5) }
+    ensures { result ≡ Words.field Layout.contexts world.now.context.now.contexts.now f (k * 5) }
 {
     context_identifier(world.context, f, k)
 }

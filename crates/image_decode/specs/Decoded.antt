@@ -1,5 +1,5 @@
 -- The lent tables of an accepted image: what each record of it writes, one after the other. Assumes nothing: these are definitions.
-use Rattle.std.specs.Prelude.{ℕ, zero, suc, List, [], ◌∷◌, get_or, set}
+use Rattle.std.specs.Prelude.{ℕ, zero, suc, List, [], ◌∷◌, get_or}
 use Rattle.base_sets.specs.Members.{union, bits_of}
 use Rattle.def_kinds.specs.Kinds.{kind_at}
 use Rattle.def_kinds.specs.Values.{mk}
@@ -10,6 +10,7 @@ use Rattle.lent_tables.specs.Words.{put_field, put_places}
 use Rattle.lent_effects.specs.declared.AliasingEffect.{AliasingEffect as Head}
 use Rattle.lent_effects.specs.Records.{put_effect}
 use Rattle.lent_layout.specs.Layout as Lent
+use Rattle.lent_layout.specs.Context.{ContextWords}
 use Rattle.def_image.specs.Layout.{Image, options, identifiers, functions, count_of, identifier_flags, identifier_name, access_start, access_end, value_number, value_kind, value_reasons, pair_identifier, pair_value, function_flags, context_first, context_count, inside_first, inside_count, code, first_place, second_place, detail, reason, function}
 use Rattle.def_image.specs.Decode.{member_of, place_at, places_from, effect_at}
 use Rattle.lent_layout.specs.Layout.{candidate_table}
@@ -63,29 +64,42 @@ module _ (im : Image) where
   decoded_counts k c =
       put_field Lent.functions (put_field Lent.functions (put_field Lent.functions c k 0 (function_flags im k)) k 1 (context_count im k)) k 2 (inside_count im k)
 
-  -- function k: flags and counts, the places mutated inside, the context places
-  -- "each function has its own copy of its context places"
+  -- function k: flags and counts, and the places mutated inside
   unfoldable pub decoded_function : ℕ → List ℕ → List ℕ
-  decoded_function k c =
-      put_places Lent.contexts
-      (put_places Lent.functions (decoded_counts k c) k 3 0 (places_from im (inside_first im k) (inside_count im k)))
-      k
-      0
-      0
-      (places_from im (context_first im k) (context_count im k))
+  decoded_function k c = put_places Lent.functions (decoded_counts k c) k 3 0 (places_from im (inside_first im k) (inside_count im k))
 
   -- the first n functions
   unfoldable pub decoded_functions : ℕ → List ℕ → List ℕ
   decoded_functions n c = after decoded_function n c
 
-  -- options and the counts of identifiers and of functions
-  unfoldable pub decoded_header : List ℕ → List ℕ
-  decoded_header c = set (set (set c Lent.options (options im)) Lent.identifier_count (count_of im identifiers)) Lent.function_count (count_of im functions)
+  -- the context places of function k
+  -- "each function has its own copy of its context places"
+  unfoldable pub decoded_places : ℕ → List ℕ → List ℕ
+  decoded_places k c = put_places Lent.contexts c k 0 0 (places_from im (context_first im k) (context_count im k))
+
+  -- those of the first n functions
+  unfoldable pub decoded_contexts : ℕ → List ℕ → List ℕ
+  decoded_contexts n c = after decoded_places n c
 
   -- all that an image says of a context
   -- "Interned effects, cached numbers, links and diagnostics start empty"
-  unfoldable pub decoded_context : List ℕ → List ℕ
-  decoded_context c = decoded_functions (count_of im functions) (decoded_identifiers (count_of im identifiers) (decoded_header c))
+  unfoldable pub decoded_context : ContextWords → ContextWords
+  decoded_context c = record {
+    options = options im;
+    function_count = count_of im functions;
+    effect_count = c.effect_count;
+    key_count = c.key_count;
+    diagnostic_count = c.diagnostic_count;
+    identifiers = decoded_identifiers (count_of im identifiers) c.identifiers;
+    functions = decoded_functions (count_of im functions) c.functions;
+    contexts = decoded_contexts (count_of im functions) c.contexts;
+    links = c.links;
+    keys = c.keys;
+    key_order = c.key_order;
+    effects = c.effects;
+    effect_order = c.effect_order;
+    diagnostics = c.diagnostics;
+  }
 
   -- ---- the candidates
 

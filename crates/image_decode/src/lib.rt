@@ -113,12 +113,11 @@ pub fn decode_sets(im: &[u32], sets: &mut [u64])
 // The four words of identifier k are put into a context.
 // "flags (1 ref, 2 hoisted), name 1..512 or 0, access start, end"
 #[tactic(auto, using(crate::proofs::Laws::Read::after_more), unfolding(crate::specs::Decoded::after, crate::specs::Decoded::decoded_identifier))]
-fn decode_identifier(im: &[u32], k: u32, context: &mut [u32])
-    ensures { context.new ≡ decoded_identifier im.now k context.old }
+fn decode_identifier(im: &[u32], k: u32, context: &mut Context)
+    ensures { held context.new ≡ decoded_identifier im.now k (held context.old) }
 {
     for j in 0..4 {
-        IDENTIFIERS.put_field(
-            context,
+        IDENTIFIERS.put_field(context.identifiers,
             k as usize,
             j as usize,
             cell(im, Section::Identifiers, k, j),
@@ -129,8 +128,8 @@ fn decode_identifier(im: &[u32], k: u32, context: &mut [u32])
 // All identifiers of the image are put into a context.
 // As many as the header says, one after the other.
 #[tactic(auto, using(crate::proofs::Laws::Read::after_more, crate::proofs::Laws::Read::after_none), unfolding(crate::specs::Decoded::decoded_identifiers))]
-fn decode_identifiers(im: &[u32], context: &mut [u32])
-    ensures { context.new ≡ decoded_identifiers im.now (count_of im.now Image.identifiers) context.old }
+fn decode_identifiers(im: &[u32], context: &mut Context)
+    ensures { held context.new ≡ decoded_identifiers im.now (count_of im.now Image.identifiers) (held context.old) }
 {
     for k in 0..count_of(im, Section::Identifiers) {
         decode_identifier(im, k, context);
@@ -150,20 +149,20 @@ pub fn put_run(t: Table, xs: &mut [u32], i: usize, w: u32, im: &[u32], first: u3
 // Flags and both counts of function k are put into a context.
 // The counts of context places and of places mutated inside.
 #[tactic(auto, unfolding(crate::specs::Decoded::decoded_counts))]
-fn decode_counts(im: &[u32], k: u32, context: &mut [u32])
-    ensures { context.new ≡ decoded_counts im.now k context.old }
+fn decode_counts(im: &[u32], k: u32, context: &mut Context)
+    ensures { held context.new ≡ decoded_counts im.now k (held context.old) }
 {
     let i = k as usize;
-    FUNCTIONS.put_field(context, i, 0, cell(im, Section::Functions, k, 0));
-    FUNCTIONS.put_field(context, i, 1, cell(im, Section::Functions, k, 2));
-    FUNCTIONS.put_field(context, i, 2, cell(im, Section::Functions, k, 4));
+    FUNCTIONS.put_field(context.functions, i, 0, cell(im, Section::Functions, k, 0));
+    FUNCTIONS.put_field(context.functions, i, 1, cell(im, Section::Functions, k, 2));
+    FUNCTIONS.put_field(context.functions, i, 2, cell(im, Section::Functions, k, 4));
 }
 
 // Function k is put into a context: flags and counts, the places mutated inside, the context places.
 // "each function has its own copy of its context places"
 #[tactic(auto, unfolding(crate::specs::Decoded::decoded_function))]
-fn decode_function(im: &[u32], k: u32, context: &mut [u32])
-    ensures { context.new ≡ decoded_function im.now k context.old }
+fn decode_function(im: &[u32], k: u32, context: &mut Context)
+    ensures { held context.new ≡ decoded_function im.now k (held context.old) }
 {
     let i = k as usize;
     let first_context = cell(im, Section::Functions, k, 1);
@@ -178,8 +177,8 @@ fn decode_function(im: &[u32], k: u32, context: &mut [u32])
 // All functions of the image are put into a context.
 // As many as the header says, one after the other.
 #[tactic(auto, using(crate::proofs::Laws::Read::after_more, crate::proofs::Laws::Read::after_none), unfolding(crate::specs::Decoded::decoded_functions))]
-fn decode_functions(im: &[u32], context: &mut [u32])
-    ensures { context.new ≡ decoded_functions im.now (count_of im.now Image.functions) context.old }
+fn decode_functions(im: &[u32], context: &mut Context)
+    ensures { held context.new ≡ decoded_functions im.now (count_of im.now Image.functions) (held context.old) }
 {
     for k in 0..count_of(im, Section::Functions) {
         decode_function(im, k, context);
@@ -188,8 +187,8 @@ fn decode_functions(im: &[u32], context: &mut [u32])
 
 // Options and both counts are put into a context.
 #[tactic(auto, unfolding(crate::specs::Decoded::decoded_header))]
-fn decode_header(im: &[u32], context: &mut [u32])
-    ensures { context.new ≡ decoded_header im.now context.old }
+fn decode_header(im: &[u32], context: &mut Context)
+    ensures { held context.new ≡ decoded_header im.now (held context.old) }
 {
     set(context, OPTIONS, word(im, 1));
     set(
@@ -203,8 +202,8 @@ fn decode_header(im: &[u32], context: &mut [u32])
 // All that the image says of a context is put into it.
 // "Interned effects, cached numbers, links and diagnostics start empty": the context was zero.
 #[tactic(auto, unfolding(crate::specs::Decoded::decoded_context))]
-pub fn decode_context(im: &[u32], context: &mut [u32])
-    ensures { context.new ≡ decoded_context im.now context.old }
+pub fn decode_context(im: &[u32], context: &mut Context)
+    ensures { held context.new ≡ decoded_context im.now (held context.old) }
 {
     decode_header(im, context);
     decode_identifiers(im, context);

@@ -19,14 +19,14 @@ fn run_image(
     words: &mut [u32],
     values: &mut [u64],
     sets: &mut [u64],
-    context: &mut [u32],
+    context: &mut Context,
     candidates: &mut [u32],
     output: &mut [u32],
     scratch64: &mut [u64],
     scratch32: &mut [u32],
 ) -> Result<Shown, Refusal>
     ensures { settled (left_by result values.new sets.new output.new)
-        ≡ leaves_for bytes.now words.old values.old sets.old context.old candidates.old output.old scratch64.old
+        ≡ leaves_for bytes.now words.old values.old sets.old (held context.old) candidates.old output.old scratch64.old
         scratch32.old }
 {
     if memory_wrong(output, scratch64, scratch32) {
@@ -46,20 +46,20 @@ pub fn infer_image(
     words: &mut [u32],
     values: &mut [u64],
     sets: &mut [u64],
-    context: &mut [u32],
+    context: &mut Context,
     candidates: &mut [u32],
     output: &mut [u32],
     scratch64: &mut [u64],
     scratch32: &mut [u32],
 ) -> Result<Shown, Refusal>
     ensures { (left_by result values.new sets.new output.new
-        ≡ leaves_for bytes.now words.old values.old sets.old context.old candidates.old output.old scratch64.old
+        ≡ leaves_for bytes.now words.old values.old sets.old (held context.old) candidates.old output.old scratch64.old
         scratch32.old)
         × (pieces_of (left_by result values.new sets.new output.new)
-        ≡ written_for bytes.now words.old values.old sets.old context.old candidates.old output.old scratch64.old
+        ≡ written_for bytes.now words.old values.old sets.old (held context.old) candidates.old output.old scratch64.old
         scratch32.old)
         × Cleared words.old words.new
-        × Cleared context.old context.new
+        × Cleared (held context.old) (held context.new)
         × Cleared candidates.old candidates.new
         × Cleared scratch64.old scratch64.new
         × Cleared scratch32.old scratch32.new

@@ -9,6 +9,7 @@ use Rattle.def_effects.specs.declared.Place.{Place}
 use Rattle.def_effects.specs.declared.Session.{Session}
 use Rattle.def_effects.specs.Places.{no_span}
 use Rattle.lent_layout.specs.Layout as Layout
+use Rattle.lent_layout.specs.Context.{ContextWords, is_full, emptied}
 use Rattle.def_image.specs.Layout.{Image, words_of, next, lvalue, own, identifiers, values, pairs, candidates, count_of}
 use Rattle.def_image.specs.Refusals.{refusal_of_words, refusal_of}
 use Rattle.def_image.specs.Decode.{span, place_at}
@@ -22,11 +23,11 @@ use Rattle.image_job.specs.declared.Job.{Job}
 pub record Tables : Type 0 where
   pub values : List ℕ
   pub sets : List ℕ
-  pub context : List ℕ
+  pub context : ContextWords
   pub candidates : List ℕ
 
 -- the same, in the order of the function's parameters
-abbrev pub tables : List ℕ → List ℕ → List ℕ → List ℕ → Tables
+abbrev pub tables : List ℕ → List ℕ → ContextWords → List ℕ → Tables
 tables vs ss cs xs = record { values = vs; sets = ss; context = cs; candidates = xs }
 
 -- what an image says beside its tables, or the number with which it is refused: the session to start with, lvalue and own function (+ 1, or 0),
@@ -46,7 +47,7 @@ pub record Read : Type 0 where
   pub tables : Tables
 
 -- the same, in the order of the function's parameters
-abbrev pub given : Said → List ℕ → List ℕ → List ℕ → List ℕ → Read
+abbrev pub given : Said → List ℕ → List ℕ → ContextWords → List ℕ → Read
 given j vs ss cs xs = record { job = j; tables = tables vs ss cs xs }
 
 -- ---- an accepted image
@@ -74,7 +75,7 @@ unfoldable pub filled : Image → Tables → Tables
 filled im t =
     tables (decoded_values im (count_of im values) (zeros (length t.values)))
     (decoded_sets im (count_of im pairs) (zeros (length t.sets)))
-    (decoded_context im (zeros (length t.context)))
+    (decoded_context im (emptied t.context))
     (decoded_candidates im (count_of im candidates) (zeros (length t.candidates)))
 
 -- ---- a refused one
@@ -115,18 +116,19 @@ refused_with n t = record { job = no_job n; tables = t }
 unfoldable pub read_words : Image → Tables → Read
 read_words im t = ite (eqb (refusal_of_words im) 0) (record { job = job_of im; tables = filled im t }) (refused_with (refusal_of_words im) t)
 
--- whether a lent list has the wrong length: scratch for 16,384 words, 1,024 values, 512 rows of 16 words, a context, 64 records of 98 words
+-- whether a lent list has the wrong length: scratch for 16,384 words, 1,024 values, 512 rows of 16 words, a context with room for all,
+-- 64 records of 98 words
 -- "1 a lent slice or image has the wrong length"
-unfoldable pub lent_wrong : ℕ → ℕ → ℕ → ℕ → ℕ → Bool
-lent_wrong words values sets context candidates =
+unfoldable pub lent_wrong : ℕ → ℕ → ℕ → Bool → ℕ → Bool
+lent_wrong words values sets full candidates =
     not (eqb words 16384)
-    || (not (eqb values 1024) || (not (eqb sets 8192) || (not (eqb context Layout.long) || not (eqb candidates Layout.candidate_words))))
+    || (not (eqb values 1024) || (not (eqb sets 8192) || (not full || not (eqb candidates Layout.candidate_words))))
 
 -- the class that refuses the bytes of an image with all that is lent beside them, or 0
 -- a wrong length decides alone; then the image's own class
 unfoldable pub read_class : List ℕ → ℕ → Tables → ℕ
 read_class bytes words t =
-    ite (lent_wrong words (length t.values) (length t.sets) (length t.context) (length t.candidates)) 1 (refusal_of bytes)
+    ite (lent_wrong words (length t.values) (length t.sets) (is_full t.context) (length t.candidates)) 1 (refusal_of bytes)
 
 -- the bytes of an image, with scratch of so many words and tables lent
 -- accepted, its tables are those of its words; refused, nothing is changed

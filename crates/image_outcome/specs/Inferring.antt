@@ -4,6 +4,7 @@ use Rattle.std.specs.Prelude.{ℕ, ◌+◌, ◌-◌, ◌*◌, ◌≤◌, Bool, f
 use Rattle.base_tests.specs.Tests.{ite}
 use Rattle.lent_copies.specs.Copies.{zeros}
 use Rattle.lent_layout.specs.Layout as Layout
+use Rattle.lent_layout.specs.Context.{no_context}
 use Rattle.def_image.specs.Layout.{Image, words_of}
 use Rattle.def_image.specs.Refusals.{refusal_of}
 use Rattle.def_image.specs.Listing.{refusal_line}
@@ -16,7 +17,7 @@ use Rattle.image_pieces.specs.Pieces.{Answer, all_pieces}
 -- tables at their full size, and nothing in them
 -- 1,024 values, 512 rows of 16 words, a context, 64 records of 98 words
 abbrev pub empty : Tables
-empty = tables (zeros 1024) (zeros 8192) (zeros Layout.long) (zeros Layout.candidate_words)
+empty = tables (zeros 1024) (zeros 8192) no_context (zeros Layout.candidate_words)
 
 -- how many words the rows of an image's identifiers have
 -- 16 words each; the call is lent no more of them
@@ -33,7 +34,7 @@ candidate_words j = Layout.effect_words * j.candidates
 unfoldable pub job_call : Said → Tables → Call
 job_call j t =
     call t.values (take (set_words j) t.sets) false t.context j.session (take (candidate_words j) t.candidates) j.lvalue j.own
-    (zeros Layout.output_words) (zeros (1024 + set_words j)) (zeros Layout.saved_words)
+    (zeros Layout.output_words) (zeros (1024 + set_words j)) (zeros Layout.most_saved)
 
 -- the call that the words of an accepted image make
 -- "Interned effects, cached numbers, links and diagnostics start empty"
@@ -54,20 +55,20 @@ unfoldable pub inferred : List ℕ → List ℕ
 inferred bytes = ite (eqb (refusal_of bytes) 0) (shown (outcome (image_call (words_of bytes)))) (refusal_line (refusal_of bytes))
 
 -- whether the memory for the call has the wrong length: an output list of 1,120 records, scratch for a state of 512 identifiers
--- and for the words of a context that change
+-- and for the tables of a context that may be written into
 unfoldable pub memory_wrong : ℕ → ℕ → ℕ → Bool
-memory_wrong output scratch64 scratch32 = not (eqb output Layout.output_words) || (not (eqb scratch64 9216) || not (eqb scratch32 Layout.saved_words))
+memory_wrong output scratch64 scratch32 = not (eqb output Layout.output_words) || (not (eqb scratch64 9216) || not (eqb scratch32 Layout.most_saved))
 
 -- whether anything that is lent beside the bytes has the wrong length: words, tables, output list, scratch
-unfoldable pub any_wrong : ℕ → ℕ → ℕ → ℕ → ℕ → ℕ → ℕ → ℕ → Bool
-any_wrong words values sets context candidates output scratch64 scratch32 =
-    memory_wrong output scratch64 scratch32 || lent_wrong words values sets context candidates
+unfoldable pub any_wrong : ℕ → ℕ → ℕ → Bool → ℕ → ℕ → ℕ → ℕ → Bool
+any_wrong words values sets full candidates output scratch64 scratch32 =
+    memory_wrong output scratch64 scratch32 || lent_wrong words values sets full candidates
 
 -- the text that the bytes of an image come to, by the lengths of all that is lent beside them
 -- "1 a lent slice or image has the wrong length"
-unfoldable pub written : List ℕ → ℕ → ℕ → ℕ → ℕ → ℕ → ℕ → ℕ → ℕ → List ℕ
-written bytes words values sets context candidates output scratch64 scratch32 =
-    ite (any_wrong words values sets context candidates output scratch64 scratch32) (refusal_line 1) (inferred bytes)
+unfoldable pub written : List ℕ → ℕ → ℕ → ℕ → Bool → ℕ → ℕ → ℕ → ℕ → List ℕ
+written bytes words values sets full candidates output scratch64 scratch32 =
+    ite (any_wrong words values sets full candidates output scratch64 scratch32) (refusal_line 1) (inferred bytes)
 
 -- ---- what the pieces of that text are read from
 
@@ -108,9 +109,9 @@ nothing n values sets output = left (refused_as n) (zeros values) (zeros sets) (
 
 -- what the bytes of an image leave, by the lengths of all that is lent beside them
 -- "Order 1 to 5 over the whole input; then the first met as the steps run"
-unfoldable pub leaves : List ℕ → ℕ → ℕ → ℕ → ℕ → ℕ → ℕ → ℕ → ℕ → Left
-leaves bytes words values sets context candidates output scratch64 scratch32 =
-    ite (any_wrong words values sets context candidates output scratch64 scratch32) (nothing 1 values sets output)
+unfoldable pub leaves : List ℕ → ℕ → ℕ → ℕ → Bool → ℕ → ℕ → ℕ → ℕ → Left
+leaves bytes words values sets full candidates output scratch64 scratch32 =
+    ite (any_wrong words values sets full candidates output scratch64 scratch32) (nothing 1 values sets output)
     (ite (eqb (refusal_of bytes) 0) (settled (keeps sets (outcome (image_call (words_of bytes))))) (nothing (refusal_of bytes) values sets output))
 
 -- its pieces, one after the other

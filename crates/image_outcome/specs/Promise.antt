@@ -2,6 +2,7 @@
 use Rattle.std.specs.Prelude.{ℕ, ◌<◌, ◌≡◌, List, length, get_or, Result}
 use Rattle.def_refusals.specs.declared.Refusal.{Refusal}
 use Rattle.def_image.specs.Infer.{infer}
+use Rattle.lent_layout.specs.Context.{ContextWords, is_full}
 use Rattle.image_pieces.specs.declared.Shown.{Shown}
 use Rattle.image_pieces.specs.Pieces.{answer_of}
 use Rattle.image_outcome.specs.Inferring.{inferred, written, Left, left, leaves}
@@ -11,15 +12,15 @@ abbrev pub left_by : Result Shown Refusal → List ℕ → List ℕ → List ℕ
 left_by r values sets output = left (answer_of r) values sets output
 
 -- what the bytes of an image leave there, by the lengths of all that is lent beside them
-abbrev pub leaves_for : List ℕ → List ℕ → List ℕ → List ℕ → List ℕ → List ℕ → List ℕ → List ℕ → List ℕ → Left
+abbrev pub leaves_for : List ℕ → List ℕ → List ℕ → List ℕ → ContextWords → List ℕ → List ℕ → List ℕ → List ℕ → Left
 leaves_for bytes words values sets context candidates output scratch64 scratch32 =
-    leaves bytes (length words) (length values) (length sets) (length context) (length candidates)
+    leaves bytes (length words) (length values) (length sets) (is_full context) (length candidates)
     (length output) (length scratch64) (length scratch32)
 
 -- the text that the bytes of an image come to, by the same lengths
-abbrev pub written_for : List ℕ → List ℕ → List ℕ → List ℕ → List ℕ → List ℕ → List ℕ → List ℕ → List ℕ → List ℕ
+abbrev pub written_for : List ℕ → List ℕ → List ℕ → List ℕ → ContextWords → List ℕ → List ℕ → List ℕ → List ℕ → List ℕ
 written_for bytes words values sets context candidates output scratch64 scratch32 =
-    written bytes (length words) (length values) (length sets) (length context) (length candidates)
+    written bytes (length words) (length values) (length sets) (is_full context) (length candidates)
     (length output) (length scratch64) (length scratch32)
 
 -- what is inferred of bytes over lent tables is what the definition infers of them over plain ones, refusals included

@@ -34,8 +34,8 @@ fn fill_state(im: &[u32], values: &mut [u64], sets: &mut [u64])
 
 // The context of an image, in a slice that may hold anything.
 // "Interned effects, cached numbers, links and diagnostics start empty": it is cleared first.
-fn fill_context(im: &[u32], context: &mut [u32])
-    ensures { context.new ≡ decoded_context im.now (zeros (length context.old)) }
+fn fill_context(im: &[u32], context: &mut Context)
+    ensures { held context.new ≡ decoded_context im.now (zeros (length (held context.old))) }
 {
     context.fill(0);
     decode_context(im, context);
@@ -59,12 +59,12 @@ fn read_words(
     words: &mut [u32],
     values: &mut [u64],
     sets: &mut [u64],
-    context: &mut [u32],
+    context: &mut Context,
     candidates: &mut [u32],
 ) -> Result<Job, Refusal>
-    ensures { given (said_of result) values.new sets.new context.new candidates.new
+    ensures { given (said_of result) values.new sets.new (held context.new) candidates.new
         ≡ read_words (loaded bytes.now (length words.old))
-        (tables values.old sets.old context.old candidates.old) }
+        (tables values.old sets.old (held context.old) candidates.old) }
 {
     load_words(bytes, words);
     words_refusal(words)?;
@@ -81,12 +81,12 @@ fn lent_wrong(
     words: &[u32],
     values: &[u64],
     sets: &[u64],
-    context: &[u32],
+    context: &Context,
     candidates: &[u32],
 ) -> bool
     ensures { result
         ≡ lent_wrong (length words.now) (length values.now) (length sets.now)
-        (length context.now) (length candidates.now) }
+        (length (held context.now)) (length candidates.now) }
 {
     words.len() != 16384
         || values.len() != 1024
@@ -103,12 +103,12 @@ pub fn read_image(
     words: &mut [u32],
     values: &mut [u64],
     sets: &mut [u64],
-    context: &mut [u32],
+    context: &mut Context,
     candidates: &mut [u32],
 ) -> Result<Job, Refusal>
-    ensures { (given (said_of result) values.new sets.new context.new candidates.new
+    ensures { (given (said_of result) values.new sets.new (held context.new) candidates.new
         ≡ read_image bytes.now (length words.old)
-        (tables values.old sets.old context.old candidates.old))
+        (tables values.old sets.old (held context.old) candidates.old))
         × Cleared words.old words.new }
 {
     if lent_wrong(words, values, sets, context, candidates) || length_wrong(bytes) {

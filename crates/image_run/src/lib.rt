@@ -53,7 +53,7 @@ fn clear_from(xs: &mut [u64], m: usize)
 pub fn run_tables(
     values: &mut [u64],
     sets: &mut [u64],
-    context: &mut [u32],
+    context: &mut Context,
     candidates: &[u32],
     job: Job,
     output: &mut [u32],
@@ -67,7 +67,7 @@ pub fn run_tables(
         ≡ keeps (length sets.old)
         (outcome
         (job_call (said_of (Ok job))
-        (tables values.old sets.old context.old
+        (tables values.old sets.old (held context.old)
         candidates.now))) }
 {
     let m = 16 * job.identifiers as usize;
@@ -107,9 +107,9 @@ pub fn memory_wrong(output: &[u32], scratch64: &[u64], scratch32: &[u32]) -> boo
 
 // What was read of an image becomes zero.
 // The state stays: what is shown of it is read there.
-fn clear_read(words: &mut [u32], context: &mut [u32], candidates: &mut [u32])
+fn clear_read(words: &mut [u32], context: &mut Context, candidates: &mut [u32])
     ensures words { Cleared words.old words.new }
-    ensures context { Cleared context.old context.new }
+    ensures context { Cleared (held context.old) (held context.new) }
     ensures candidates { Cleared candidates.old candidates.new }
 {
     words.fill(0);
@@ -121,13 +121,13 @@ fn clear_read(words: &mut [u32], context: &mut [u32], candidates: &mut [u32])
 // "Scratch is zero after each call."
 pub fn clear_work(
     words: &mut [u32],
-    context: &mut [u32],
+    context: &mut Context,
     candidates: &mut [u32],
     scratch64: &mut [u64],
     scratch32: &mut [u32],
 )
     ensures words { Cleared words.old words.new }
-    ensures context { Cleared context.old context.new }
+    ensures context { Cleared (held context.old) (held context.new) }
     ensures candidates { Cleared candidates.old candidates.new }
     ensures scratch64 { Cleared scratch64.old scratch64.new }
     ensures scratch32 { Cleared scratch32.old scratch32.new }

@@ -1,94 +1,114 @@
-// Where everything stands in the lent words: every table of a context and of the slices beside it, how wide its records are, where it begins.
-// The definitions are in specs/Layout.antt, with the sentences of document 01; no other crate has a size or an offset of its own.
+// Where everything stands in what is lent: a slice for each table of a context, how wide its records are and how many there can be,
+// and the slices beside it. The definitions are in specs/, with the sentences of document 01; no other crate has a size of its own.
 #![tactic(auto)]
 
+use def_effects::{Diagnostic, Span};
 use lent_tables::Table;
 
-// ---- a context, one slice
+// ---- a context
 
-// Words of their own: the two options, how many identifiers and how many functions there are.
-pub const OPTIONS: usize = 0;
+// A diagnostic with its identity: a record of the table of diagnostics.
+#[derive(Clone, Copy)]
+pub struct Numbered {
+    pub identity: u32,
+    pub diagnostic: Diagnostic,
+}
 
-pub const IDENTIFIER_COUNT: usize = 1;
+// A record that is not in use.
+pub const UNUSED: Numbered = Numbered {
+    identity: 0,
+    diagnostic: Diagnostic {
+        identifier: 0,
+        case: 0,
+        sentence: 0,
+        name: 0,
+        access: Span { start: 0, end: 0 },
+        own: Span { start: 0, end: 0 },
+    },
+};
 
-pub const FUNCTION_COUNT: usize = 2;
+// A context as it is lent: a slice for each table, with as many records as there are or can be, and how many are in use.
+// An instruction only reads options, identifiers and functions; it writes context places, links, keys and both orders; effects and diagnostics
+// it appends.
+#[derive(Drop)]
+pub struct Context<'a> {
+    pub options: u32,
+    pub function_count: u32,
+    pub effect_count: u32,
+    pub key_count: u32,
+    pub diagnostic_count: u32,
+    pub identifiers: &'a mut [u32],
+    pub functions: &'a mut [u32],
+    pub contexts: &'a mut [u32],
+    pub links: &'a mut [u32],
+    pub keys: &'a mut [u32],
+    pub key_order: &'a mut [u32],
+    pub effects: &'a mut [u32],
+    pub effect_order: &'a mut [u32],
+    pub diagnostics: &'a mut [Numbered],
+}
 
 // Identifiers: flags, name, access start, end.
 pub const IDENTIFIERS: Table = Table {
-    base: 3,
+    base: 0,
     count: 512,
     width: 4,
 };
 
 // Functions: flags, count of context places, count of places mutated inside, 32 such places.
 pub const FUNCTIONS: Table = Table {
-    base: 2051,
+    base: 0,
     count: 64,
     width: 163,
 };
 
-// How many interned effects and how many diagnostics there are.
-pub const INTERNED_COUNT: usize = 12483;
-
-pub const DIAGNOSTIC_COUNT: usize = 12484;
-
 // The context places of each function, sixteen of five words.
 pub const CONTEXTS: Table = Table {
-    base: 12485,
+    base: 0,
     count: 64,
     width: 80,
 };
 
 // The function of each fresh number: 0, or 1 and the function.
 pub const LINKS: Table = Table {
-    base: 17605,
+    base: 0,
     count: 512,
     width: 2,
 };
 
 // The key under which each fresh number was handed out.
 pub const CACHED: Table = Table {
-    base: 18629,
+    base: 0,
     count: 512,
     width: 28,
 };
 
-// Diagnostics: identity, identifier, message case, sentence, name, access span, own span.
-pub const DIAGNOSTICS: Table = Table {
-    base: 32965,
-    count: 256,
-    width: 9,
-};
-
-// The order of the interned effects: word j is the record that comes j-th by its key.
-pub const EFFECT_ORDER: Table = Table {
-    base: 35269,
-    count: 2048,
-    width: 1,
-};
-
-// How many fresh numbers have a key, and the order of the keys: word j is the number whose key comes j-th.
-pub const KEY_COUNT: usize = 37317;
-
+// The order of the cached keys: word j is the number whose key comes j-th.
 pub const KEY_ORDER: Table = Table {
-    base: 37318,
+    base: 0,
     count: 512,
     width: 1,
 };
 
-// Interned effects, the last table.
+// Interned effects.
 pub const INTERNED: Table = Table {
-    base: 37830,
+    base: 0,
     count: 2048,
     width: 98,
 };
 
-// How many words a context has, and how many of them are saved: those from the count of interned effects up to the effects themselves.
-pub const CONTEXT_WORDS: usize = 238534;
+// The order of the interned effects: word j is the record that comes j-th by its key.
+pub const EFFECT_ORDER: Table = Table {
+    base: 0,
+    count: 2048,
+    width: 1,
+};
 
-pub const SAVED_WORDS: usize = 25347;
+// How many words the tables have, of a context with room for all, that an instruction may write into: context places, links, keys, both orders.
+pub const MOST_SAVED: usize = 23040;
 
-pub const EFFECTS_FROM: usize = 37830;
+// How many diagnostics there can be.
+pub const DIAGNOSTICS: usize = 256;
 
 // ---- effects in slices of their own
 

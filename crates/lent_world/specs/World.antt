@@ -16,6 +16,7 @@ use Rattle.lent_context.specs.Lent as Lent
 -- one more entry, as long as a word of 32 bits can count it: no instruction makes more than 4,096 for each candidate (crate `laws_counts`)
 unfoldable pub use Rattle.lent_context.specs.Lent.{one_more}
 use Rattle.lent_layout.specs.Layout.{output, output_words}
+use Rattle.lent_layout.specs.Context.{ContextWords}
 
 -- the effects listed so far: the words of the output list, and how many effects they hold
 -- an effect is listed as the record after the last
@@ -28,7 +29,7 @@ pub record Listed : Type 0 where
 unfoldable pub put_listed : Listed → AliasingEffect → Listed
 put_listed l e = ite (ltb l.count 4294967295) (record { words = put_effect output l.words l.count e; count = suc l.count }) l
 
--- the lent tables: a word for each value, a row for each identifier, one list of words for the context, the output list;
+-- the lent tables: a word for each value, a row for each identifier, a list for each table of the context, the output list;
 -- the places initialized in the instruction go by value
 abbrev pub lent : Tables
 lent = record {
@@ -38,7 +39,7 @@ lent = record {
   Sets = List ℕ;
   set_of = set_at;
   put_set = put_set;
-  Context = List ℕ;
+  Context = ContextWords;
   interned_count = Lent.interned_count;
   find_effect = Lent.find_effect;
   add_effect = Lent.add_effect;
@@ -74,7 +75,7 @@ lent = record {
 
 -- the world of what a function is lent: values, sets, context and output list, and what goes by value
 -- contracts speak of it at a function's entry and at its exit
-abbrev pub world : List ℕ → List ℕ → List ℕ → List ℕ → Run → World lent
+abbrev pub world : List ℕ → List ℕ → ContextWords → List ℕ → Run → World lent
 world vs ss cs os r = record {
   state = record { values = vs; sets = ss; is_function_expression = r.flag };
   rest = record {

@@ -27,23 +27,23 @@ use refuse_words::{stray_after, word_class};
 // ---- the tables: the records in use, and the words after them
 
 // What the identifiers earn.
-fn identifiers_class(context: &[u32], identifiers: u32) -> Verdict
-    ensures { class_of result ≡ identifiers_class identifiers context.now }
+fn identifiers_class(context: &Context, identifiers: u32) -> Verdict
+    ensures { class_of result ≡ identifiers_class identifiers (held context.now) }
 {
     let n = identifiers as usize;
     let records = identifier_records(context, n);
-    lower(records, stray_after(IDENTIFIERS, context, n))
+    lower(records, stray_after(IDENTIFIERS, context.identifiers, n))
 }
 
 // What the functions with their context places earn.
 // Two tables of one number of records.
-fn functions_class(context: &[u32], counts: Counts) -> Verdict
-    ensures { class_of result ≡ functions_class counts.identifiers counts.functions context.now }
+fn functions_class(context: &Context, counts: Counts) -> Verdict
+    ensures { class_of result ≡ functions_class counts.identifiers counts.functions (held context.now) }
 {
     let n = counts.functions as usize;
     let records = function_records(context, n, counts.identifiers);
-    let after = stray_after(FUNCTIONS, context, n);
-    lower(records, lower(after, stray_after(CONTEXTS, context, n)))
+    let after = stray_after(FUNCTIONS, context.functions, n);
+    lower(records, lower(after, stray_after(CONTEXTS, context.contexts, n)))
 }
 
 // How many fresh numbers there are below next.
@@ -56,42 +56,42 @@ fn handed_out(next: u32) -> u32
 
 // What the links of numbers below next earn.
 // A link of another number is a word without use.
-fn links_class(context: &[u32], functions: u32, next: u32) -> Verdict
-    ensures { class_of result ≡ links_class functions context.now next }
+fn links_class(context: &Context, functions: u32, next: u32) -> Verdict
+    ensures { class_of result ≡ links_class functions (held context.now) next }
 {
     let n = handed_out(next) as usize;
     let records = link_records(context, n, functions);
-    lower(records, stray_after(LINKS, context, n))
+    lower(records, stray_after(LINKS, context.links, n))
 }
 
 // What the keys of numbers below next earn, and their order.
 // A key of another number is a word without use.
-fn keys_class(context: &[u32], counts: Counts, next: u32) -> Verdict
-    ensures { class_of result ≡ keys_class counts.identifiers counts.functions context.now next }
+fn keys_class(context: &Context, counts: Counts, next: u32) -> Verdict
+    ensures { class_of result ≡ keys_class counts.identifiers counts.functions (held context.now) next }
 {
     let m = handed_out(next);
     let n = m as usize;
     let records = key_records(context, n, counts);
-    let after = stray_after(CACHED, context, n);
+    let after = stray_after(CACHED, context.keys, n);
     lower(records, lower(after, key_order_class(context, m)))
 }
 
 // What the diagnostics earn.
-fn diagnostics_class(context: &[u32], identifiers: u32) -> Verdict
-    ensures { class_of result ≡ diagnostics_class identifiers context.now }
+fn diagnostics_class(context: &Context, identifiers: u32) -> Verdict
+    ensures { class_of result ≡ diagnostics_class identifiers (held context.now) }
 {
-    let n = instance_count(context);
+    let n = context.diagnostic_count;
     let records = diagnostic_records(context, n, identifiers);
     lower(records, stray_after(DIAGNOSTICS, context, n as usize))
 }
 
 // What the interned effects and their order earn.
-fn effects_class(context: &[u32], counts: Counts) -> Verdict
-    ensures { class_of result ≡ effects_class counts.identifiers counts.functions context.now }
+fn effects_class(context: &Context, counts: Counts) -> Verdict
+    ensures { class_of result ≡ effects_class counts.identifiers counts.functions (held context.now) }
 {
-    let n = interned_count(context) as usize;
+    let n = context.effect_count as usize;
     let records = effect_records(context, n, counts);
-    let after = stray_after(INTERNED, context, n);
+    let after = stray_after(INTERNED, context.effects, n);
     lower(records, lower(after, order_class(context)))
 }
 
@@ -100,21 +100,21 @@ fn effects_class(context: &[u32], counts: Counts) -> Verdict
 // Whether a count is above its limit, or is not what the call says.
 // 512 identifiers at most are the state's own limit; 64 functions, 2,048 interned effects, 256 diagnostics, 511 cached keys.
 #[tactic(auto, unfolding(refuse_records::specs::Accepting::counts_wrong))]
-fn counts_wrong(context: &[u32], counts: Counts) -> bool
-    ensures { result ≡ counts_wrong counts.identifiers counts.functions context.now }
+fn counts_wrong(context: &Context, counts: Counts) -> bool
+    ensures { result ≡ counts_wrong counts.identifiers counts.functions (held context.now) }
 {
     get_or(context, IDENTIFIER_COUNT, 0) != counts.identifiers
         || get_or(context, FUNCTION_COUNT, 0) != counts.functions
         || counts.functions > 64
-        || interned_count(context) > 2048
-        || instance_count(context) > 256
-        || key_count(context) > 511
+        || context.effect_count > 2048
+        || context.diagnostic_count > 256
+        || context.key_count > 511
 }
 
 // What the options and all tables earn.
 // Two options, so below 4.
-fn tables_class(context: &[u32], counts: Counts, next: u32) -> Verdict
-    ensures { class_of result ≡ tables_class counts.identifiers counts.functions context.now next }
+fn tables_class(context: &Context, counts: Counts, next: u32) -> Verdict
+    ensures { class_of result ≡ tables_class counts.identifiers counts.functions (held context.now) next }
 {
     let options = word_class(Some(4), get_or(context, OPTIONS, 0));
     let names = identifiers_class(context, counts.identifiers);
@@ -134,8 +134,8 @@ fn tables_class(context: &[u32], counts: Counts, next: u32) -> Verdict
 
 // What a context earns, for the next number.
 // A count is tested before the records are gone through.
-pub fn context_class(context: &[u32], counts: Counts, next: u32) -> Verdict
-    ensures { class_of result ≡ context_class counts.identifiers counts.functions context.now next }
+pub fn context_class(context: &Context, counts: Counts, next: u32) -> Verdict
+    ensures { class_of result ≡ context_class counts.identifiers counts.functions (held context.now) next }
 {
     if counts_wrong(context, counts) {
         return Err(Refusal::Count);

@@ -6,8 +6,8 @@ use Rattle.def_kinds.specs.Reasons.{reason_count}
 use Rattle.def_effects.specs.declared.Place.{Place}
 use Rattle.lent_tables.specs.declared.Table.{Table}
 use Rattle.lent_tables.specs.Words.{field}
-use Rattle.lent_layout.specs.Layout as Layout
-use Rattle.lent_context.specs.Lent.{instance_count}
+use Rattle.lent_layout.specs.Context.{ContextWords}
+use Rattle.lent_context.specs.Lent.{instance_count, diagnostic_in}
 use Rattle.refuse_class.specs.Class.{lower}
 use Rattle.refuse_words.specs.Classes.{lowest_below, earns, used_if, any, place_limit, run_limit, record_class}
 use Rattle.lent_layout.specs.Layout.{candidate_table}
@@ -73,10 +73,10 @@ count_class code n = earns 2 (eqb (uses code 7) 1 && ltb 16 n)
 
 -- a diagnostic has the identity of its instance
 -- "A diagnostic must already stand in the table, else 3"
-unfoldable pub numbers_class : List ℕ → ℕ → ℕ → ℕ → ℕ
-numbers_class c code identity instance = earns 3 (eqb (uses code 6) 1 && not (eqb identity (field Layout.diagnostics c instance 0)))
+unfoldable pub numbers_class : ContextWords → ℕ → ℕ → ℕ → ℕ
+numbers_class c code identity instance = earns 3 (eqb (uses code 6) 1 && not (eqb identity (diagnostic_in c.diagnostics instance).identity))
 
-module _ (identifiers functions : ℕ) (c : List ℕ) where
+module _ (identifiers functions : ℕ) (c : ContextWords) where
   -- the class of an effect's record, in a list of words of its own or in the context's; an Apply earns a class given
   -- "Of an Apply no word but the code is tested"
   unfoldable pub effect_class : ℕ → Table → List ℕ → ℕ → ℕ
@@ -95,7 +95,7 @@ place_class identifiers p = earns 3 (not (ltb p.identifier identifiers) || (not 
 
 -- "candidates (64)", each a right effect; "5 a candidate is Apply"; "own function + 1 or 0"
 -- an instruction is its candidates, its lvalue, and its own function if it has one
-unfoldable pub instruction_class : ℕ → ℕ → List ℕ → List ℕ → ℕ → Place → ℕ → ℕ
+unfoldable pub instruction_class : ℕ → ℕ → ContextWords → List ℕ → ℕ → Place → ℕ → ℕ
 instruction_class identifiers functions c xs count lvalue own =
     lower (earns 2 (ltb 64 count))
     (lower (lowest_below count (effect_class identifiers functions c 5 candidate_table xs)) (lower (place_class identifiers lvalue) (earns 3 (not (leb own functions)))))

@@ -202,8 +202,8 @@ fn count_class(code: u32, n: u32) -> Verdict
 // Range where an effect with a diagnostic has not the identity that its instance has in the table.
 // "A diagnostic must already stand in the table, else 3."
 #[tactic(auto, unfolding(crate::specs::EffectClasses::numbers_class))]
-fn numbers_class(context: &[u32], code: u32, identity: u32, instance: u32) -> Verdict
-    ensures { class_of result ≡ numbers_class context.now code identity instance }
+fn numbers_class(context: &Context, code: u32, identity: u32, instance: u32) -> Verdict
+    ensures { class_of result ≡ numbers_class (held context.now) code identity instance }
 {
     earns(
         Refusal::Range,
@@ -214,7 +214,7 @@ fn numbers_class(context: &[u32], code: u32, identity: u32, instance: u32) -> Ve
 // What an effect's record earns, in a slice of its own or in the context; an Apply earns what is given.
 // Of an Apply no word but the code is tested.
 pub fn effect_class(
-    context: &[u32],
+    context: &Context,
     apply: Verdict,
     t: Table,
     xs: &[u32],
@@ -222,14 +222,14 @@ pub fn effect_class(
     counts: Counts,
 ) -> Verdict
     ensures { class_of result
-        ≡ effect_class counts.identifiers counts.functions context.now (class_of apply) t xs.now i }
+        ≡ effect_class counts.identifiers counts.functions (held context.now) (class_of apply) t xs.now i }
 {
     let code = t.field(xs, i, 0);
     if code == 12 {
         return apply;
     }
     let captures = t.field(xs, i, 17);
-    let diagnostics = instance_count(context);
+    let diagnostics = context.diagnostic_count;
     let by = Measures {
         counts,
         diagnostics,
@@ -243,10 +243,10 @@ pub fn effect_class(
 
 // What the first n candidates earn.
 // "5 a candidate is Apply."
-fn candidates_class(context: &[u32], candidates: &[u32], n: usize, counts: Counts) -> Verdict
+fn candidates_class(context: &Context, candidates: &[u32], n: usize, counts: Counts) -> Verdict
     ensures { class_of result
         ≡ lowest_below n
-        (effect_class counts.identifiers counts.functions context.now 5 candidate_table candidates.now) }
+        (effect_class counts.identifiers counts.functions (held context.now) 5 candidate_table candidates.now) }
 {
     let apply = Err(Refusal::Apply);
     lowest(
@@ -277,7 +277,7 @@ fn own_class(own: u32, functions: u32) -> Verdict
 // What an instruction earns: its candidates, its lvalue, and its own function.
 // A count above 64 decides alone, so that no more records are gone through.
 pub fn instruction_class(
-    context: &[u32],
+    context: &Context,
     candidates: &[u32],
     count: u32,
     lvalue: Place,
@@ -285,7 +285,7 @@ pub fn instruction_class(
     counts: Counts,
 ) -> Verdict
     ensures { class_of result
-        ≡ instruction_class counts.identifiers counts.functions context.now candidates.now count lvalue own }
+        ≡ instruction_class counts.identifiers counts.functions (held context.now) candidates.now count lvalue own }
 {
     if count > 64 {
         return Err(Refusal::Count);

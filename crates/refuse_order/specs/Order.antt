@@ -6,6 +6,7 @@ use Rattle.std.specs.declared.cmp.Ordering.TheVariants.{Less, Equal, Greater}
 use Rattle.def_effects.specs.Keys.{EffectKey}
 use Rattle.def_key_order.specs.KeyOrder.{compare_keys}
 use Rattle.lent_layout.specs.Layout as Layout
+use Rattle.lent_layout.specs.Context.{ContextWords}
 use Rattle.lent_order.specs.Order.{order_at}
 use Rattle.lent_context.specs.Lent.{interned_count, interned_key}
 use Rattle.refuse_class.specs.Class.{lower}
@@ -27,9 +28,9 @@ abbrev pub Compares : (ℕ → ℕ → Ordering → Type 0) → (ℕ → EffectK
 Compares post key = (a b : ℕ) (o : Ordering) → a < 4294967296 → b < 4294967296 → post a b o → o ≡ compare_keys (key a) (key b)
 
 -- a place of the order: the number of one of n effects, and its key before the next
-unfoldable pub place_class : List ℕ → ℕ → ℕ → ℕ
-place_class c n j = lower (word_class (Some n) (order_at Layout.effect_order c j)) (earns 4 (descends (interned_key c) (order_at Layout.effect_order c) n j))
+unfoldable pub place_class : ContextWords → ℕ → ℕ → ℕ
+place_class c n j = lower (word_class (Some n) (order_at Layout.effect_order c.effect_order j)) (earns 4 (descends (interned_key c) (order_at Layout.effect_order c.effect_order) n j))
 
 -- the whole order, and the words after it
-unfoldable pub order_class : List ℕ → ℕ
-order_class c = lower (lowest_below (interned_count c) (place_class c (interned_count c))) (stray_after Layout.effect_order c (interned_count c))
+unfoldable pub order_class : ContextWords → ℕ
+order_class c = lower (lowest_below (interned_count c) (place_class c (interned_count c))) (stray_after Layout.effect_order c.effect_order (interned_count c))

@@ -23,8 +23,8 @@ use refuse_words::{earns, lowest, stray_after, word_class};
 use std::cmp::Ordering;
 
 // The keys of two interned effects.
-pub fn compare_records(context: &[u32], a: u32, b: u32) -> Ordering
-    ensures { result ≡ compare_keys (interned_key context.now a) (interned_key context.now b) }
+pub fn compare_records(context: &Context, a: u32, b: u32) -> Ordering
+    ensures { result ≡ compare_keys (interned_key (held context.now) a) (interned_key (held context.now) b) }
 {
     compare_keys(interned_key(context, a), interned_key(context, b))
 }
@@ -33,14 +33,14 @@ pub fn compare_records(context: &[u32], a: u32, b: u32) -> Ordering
 // `compare` says how the keys of two numbers compare.
 pub fn descends<F: Fn(u32, u32) -> Ordering>(
     order: Table,
-    context: &[u32],
+    context: &Context,
     n: u32,
     j: u32,
     compare: F,
 ) -> bool
     requires { F.IsAlwaysCallable compare }
     ensures { (key : ℕ → EffectKey) → Compares (F.post compare) key
-        → result ≡ descends key (order_at order context.now) n j }
+        → result ≡ descends key (order_at order (held context.now)) n j }
 {
     if j >= n.saturating_sub(1) {
         return false;
@@ -52,10 +52,10 @@ pub fn descends<F: Fn(u32, u32) -> Ordering>(
 
 // What place j of an order of n effects earns.
 #[tactic(auto, unfolding(crate::specs::Order::place_class))]
-fn place_class(context: &[u32], n: u32, j: u32) -> Verdict
-    ensures { class_of result ≡ place_class context.now n j }
+fn place_class(context: &Context, n: u32, j: u32) -> Verdict
+    ensures { class_of result ≡ place_class (held context.now) n j }
 {
-    let inside = word_class(Some(n as u64), order_at(EFFECT_ORDER, context, j));
+    let inside = word_class(Some(n as u64), order_at(EFFECT_ORDER, context.effect_order, j));
     let compare = |a: u32, b: u32| compare_records(context, a, b);
     let misplaced = descends(EFFECT_ORDER, context, n, j, compare);
     lower(inside, earns(Refusal::Order, misplaced))
@@ -63,10 +63,10 @@ fn place_class(context: &[u32], n: u32, j: u32) -> Verdict
 
 // What the order of the interned effects earns.
 #[tactic(auto, unfolding(crate::specs::Order::order_class))]
-pub fn order_class(context: &[u32]) -> Verdict
-    ensures { class_of result ≡ order_class context.now }
+pub fn order_class(context: &Context) -> Verdict
+    ensures { class_of result ≡ order_class (held context.now) }
 {
-    let n = interned_count(context);
+    let n = context.effect_count;
     let places = lowest(n as usize, |k| place_class(context, n, k as u32));
-    lower(places, stray_after(EFFECT_ORDER, context, n as usize))
+    lower(places, stray_after(EFFECT_ORDER, context.effect_order, n as usize))
 }

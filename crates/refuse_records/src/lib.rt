@@ -18,18 +18,18 @@ use refuse_words::{earns, lowest};
 // Whether a cached key has too many captures; only that of a CreateFunction has any.
 // In another key the count is a word without use.
 #[tactic(auto, unfolding(crate::specs::Accepting::too_many_captures))]
-fn too_many_captures(context: &[u32], v: usize) -> bool
-    ensures { result ≡ too_many_captures context.now v }
+fn too_many_captures(context: &Context, v: usize) -> bool
+    ensures { result ≡ too_many_captures (held context.now) v }
 {
-    CACHED.field(context, v, 1) == 13 && CACHED.field(context, v, 11) > 16
+    CACHED.field(context.keys, v, 1) == 13 && CACHED.field(context.keys, v, 11) > 16
 }
 
 // What a cached number earns: no key at all, or one that is right.
 #[tactic(auto, unfolding(crate::specs::Accepting::cached_class))]
-fn cached_class(context: &[u32], v: usize, counts: Counts) -> Verdict
-    ensures { class_of result ≡ cached_class counts.identifiers counts.functions context.now v }
+fn cached_class(context: &Context, v: usize, counts: Counts) -> Verdict
+    ensures { class_of result ≡ cached_class counts.identifiers counts.functions (held context.now) v }
 {
-    if v == 0 || CACHED.field(context, v, 0) == 0 {
+    if v == 0 || CACHED.field(context.keys, v, 0) == 0 {
         return no_key_class(context, v);
     }
     if too_many_captures(context, v) {
@@ -40,8 +40,8 @@ fn cached_class(context: &[u32], v: usize, counts: Counts) -> Verdict
 
 // What a diagnostic earns: right, with the identity that it has to have, and no equal record before it.
 // One that is refused already is not looked for among those before it.
-fn diagnostic_class(context: &[u32], k: u32, identifiers: u32) -> Verdict
-    ensures { class_of result ≡ diagnostic_class identifiers context.now k }
+fn diagnostic_class(context: &Context, k: u32, identifiers: u32) -> Verdict
+    ensures { class_of result ≡ diagnostic_class identifiers (held context.now) k }
 {
     message_class(context, k as usize, identifiers)?;
     earns(Refusal::Order, diagnostic_twice(context, k))
@@ -49,45 +49,45 @@ fn diagnostic_class(context: &[u32], k: u32, identifiers: u32) -> Verdict
 
 // What an interned effect earns by its words.
 #[tactic(auto, unfolding(crate::specs::Accepting::interned_class))]
-fn interned_class(context: &[u32], k: usize, counts: Counts) -> Verdict
-    ensures { class_of result ≡ interned_class counts.identifiers counts.functions context.now k }
+fn interned_class(context: &Context, k: usize, counts: Counts) -> Verdict
+    ensures { class_of result ≡ interned_class counts.identifiers counts.functions (held context.now) k }
 {
     effect_class(context, Err(Refusal::Range), INTERNED, context, k, counts)
 }
 
 // What n identifiers earn.
-pub fn identifier_records(context: &[u32], n: usize) -> Verdict
-    ensures { class_of result ≡ lowest_below n (identifier_class context.now) }
+pub fn identifier_records(context: &Context, n: usize) -> Verdict
+    ensures { class_of result ≡ lowest_below n (identifier_class (held context.now)) }
 {
     lowest(n, |k| identifier_class(context, k))
 }
 
 // What n functions earn.
-pub fn function_records(context: &[u32], n: usize, identifiers: u32) -> Verdict
-    ensures { class_of result ≡ lowest_below n (function_class identifiers context.now) }
+pub fn function_records(context: &Context, n: usize, identifiers: u32) -> Verdict
+    ensures { class_of result ≡ lowest_below n (function_class identifiers (held context.now)) }
 {
     lowest(n, |k| function_class(context, k, identifiers))
 }
 
 // What the links of n numbers earn.
 // From number 0 on.
-pub fn link_records(context: &[u32], n: usize, functions: u32) -> Verdict
-    ensures { class_of result ≡ lowest_below n (link_class functions context.now) }
+pub fn link_records(context: &Context, n: usize, functions: u32) -> Verdict
+    ensures { class_of result ≡ lowest_below n (link_class functions (held context.now)) }
 {
     lowest(n, |k| link_class(context, k, functions))
 }
 
 // What the keys of n numbers earn.
 // From number 0 on.
-pub fn key_records(context: &[u32], n: usize, counts: Counts) -> Verdict
-    ensures { class_of result ≡ lowest_below n (cached_class counts.identifiers counts.functions context.now) }
+pub fn key_records(context: &Context, n: usize, counts: Counts) -> Verdict
+    ensures { class_of result ≡ lowest_below n (cached_class counts.identifiers counts.functions (held context.now)) }
 {
     lowest(n, |k| cached_class(context, k, counts))
 }
 
 // What n diagnostics earn.
-pub fn diagnostic_records(context: &[u32], n: u32, identifiers: u32) -> Verdict
-    ensures { class_of result ≡ lowest_below n (diagnostic_class identifiers context.now) }
+pub fn diagnostic_records(context: &Context, n: u32, identifiers: u32) -> Verdict
+    ensures { class_of result ≡ lowest_below n (diagnostic_class identifiers (held context.now)) }
 {
     lowest(
         n as usize,
@@ -96,8 +96,8 @@ pub fn diagnostic_records(context: &[u32], n: u32, identifiers: u32) -> Verdict
 }
 
 // What n interned effects earn.
-pub fn effect_records(context: &[u32], n: usize, counts: Counts) -> Verdict
-    ensures { class_of result ≡ lowest_below n (interned_class counts.identifiers counts.functions context.now) }
+pub fn effect_records(context: &Context, n: usize, counts: Counts) -> Verdict
+    ensures { class_of result ≡ lowest_below n (interned_class counts.identifiers counts.functions (held context.now)) }
 {
     lowest(n, |k| interned_class(context, k, counts))
 }

@@ -9,8 +9,8 @@ use lent_diagnostics::{diagnostic_in, identities_before, identity_before, instan
 
 // Whether diagnostic k has another identity than it has to, or there is an equal one before it.
 // Wrong order, or two entries of one key. A message that is new has the next identity, which no record before it has.
-pub fn diagnostic_twice(context: &[u32], k: u32) -> bool
-    ensures { result ≡ diagnostic_twice context.now k }
+pub fn diagnostic_twice(context: &Context, k: u32) -> bool
+    ensures { result ≡ diagnostic_twice (held context.now) k }
 {
     let x = diagnostic_in(context, k);
     match identity_before(context, k, x.diagnostic) {

@@ -4,11 +4,12 @@ use Rattle.std.specs.Prelude.{ℕ, ◌-◌, ◌/◌, ◌%◌, Bool, not, ◌&&�
 use Rattle.base_tests.specs.Tests.{ite}
 use Rattle.def_kinds.specs.Reasons.{reason_count}
 use Rattle.def_effects.specs.Places.{no_span, eq_span}
+use Rattle.def_transfer.specs.Pure.{Interned}
 use Rattle.lent_tables.specs.Words.{field}
 use Rattle.lent_layout.specs.Layout as Layout
 use Rattle.lent_context.specs.Lent.{flag_one, flag_two}
 use Rattle.refuse_class.specs.Class.{lower}
-use Rattle.refuse_words.specs.Classes.{earns, used_if, any, run_limit, record_class}
+use Rattle.refuse_words.specs.Classes.{lowest_below, word_class, earns, used_if, any, run_limit, record_class}
 
 -- ---- identifiers
 
@@ -37,13 +38,13 @@ needs_known flags inside = (flag_two flags || not (eqb inside 0)) && not (flag_o
 unfoldable pub places_class : ℕ → ℕ → ℕ
 places_class n inside = earns 2 (ltb 16 n || ltb 32 inside)
 
--- the class of a function
+-- the class of a function, whose context places stand in a table ps of their own
 -- of both its counts, its record, its flags, and the record of its context places
-unfoldable pub function_class : ℕ → List ℕ → ℕ → ℕ
-function_class identifiers c f =
+unfoldable pub function_class : ℕ → List ℕ → List ℕ → ℕ → ℕ
+function_class identifiers c ps f =
     lower (places_class (field Layout.functions c f 1) (field Layout.functions c f 2))
     (lower (record_class Layout.functions c (function_limit identifiers (field Layout.functions c f 2)) f)
-    (lower (earns 3 (needs_known (field Layout.functions c f 0) (field Layout.functions c f 2))) (record_class Layout.contexts c (run_limit identifiers (field Layout.functions c f 1)) f)))
+    (lower (earns 3 (needs_known (field Layout.functions c f 0) (field Layout.functions c f 2))) (record_class Layout.contexts ps (run_limit identifiers (field Layout.functions c f 1)) f)))
 
 -- ---- links
 
@@ -121,9 +122,23 @@ diagnostic_limit identifiers case w = get_or (Some 256 ∷ Some identifiers ∷ 
 unfoldable pub label_class : ℕ → ℕ → ℕ → ℕ
 label_class case start end = earns 4 (eqb case 0 && not (eq_span (record { start = start; end = end }) no_span))
 
--- the class of a diagnostic by its words
--- of each word, and of its access label
-unfoldable pub message_class : ℕ → List ℕ → ℕ → ℕ
-message_class identifiers c k =
-    lower (record_class Layout.diagnostics c (diagnostic_limit identifiers (field Layout.diagnostics c k 2)) k)
-    (label_class (field Layout.diagnostics c k 2) (field Layout.diagnostics c k 5) (field Layout.diagnostics c k 6))
+-- the numbers of a record, in the order of their limits
+unfoldable pub numbers_of : Interned → List ℕ
+numbers_of x =
+    x.identity ∷ x.diagnostic.identifier ∷ x.diagnostic.case ∷ x.diagnostic.sentence ∷ x.diagnostic.name
+    ∷ x.diagnostic.access.start ∷ x.diagnostic.access.end ∷ x.diagnostic.own.start ∷ x.diagnostic.own.end ∷ []
+
+-- the class of such a record, by a limit for each number
+unfoldable pub numbered_class : (ℕ → Option ℕ) → Interned → ℕ
+numbered_class limit x = lowest_below 9 (λ w. word_class (limit w) (get_or (numbers_of x) w 0))
+
+-- the class of a diagnostic by its numbers
+-- of each number, and of its access label
+unfoldable pub message_class : ℕ → Interned → ℕ
+message_class identifiers x =
+    lower (numbered_class (diagnostic_limit identifiers x.diagnostic.case) x) (label_class x.diagnostic.case x.diagnostic.access.start x.diagnostic.access.end)
+
+-- the class of a record without use
+-- "those after the last .. are zero"
+unfoldable pub unused_class : Interned → ℕ
+unused_class x = numbered_class (λ w. None) x

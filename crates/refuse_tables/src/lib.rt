@@ -32,10 +32,10 @@ fn identifier_limit(flags: u32, w: usize) -> Option<u64>
 
 // What an identifier earns.
 #[tactic(auto, unfolding(crate::specs::TableClasses::identifier_class))]
-pub fn identifier_class(context: &[u32], i: usize) -> Verdict
-    ensures { class_of result ≡ identifier_class context.now i }
+pub fn identifier_class(context: &Context, i: usize) -> Verdict
+    ensures { class_of result ≡ identifier_class (held context.now) i }
 {
-    let flags = IDENTIFIERS.field(context, i, 0);
+    let flags = IDENTIFIERS.field(context.identifiers, i, 0);
     record_class(IDENTIFIERS, context, i, |w| identifier_limit(flags, w))
 }
 
@@ -74,12 +74,12 @@ fn places_class(n: u32, inside: u32) -> Verdict
 
 // What a function earns.
 // By both its counts, its record, its flags, and the record of its context places.
-pub fn function_class(context: &[u32], f: usize, identifiers: u32) -> Verdict
-    ensures { class_of result ≡ function_class identifiers context.now f }
+pub fn function_class(context: &Context, f: usize, identifiers: u32) -> Verdict
+    ensures { class_of result ≡ function_class identifiers (held context.now) f }
 {
-    let flags = FUNCTIONS.field(context, f, 0);
-    let n = FUNCTIONS.field(context, f, 1);
-    let inside = FUNCTIONS.field(context, f, 2);
+    let flags = FUNCTIONS.field(context.functions, f, 0);
+    let n = FUNCTIONS.field(context.functions, f, 1);
+    let inside = FUNCTIONS.field(context.functions, f, 2);
     let words = record_class(
         FUNCTIONS,
         context,
@@ -111,10 +111,10 @@ fn link_limit(functions: u32, v: usize, flag: u32, w: usize) -> Option<u64>
 
 // What the link of a number earns.
 #[tactic(auto, unfolding(crate::specs::TableClasses::link_class))]
-pub fn link_class(context: &[u32], v: usize, functions: u32) -> Verdict
-    ensures { class_of result ≡ link_class functions context.now v }
+pub fn link_class(context: &Context, v: usize, functions: u32) -> Verdict
+    ensures { class_of result ≡ link_class functions (held context.now) v }
 {
-    let flag = LINKS.field(context, v, 0);
+    let flag = LINKS.field(context.links, v, 0);
     record_class(LINKS, context, v, |w| link_limit(functions, v, flag, w))
 }
 
@@ -146,8 +146,8 @@ fn label_class(case: u32, access: Span) -> Verdict
 
 // What a diagnostic earns by its words.
 // By each word, and by its access label.
-pub fn message_class(context: &[u32], k: usize, identifiers: u32) -> Verdict
-    ensures { class_of result ≡ message_class identifiers context.now k }
+pub fn message_class(context: &Context, k: usize, identifiers: u32) -> Verdict
+    ensures { class_of result ≡ message_class identifiers (held context.now) k }
 {
     let case = DIAGNOSTICS.field(context, k, 2);
     let start = DIAGNOSTICS.field(context, k, 5);
