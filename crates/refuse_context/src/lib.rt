@@ -5,22 +5,17 @@
 ghost use Rattle.std.specs.Prelude.{◌≡◌};
 ghost use Rattle.def_refusals.specs.Verdicts.{class_of};
 ghost use Rattle.refuse_records.specs.Accepting.{handed_out, identifiers_class, functions_class, links_class, keys_class, diagnostics_class, effects_class, counts_wrong, tables_class, context_class};
+ghost use Rattle.lent_layout.specs.Context.{held};
 
 use def_refusals::{Refusal, Verdict};
-use lent_diagnostics::instance_count;
-use lent_layout::{
-    CACHED, CONTEXTS, DIAGNOSTICS, FUNCTION_COUNT, FUNCTIONS, IDENTIFIER_COUNT, IDENTIFIERS,
-    INTERNED, LINKS, OPTIONS,
-};
-use lent_links::{interned_count, key_count};
-use lent_slices::get_or;
+use lent_layout::{CACHED, CONTEXTS, Context, FUNCTIONS, IDENTIFIERS, INTERNED, LINKS};
 use refuse_class::lower;
 use refuse_instruction::Counts;
 use refuse_key_order::key_order_class;
 use refuse_order::order_class;
 use refuse_records::{
     diagnostic_records, effect_records, function_records, identifier_records, key_records,
-    link_records,
+    link_records, unused_from,
 };
 use refuse_words::{stray_after, word_class};
 
@@ -31,7 +26,7 @@ fn identifiers_class(context: &Context, identifiers: u32) -> Verdict
     ensures { class_of result ≡ identifiers_class identifiers (held context.now) }
 {
     let n = identifiers as usize;
-    let records = identifier_records(context, n);
+    let records = identifier_records(context.identifiers, n);
     lower(records, stray_after(IDENTIFIERS, context.identifiers, n))
 }
 
@@ -41,7 +36,7 @@ fn functions_class(context: &Context, counts: Counts) -> Verdict
     ensures { class_of result ≡ functions_class counts.identifiers counts.functions (held context.now) }
 {
     let n = counts.functions as usize;
-    let records = function_records(context, n, counts.identifiers);
+    let records = function_records(context.functions, context.contexts, n, counts.identifiers);
     let after = stray_after(FUNCTIONS, context.functions, n);
     lower(records, lower(after, stray_after(CONTEXTS, context.contexts, n)))
 }
@@ -60,7 +55,7 @@ fn links_class(context: &Context, functions: u32, next: u32) -> Verdict
     ensures { class_of result ≡ links_class functions (held context.now) next }
 {
     let n = handed_out(next) as usize;
-    let records = link_records(context, n, functions);
+    let records = link_records(context.links, n, functions);
     lower(records, stray_after(LINKS, context.links, n))
 }
 
@@ -71,7 +66,7 @@ fn keys_class(context: &Context, counts: Counts, next: u32) -> Verdict
 {
     let m = handed_out(next);
     let n = m as usize;
-    let records = key_records(context, n, counts);
+    let records = key_records(context.keys, n, counts);
     let after = stray_after(CACHED, context.keys, n);
     lower(records, lower(after, key_order_class(context, m)))
 }
@@ -81,8 +76,8 @@ fn diagnostics_class(context: &Context, identifiers: u32) -> Verdict
     ensures { class_of result ≡ diagnostics_class identifiers (held context.now) }
 {
     let n = context.diagnostic_count;
-    let records = diagnostic_records(context, n, identifiers);
-    lower(records, stray_after(DIAGNOSTICS, context, n as usize))
+    let records = diagnostic_records(context.diagnostics, n, identifiers);
+    lower(records, unused_from(context.diagnostics, n))
 }
 
 // What the interned effects and their order earn.
@@ -97,15 +92,13 @@ fn effects_class(context: &Context, counts: Counts) -> Verdict
 
 // ---- the whole context
 
-// Whether a count is above its limit, or is not what the call says.
-// 512 identifiers at most are the state's own limit; 64 functions, 2,048 interned effects, 256 diagnostics, 511 cached keys.
+// Whether a count is above its limit.
+// 64 functions, 2,048 interned effects, 256 diagnostics, 511 cached keys; 512 identifiers are the state's own limit.
 #[tactic(auto, unfolding(refuse_records::specs::Accepting::counts_wrong))]
-fn counts_wrong(context: &Context, counts: Counts) -> bool
-    ensures { result ≡ counts_wrong counts.identifiers counts.functions (held context.now) }
+fn counts_wrong(context: &Context) -> bool
+    ensures { result ≡ counts_wrong (held context.now) }
 {
-    get_or(context, IDENTIFIER_COUNT, 0) != counts.identifiers
-        || get_or(context, FUNCTION_COUNT, 0) != counts.functions
-        || counts.functions > 64
+    context.function_count > 64
         || context.effect_count > 2048
         || context.diagnostic_count > 256
         || context.key_count > 511
@@ -113,15 +106,20 @@ fn counts_wrong(context: &Context, counts: Counts) -> bool
 
 // What the options and all tables earn.
 // Two options, so below 4.
-fn tables_class(context: &Context, counts: Counts, next: u32) -> Verdict
-    ensures { class_of result ≡ tables_class counts.identifiers counts.functions (held context.now) next }
+fn tables_class(context: &Context, identifiers: u32, next: u32) -> Verdict
+    ensures { class_of result ≡ tables_class identifiers (held context.now) next }
 {
-    let options = word_class(Some(4), get_or(context, OPTIONS, 0));
-    let names = identifiers_class(context, counts.identifiers);
+    let functions = context.function_count;
+    let counts = Counts {
+        identifiers,
+        functions,
+    };
+    let options = word_class(Some(4), context.options);
+    let names = identifiers_class(context, identifiers);
     let bodies = functions_class(context, counts);
-    let links = links_class(context, counts.functions, next);
+    let links = links_class(context, functions, next);
     let keys = keys_class(context, counts, next);
-    let messages = diagnostics_class(context, counts.identifiers);
+    let messages = diagnostics_class(context, identifiers);
     let effects = effects_class(context, counts);
     lower(
         options,
@@ -134,11 +132,11 @@ fn tables_class(context: &Context, counts: Counts, next: u32) -> Verdict
 
 // What a context earns, for the next number.
 // A count is tested before the records are gone through.
-pub fn context_class(context: &Context, counts: Counts, next: u32) -> Verdict
-    ensures { class_of result ≡ context_class counts.identifiers counts.functions (held context.now) next }
+pub fn context_class(context: &Context, identifiers: u32, next: u32) -> Verdict
+    ensures { class_of result ≡ context_class identifiers (held context.now) next }
 {
-    if counts_wrong(context, counts) {
+    if counts_wrong(context) {
         return Err(Refusal::Count);
     }
-    tables_class(context, counts, next)
+    tables_class(context, identifiers, next)
 }

@@ -10,11 +10,12 @@ ghost use Rattle.refuse_words.specs.Classes as Classes;
 ghost use Rattle.refuse_instruction.specs.Parts.{place_word, middle_word};
 ghost use Rattle.refuse_instruction.specs.EffectClasses.{uses, middle_limit, effect_limit, count_class, numbers_class, effect_class, place_class, instruction_class};
 ghost use Rattle.lent_layout.specs.Layout.{candidate_table};
+ghost use Rattle.lent_layout.specs.Context.{held};
 
 use def_effects::Place;
 use def_refusals::{Refusal, Verdict};
-use lent_diagnostics::instance_count;
-use lent_layout::{CANDIDATES, DIAGNOSTICS, EFFECT_WORDS};
+use lent_diagnostics::diagnostic_in;
+use lent_layout::{CANDIDATES, Context, EFFECT_WORDS};
 use lent_tables::Table;
 use refuse_class::lower;
 use refuse_words::{
@@ -207,7 +208,7 @@ fn numbers_class(context: &Context, code: u32, identity: u32, instance: u32) -> 
 {
     earns(
         Refusal::Range,
-        uses_diagnostic(code) && identity != DIAGNOSTICS.field(context, instance as usize, 0),
+        uses_diagnostic(code) && identity != diagnostic_in(context.diagnostics, instance).identity,
     )
 }
 

@@ -9,11 +9,11 @@ ghost use Rattle.lent_context.specs.Lent as Lent;
 ghost use Rattle.lent_context.specs.Lent.{key_here};
 ghost use Rattle.def_refusals.specs.Verdicts.{class_of};
 ghost use Rattle.refuse_key_order.specs.KeyOrder.{misplaced, key_place_class, miscounted, key_order_class};
+ghost use Rattle.lent_layout.specs.Context.{held};
 
 use def_refusals::{Refusal, Verdict};
 use lent_key_order::compare_keys;
-use lent_layout::{CACHED, KEY_ORDER};
-use lent_links::key_count;
+use lent_layout::{CACHED, Context, KEY_ORDER};
 use lent_order::order_at;
 use lent_search::cached_key;
 use refuse_class::lower;
@@ -50,7 +50,7 @@ fn is_misplaced(context: &Context, n: u32, j: u32) -> bool
 {
     let keyed = is_keyed(context, order_at(KEY_ORDER, context.key_order, j));
     let compare = |a: u32, b: u32| compare_cached(context, a, b);
-    !keyed || descends(KEY_ORDER, context, n, j, compare)
+    !keyed || descends(KEY_ORDER, context.key_order, n, j, compare)
 }
 
 // What place j of an order of n keys of numbers below m earns.

@@ -68,10 +68,10 @@ fn key_limit(counts: Counts, code: u32, n: u32, w: usize) -> Option<u64>
 
 // What a number without a key earns.
 #[tactic(auto, unfolding(refuse_tables::specs::TableClasses::no_key_class))]
-pub fn no_key_class(context: &Context, v: usize) -> Verdict
-    ensures { class_of result ≡ no_key_class (held context.now) v }
+pub fn no_key_class(keys: &[u32], v: usize) -> Verdict
+    ensures { class_of result ≡ no_key_class keys.now v }
 {
-    record_class(CACHED, context, v, |_| None)
+    record_class(CACHED, keys, v, |_| None)
 }
 
 // Whether a key has the code of none that is cached, or lacks what its code needs.
@@ -88,15 +88,15 @@ fn key_lacks(code: u32, source: u32, destination: u32, function: u32) -> bool
 
 // What a cached key earns by its words, but for its count.
 // By each word, and by what its code needs.
-pub fn key_class(context: &Context, v: usize, counts: Counts) -> Verdict
-    ensures { class_of result ≡ key_class counts.identifiers counts.functions (held context.now) v }
+pub fn key_class(keys: &[u32], v: usize, counts: Counts) -> Verdict
+    ensures { class_of result ≡ key_class counts.identifiers counts.functions keys.now v }
 {
-    let code = CACHED.field(context.keys, v, 1);
-    let source = CACHED.field(context.keys, v, 2);
-    let destination = CACHED.field(context.keys, v, 4);
-    let function = CACHED.field(context.keys, v, 8);
-    let n = CACHED.field(context.keys, v, 11);
-    let words = record_class(CACHED, context, v, |w| key_limit(counts, code, n, w));
+    let code = CACHED.field(keys, v, 1);
+    let source = CACHED.field(keys, v, 2);
+    let destination = CACHED.field(keys, v, 4);
+    let function = CACHED.field(keys, v, 8);
+    let n = CACHED.field(keys, v, 11);
+    let words = record_class(CACHED, keys, v, |w| key_limit(counts, code, n, w));
     let lacks = key_lacks(code, source, destination, function);
     lower(words, earns(Refusal::Range, lacks))
 }

@@ -6,15 +6,14 @@ ghost use Rattle.std.specs.Prelude.{◌≡◌, ℕ};
 ghost use Rattle.def_effects.specs.Keys.{EffectKey};
 ghost use Rattle.def_key_order.specs.KeyOrder.{compare_keys};
 ghost use Rattle.lent_context.specs.Lent.{interned_key};
-ghost use Rattle.lent_layout.specs.Layout as Layout;
 ghost use Rattle.lent_order.specs.Order.{order_at};
 ghost use Rattle.def_refusals.specs.Verdicts.{class_of};
 ghost use Rattle.refuse_order.specs.Order.{Compares, descends, place_class, order_class};
+ghost use Rattle.lent_layout.specs.Context.{held};
 
 use def_refusals::{Refusal, Verdict};
 use lent_key_order::compare_keys;
-use lent_layout::EFFECT_ORDER;
-use lent_links::interned_count;
+use lent_layout::{Context, EFFECT_ORDER};
 use lent_order::order_at;
 use lent_search::interned_key;
 use lent_tables::Table;
@@ -33,20 +32,20 @@ pub fn compare_records(context: &Context, a: u32, b: u32) -> Ordering
 // `compare` says how the keys of two numbers compare.
 pub fn descends<F: Fn(u32, u32) -> Ordering>(
     order: Table,
-    context: &Context,
+    xs: &[u32],
     n: u32,
     j: u32,
     compare: F,
 ) -> bool
     requires { F.IsAlwaysCallable compare }
     ensures { (key : ℕ → EffectKey) → Compares (F.post compare) key
-        → result ≡ descends key (order_at order (held context.now)) n j }
+        → result ≡ descends key (order_at order xs.now) n j }
 {
     if j >= n.saturating_sub(1) {
         return false;
     }
-    let a = order_at(order, context, j);
-    let b = order_at(order, context, j + 1);
+    let a = order_at(order, xs, j);
+    let b = order_at(order, xs, j + 1);
     compare(a, b).is_ge()
 }
 
@@ -57,7 +56,7 @@ fn place_class(context: &Context, n: u32, j: u32) -> Verdict
 {
     let inside = word_class(Some(n as u64), order_at(EFFECT_ORDER, context.effect_order, j));
     let compare = |a: u32, b: u32| compare_records(context, a, b);
-    let misplaced = descends(EFFECT_ORDER, context, n, j, compare);
+    let misplaced = descends(EFFECT_ORDER, context.effect_order, n, j, compare);
     lower(inside, earns(Refusal::Order, misplaced))
 }
 

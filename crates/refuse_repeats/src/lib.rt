@@ -6,15 +6,16 @@ ghost use Rattle.std.specs.Prelude.{◌≡◌};
 ghost use Rattle.refuse_repeats.specs.Repeats.{diagnostic_twice};
 
 use lent_diagnostics::{diagnostic_in, identities_before, identity_before, instance_before};
+use lent_layout::Numbered;
 
 // Whether diagnostic k has another identity than it has to, or there is an equal one before it.
 // Wrong order, or two entries of one key. A message that is new has the next identity, which no record before it has.
-pub fn diagnostic_twice(context: &Context, k: u32) -> bool
-    ensures { result ≡ diagnostic_twice (held context.now) k }
+pub fn diagnostic_twice(diagnostics: &[Numbered], k: u32) -> bool
+    ensures { result ≡ diagnostic_twice diagnostics.now k }
 {
-    let x = diagnostic_in(context, k);
-    match identity_before(context, k, x.diagnostic) {
-        None => x.identity as u64 != identities_before(context, k),
-        Some(m) => x.identity != m || instance_before(context, k, x).is_some(),
+    let x = diagnostic_in(diagnostics, k);
+    match identity_before(diagnostics, k, x.diagnostic) {
+        None => x.identity as u64 != identities_before(diagnostics, k),
+        Some(m) => x.identity != m || instance_before(diagnostics, k, x).is_some(),
     }
 }

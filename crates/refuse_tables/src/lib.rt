@@ -2,17 +2,18 @@
 // Each word of a record is tested against a limit; every function is total, and its contract is one equation.
 #![tactic(auto)]
 
-ghost use Rattle.std.specs.Prelude.{◌≡◌};
+ghost use Rattle.std.specs.Prelude.{◌≡◌, ◌<◌, ℕ, Option};
 ghost use Rattle.def_refusals.specs.Verdicts.{class_of};
 ghost use Rattle.refuse_words.specs.Classes.{record_class};
-ghost use Rattle.lent_layout.specs.Layout as Layout;
-ghost use Rattle.refuse_tables.specs.TableClasses.{identifier_limit, identifier_class, function_limit, needs_known, places_class, function_class, link_limit, link_class, diagnostic_limit, label_class, message_class};
+ghost use Rattle.lent_layout.specs.Context.{interned_of};
+ghost use Rattle.refuse_tables.specs.TableClasses.{identifier_limit, identifier_class, function_limit, needs_known, places_class, function_class, link_limit, link_class, diagnostic_limit, label_class, numbers_of, numbered_class, message_class, unused_class};
 
 use def_effects::{NO_SPAN, Span};
 use def_refusals::{Refusal, Verdict};
-use lent_layout::{CONTEXTS, DIAGNOSTICS, FUNCTIONS, IDENTIFIERS, LINKS};
+use lent_layout::{CONTEXTS, FUNCTIONS, IDENTIFIERS, LINKS, Numbered};
+use lent_slices::get_or;
 use refuse_class::lower;
-use refuse_words::{ANY, earns, record_class, run_limit, used_if};
+use refuse_words::{ANY, earns, lowest, record_class, run_limit, used_if, word_class};
 
 // ---- identifiers
 
@@ -32,11 +33,11 @@ fn identifier_limit(flags: u32, w: usize) -> Option<u64>
 
 // What an identifier earns.
 #[tactic(auto, unfolding(crate::specs::TableClasses::identifier_class))]
-pub fn identifier_class(context: &Context, i: usize) -> Verdict
-    ensures { class_of result ≡ identifier_class (held context.now) i }
+pub fn identifier_class(identifiers: &[u32], i: usize) -> Verdict
+    ensures { class_of result ≡ identifier_class identifiers.now i }
 {
-    let flags = IDENTIFIERS.field(context.identifiers, i, 0);
-    record_class(IDENTIFIERS, context, i, |w| identifier_limit(flags, w))
+    let flags = IDENTIFIERS.field(identifiers, i, 0);
+    record_class(IDENTIFIERS, identifiers, i, |w| identifier_limit(flags, w))
 }
 
 // ---- functions
@@ -74,19 +75,19 @@ fn places_class(n: u32, inside: u32) -> Verdict
 
 // What a function earns.
 // By both its counts, its record, its flags, and the record of its context places.
-pub fn function_class(context: &Context, f: usize, identifiers: u32) -> Verdict
-    ensures { class_of result ≡ function_class identifiers (held context.now) f }
+pub fn function_class(functions: &[u32], contexts: &[u32], f: usize, identifiers: u32) -> Verdict
+    ensures { class_of result ≡ function_class identifiers functions.now contexts.now f }
 {
-    let flags = FUNCTIONS.field(context.functions, f, 0);
-    let n = FUNCTIONS.field(context.functions, f, 1);
-    let inside = FUNCTIONS.field(context.functions, f, 2);
+    let flags = FUNCTIONS.field(functions, f, 0);
+    let n = FUNCTIONS.field(functions, f, 1);
+    let inside = FUNCTIONS.field(functions, f, 2);
     let words = record_class(
         FUNCTIONS,
-        context,
+        functions,
         f,
         |w| function_limit(identifiers, inside, w),
     );
-    let places = record_class(CONTEXTS, context, f, |w| run_limit(identifiers, n, w));
+    let places = record_class(CONTEXTS, contexts, f, |w| run_limit(identifiers, n, w));
     let known = earns(Refusal::Range, needs_known(flags, inside));
     lower(places_class(n, inside), lower(words, lower(known, places)))
 }
@@ -111,11 +112,11 @@ fn link_limit(functions: u32, v: usize, flag: u32, w: usize) -> Option<u64>
 
 // What the link of a number earns.
 #[tactic(auto, unfolding(crate::specs::TableClasses::link_class))]
-pub fn link_class(context: &Context, v: usize, functions: u32) -> Verdict
-    ensures { class_of result ≡ link_class functions (held context.now) v }
+pub fn link_class(links: &[u32], v: usize, functions: u32) -> Verdict
+    ensures { class_of result ≡ link_class functions links.now v }
 {
-    let flag = LINKS.field(context.links, v, 0);
-    record_class(LINKS, context, v, |w| link_limit(functions, v, flag, w))
+    let flag = LINKS.field(links, v, 0);
+    record_class(LINKS, links, v, |w| link_limit(functions, v, flag, w))
 }
 
 // ---- diagnostics
@@ -144,19 +145,43 @@ fn label_class(case: u32, access: Span) -> Verdict
     earns(Refusal::Order, case == 0 && access != NO_SPAN)
 }
 
-// What a diagnostic earns by its words.
-// By each word, and by its access label.
-pub fn message_class(context: &Context, k: usize, identifiers: u32) -> Verdict
-    ensures { class_of result ≡ message_class identifiers (held context.now) k }
+// The numbers of a record of diagnostics, in the order of their limits.
+fn numbers_of(x: Numbered) -> [u32; 9]
+    ensures { result ≡ numbers_of (interned_of x) }
 {
-    let case = DIAGNOSTICS.field(context, k, 2);
-    let start = DIAGNOSTICS.field(context, k, 5);
-    let end = DIAGNOSTICS.field(context, k, 6);
-    let words = record_class(
-        DIAGNOSTICS,
-        context,
-        k,
-        |w| diagnostic_limit(identifiers, case, w),
-    );
-    lower(words, label_class(case, Span { start, end }))
+    let d = x.diagnostic;
+    [
+        x.identity, d.identifier, d.case, d.sentence, d.name, d.access.start, d.access.end,
+        d.own.start, d.own.end,
+    ]
+}
+
+// What such a record earns, by a limit for each number.
+fn numbered_class<F: Fn(usize) -> Option<u64>>(x: Numbered, limit: F) -> Verdict
+    requires { F.IsAlwaysCallable limit }
+    ensures { (limits : ℕ → Option ℕ)
+        → ((w : ℕ) (l : _) → w < 9 → F.post limit w l → l ≡ limits w)
+        → class_of result ≡ numbered_class limits (interned_of x) }
+{
+    let numbers = numbers_of(x);
+    lowest(9, |w| word_class(limit(w), get_or(&numbers, w, 0)))
+}
+
+// What a diagnostic earns by its numbers.
+// By each number, and by its access label.
+#[tactic(auto, unfolding(crate::specs::TableClasses::message_class))]
+pub fn message_class(x: Numbered, identifiers: u32) -> Verdict
+    ensures { class_of result ≡ message_class identifiers (interned_of x) }
+{
+    let d = x.diagnostic;
+    let words = numbered_class(x, |w| diagnostic_limit(identifiers, d.case, w));
+    lower(words, label_class(d.case, d.access))
+}
+
+// What a record without use earns.
+#[tactic(auto, unfolding(crate::specs::TableClasses::unused_class))]
+pub fn unused_class(x: Numbered) -> Verdict
+    ensures { class_of result ≡ unused_class (interned_of x) }
+{
+    numbered_class(x, |_| None)
 }
