@@ -4,6 +4,7 @@
 
 ghost use Rattle.call_means.specs.Promise.{lent_call, left_by, Meets};
 ghost use Rattle.call_outcome.specs.Calls.{told};
+ghost use Rattle.lent_layout.specs.Context.{held, SameSlices};
 
 use call_attempt::attempt;
 use call_class::call_class;
@@ -11,6 +12,7 @@ use call_outcome::Applied;
 use def_effects::{Place, Session};
 use def_refusals::Refusal;
 use lent_copies::clear_scratch;
+use lent_layout::Context;
 
 // The call for one instruction. Any lists with any numbers in them may be lent.
 // Its promise: what it answers and leaves is the definition's `outcome` of what it was lent, refusals 1 to 11 included (demands 1 and 2);
@@ -29,7 +31,8 @@ pub fn apply_signature(
     scratch64: &mut [u64],
     scratch32: &mut [u32],
 ) -> Result<Applied, Refusal>
-    ensures { Meets
+    ensures kept { SameSlices context.old context.new }
+    ensures meets { Meets
         (lent_call values.old sets.old flag (held context.old) session candidates.now lvalue own output.old scratch64.old
         scratch32.old)
         (left_by (told session flag result) values.new sets.new (held context.new) output.new scratch64.new scratch32.new) }

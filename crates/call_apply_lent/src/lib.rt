@@ -4,10 +4,12 @@
 
 ghost use Rattle.call_apply_lent.specs.Answers.{told_beside};
 ghost use Rattle.call_means.specs.Promise.{lent_call, left_by, Meets};
+ghost use Rattle.lent_layout.specs.Context.{held, SameSlices};
 
 use call_apply::apply_signature;
 use def_effects::{Place, Session};
 use def_refusals::Refusal;
+use lent_layout::Context;
 
 // What the call answers beside the session: how many effects the output list holds, the entries of all Freezes of the instruction,
 // the state's function-expression flag.
@@ -33,7 +35,8 @@ pub fn apply(
     scratch64: &mut [u64],
     scratch32: &mut [u32],
 ) -> Result<Answer, Refusal>
-    ensures { Meets
+    ensures kept { SameSlices context.old context.new }
+    ensures meets { Meets
         (lent_call values.old sets.old flag (held context.old) session.old candidates.now lvalue own output.old scratch64.old
         scratch32.old)
         (left_by (told_beside session.new flag result) values.new sets.new (held context.new) output.new scratch64.new

@@ -9,15 +9,18 @@ ghost use Rattle.laws_monad.specs.Answers.{answer};
 ghost use Rattle.call_parts.specs.Instructions.{instruction_of};
 ghost use Rattle.call_outcome.specs.Calls.{candidate_count, start_run};
 ghost use Rattle.call_outcome.specs.Attempts.{at_most, run_or, Ready};
+ghost use Rattle.call_undo.specs.Saves.{used};
 ghost use Rattle.def_refusals.specs.Verdicts.{class_of};
 ghost use Rattle.lent_world.specs.World.{world};
+ghost use Rattle.lent_layout.specs.Context.{held, SameSlices};
 
 use call_run::run_instruction;
+use call_room::lengths_of;
 use call_save::save;
-use call_undo::undo;
+use call_undo::{Used, undo};
 use def_effects::{Place, Session};
 use def_refusals::{Refusal, Verdict};
-use lent_layout::EFFECT_WORDS;
+use lent_layout::{Context, EFFECT_WORDS};
 use lent_work::{Marks, Run};
 use lent_world::World;
 
@@ -52,6 +55,17 @@ fn start_run(session: Session, flag: bool) -> Run
     }
 }
 
+// How many records of a context are in use.
+fn used_of(context: &Context) -> Used
+    ensures { result ≡ used (held context.now) }
+{
+    Used {
+        effects: context.effect_count,
+        keys: context.key_count,
+        diagnostics: context.diagnostic_count,
+    }
+}
+
 // State and context are saved, the instruction runs, and if it is refused all is put back.
 fn run_or_undo(
     world: &mut World,
@@ -64,7 +78,7 @@ fn run_or_undo(
     ensures kept { Kept world.old world.new }
     ensures does { (s : ASession) (flag : Bool)
         → world.old.run ≡ start_run s flag
-        → Ready world.old.values.now world.old.sets.now world.old.context.now world.old.output.now candidates.now
+        → Ready world.old.values.now world.old.sets.now (held world.old.context.now) world.old.output.now candidates.now
         scratch64.old scratch32.old
         → Does (Instruction.apply_signature
         (instruction_of candidates.now (candidate_count candidates.now) lvalue own)) world.old world.new result }
@@ -74,13 +88,15 @@ fn run_or_undo(
     let n = set_words(sets);
     let values = &mut *world.values;
     let context = &mut *world.context;
-    save(values, sets, n, context, scratch64, scratch32);
+    let l = lengths_of(context);
+    let u = used_of(context);
+    save(values, sets, n, context, l, scratch64, scratch32);
     let start = world.run;
     let count = candidate_count(candidates);
     match run_instruction(world, candidates, count, lvalue, own) {
         Ok(()) => Ok(()),
         Err(refusal) => {
-            undo(world, n, scratch64, scratch32);
+            undo(world, n, l, u, scratch64, scratch32);
             world.run = start;
             Err(refusal)
         }
@@ -101,7 +117,8 @@ pub fn attempt(
     scratch64: &mut [u64],
     scratch32: &mut [u32],
 ) -> Result<Run, Refusal>
-    ensures { Ready values.old sets.old (held context.old) output.old candidates.now scratch64.old
+    ensures kept { SameSlices context.old context.new }
+    ensures does { Ready values.old sets.old (held context.old) output.old candidates.now scratch64.old
         scratch32.old
         → Instruction.apply_signature
         (instruction_of candidates.now (candidate_count candidates.now) lvalue own)

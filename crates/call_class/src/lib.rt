@@ -1,25 +1,28 @@
 // Which refusal, of those up to Apply, all that the call for an instruction is lent earns.
 #![tactic(auto)]
 
-ghost use Rattle.std.specs.Prelude.{◌≡◌, length, ◌/◌};
+ghost use Rattle.std.specs.Prelude.{◌≡◌, Bool, List, ℕ, length, ◌/◌};
 ghost use Rattle.def_refusals.specs.Verdicts.{class_of};
 ghost use Rattle.refuse_instruction.specs.EffectClasses.{instruction_class};
-ghost use Rattle.call_outcome.specs.Calls.{wrong_context, lengths_wrong, call_class};
+ghost use Rattle.call_outcome.specs.Calls.{call, lengths_wrong, call_class};
+ghost use Rattle.def_effects.specs.declared.Place.{Place as APlace};
+ghost use Rattle.def_effects.specs.declared.Session.{Session as ASession};
 ghost use Rattle.call_means.specs.Promise.{lent_call};
 ghost use Rattle.lent_layout.specs.Layout as Layout;
+ghost use Rattle.lent_layout.specs.Context.{held};
 
-use call_room::{context_wrong, room_for};
+use call_room::{context_wrong, lengths_of, room_for, saved_words};
 use def_effects::{Place, Session};
 use def_refusals::{Refusal, Verdict};
-use lent_layout::{EFFECT_WORDS, FUNCTION_COUNT, OUTPUT_WORDS, SAVED_WORDS};
-use lent_slices::get_or;
+use lent_layout::{Context, EFFECT_WORDS, OUTPUT_WORDS};
 use refuse_class::lower;
 use refuse_context::context_class;
 use refuse_instruction::{Counts, instruction_class};
 use refuse_state::{state_refusal, wrong_lengths};
 
 // Whether a lent list has the wrong length, those of the state apart.
-// A context with room for what the candidates can intern, records of candidates, 1,120 records of output, scratch for the state and for the words of a context that change.
+// A context with room for what the candidates can intern, records of candidates, 1,120 records of output, scratch for the state and for the
+// tables of the context that may be written into.
 #[tactic(auto, unfolding(call_outcome::specs::Calls::lengths_wrong))]
 fn lengths_wrong(
     sets: &[u64],
@@ -29,15 +32,16 @@ fn lengths_wrong(
     scratch64: &[u64],
     scratch32: &[u32],
 ) -> bool
-    ensures { result
-        ≡ lengths_wrong (length sets.now) (wrong_context (held context.now) candidates.now)
-        (length candidates.now) (length output.now) (length scratch64.now)
-        (length scratch32.now) }
+    ensures { (vs : List ℕ) (flag : Bool) (s : ASession) (p : APlace) (own : ℕ)
+        → result ≡ lengths_wrong
+        (call vs sets.now flag (held context.now) s candidates.now p own output.now scratch64.now scratch32.now) }
 {
-    context_wrong(context, room_for(context, candidates))
+    let room = room_for(context, candidates);
+    let identifiers = (sets.len() / 16).min(513) as u32;
+    context_wrong(context, identifiers, room)
         || candidates.len() % EFFECT_WORDS != 0
         || output.len() != OUTPUT_WORDS
-        || scratch32.len() != SAVED_WORDS
+        || scratch32.len() != saved_words(lengths_of(context))
         || scratch64.len() < 1024
         || scratch64.len() - 1024 != sets.len()
 }
@@ -89,12 +93,12 @@ pub fn call_class(
     }
     let state = state_refusal(values, sets, session.next, session.access);
     let identifiers = (sets.len() / 16) as u32;
-    let functions = get_or(context, FUNCTION_COUNT, 0);
+    let functions = context.function_count;
     let counts = Counts {
         identifiers,
         functions,
     };
-    let tables = context_class(context, counts, session.next);
+    let tables = context_class(context, identifiers, session.next);
     let instruction = lent_class(context, candidates, lvalue, own, counts);
     lower(state, lower(tables, instruction))
 }

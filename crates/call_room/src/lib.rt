@@ -1,4 +1,4 @@
-// How much room a context has to have for an instruction: for the interned effects that it has, and for those that the candidates can intern.
+// How long the slices of a context have to be for an instruction: for what is in use, and for the effects that the candidates can intern.
 #![tactic(auto)]
 
 ghost use Rattle.std.specs.Prelude.{◌≡◌, eqb, length, ◌+◌};
@@ -8,12 +8,18 @@ ghost use Rattle.lent_tables.specs.Words as Words;
 ghost use Rattle.lent_effects.specs.Records.{effect_in};
 ghost use Rattle.lent_layout.specs.Layout as Layout;
 ghost use Rattle.laws_room.specs.Room.{derives, need};
-ghost use Rattle.call_outcome.specs.Attempts.{at_most};
-ghost use Rattle.call_outcome.specs.Calls.{room_for, context_wrong};
+ghost use Rattle.call_outcome.specs.Attempts.{at_most, lengths_of};
+ghost use Rattle.call_undo.specs.Saves.{saved_words};
+ghost use Rattle.call_outcome.specs.Calls.{room_for, table_wrong, context_wrong};
+ghost use Rattle.lent_layout.specs.Context.{held};
 
+use call_undo::Lengths;
 use lent_effects::code_in;
-use lent_layout::{CANDIDATES, CONTEXT_WORDS, EFFECT_WORDS, EFFECTS_FROM};
-use lent_links::interned_count;
+use lent_layout::{
+    CACHED, CANDIDATES, CONTEXTS, Context, DIAGNOSTICS, EFFECT_ORDER, EFFECT_WORDS, FUNCTIONS,
+    IDENTIFIERS, INTERNED, KEY_ORDER, LINKS,
+};
+use lent_tables::Table;
 
 // How many effects one of a code can derive, and they in turn; captures apart.
 fn derived(code: u32) -> u64
@@ -68,13 +74,63 @@ pub fn room_for(context: &Context, candidates: &[u32]) -> u32
     total
 }
 
-// Whether a context has the wrong length, by the room that it has to have.
-#[tactic(auto, unfolding(call_outcome::specs::Calls::context_wrong))]
-pub fn context_wrong(context: &Context, room: u32) -> bool
-    ensures { result ≡ context_wrong room (length (held context.now)) }
+// Whether a slice has the wrong length for a table of which n records are asked.
+// Too short for them, longer than the table can be, or ending in a part of a record.
+#[tactic(auto, unfolding(call_outcome::specs::Calls::table_wrong))]
+fn table_wrong(t: Table, n: u32, words: usize) -> bool
+    ensures { result ≡ table_wrong t n words }
 {
-    let least = EFFECTS_FROM + (room as usize) * EFFECT_WORDS;
-    context.len() < least
-        || context.len() > CONTEXT_WORDS
-        || (context.len() - EFFECTS_FROM) % EFFECT_WORDS != 0
+    let width = t.width as usize;
+    if width == 0 {
+        return words != 0;
+    }
+    words < n as usize * width || words > t.count as usize * width || words % width != 0
+}
+
+// Whether a slice of a context has the wrong length, for so many identifiers and room for so many interned effects.
+// At least as many records as are in use, and as the instruction can need; what can be written at any number is there for all numbers.
+#[tactic(auto, unfolding(call_outcome::specs::Calls::context_wrong))]
+pub fn context_wrong(context: &Context, identifiers: u32, room: u32) -> bool
+    ensures { result ≡ context_wrong identifiers room (held context.now) }
+{
+    let functions = context.function_count.min(64);
+    table_wrong(IDENTIFIERS, identifiers, context.identifiers.len())
+        || table_wrong(FUNCTIONS, functions, context.functions.len())
+        || table_wrong(CONTEXTS, functions, context.contexts.len())
+        || table_wrong(LINKS, 512, context.links.len())
+        || table_wrong(CACHED, 512, context.keys.len())
+        || table_wrong(KEY_ORDER, 512, context.key_order.len())
+        || table_wrong(INTERNED, room, context.effects.len())
+        || table_wrong(EFFECT_ORDER, room, context.effect_order.len())
+        || context.diagnostics.len() != DIAGNOSTICS
+}
+
+// How many words are saved of each table of a context that an instruction may write into: all, but no more than it can have.
+#[tactic(auto, using(call_outcome::proofs::Laws::Class::most_past, call_outcome::proofs::Laws::Class::most_within))]
+pub fn lengths_of(context: &Context) -> Lengths
+    ensures { result ≡ lengths_of (held context.now) }
+{
+    let contexts = context.contexts.len().min(5120) as u16;
+    let links = context.links.len().min(1024) as u16;
+    let keys = context.keys.len().min(14336) as u16;
+    let key_order = context.key_order.len().min(512) as u16;
+    let effect_order = context.effect_order.len().min(2048) as u16;
+    Lengths {
+        contexts,
+        links,
+        keys,
+        key_order,
+        effect_order,
+    }
+}
+
+// How many words are saved of a context in all.
+pub fn saved_words(l: Lengths) -> usize
+    ensures { result ≡ saved_words l }
+{
+    l.contexts as usize
+        + l.links as usize
+        + l.keys as usize
+        + l.key_order as usize
+        + l.effect_order as usize
 }

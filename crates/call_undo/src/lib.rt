@@ -1,18 +1,36 @@
 // What the call for an instruction saves before it runs, and how it puts that back after a refusal.
-// The tables of a state are saved whole; of a context, the words that an instruction may change, but for the effects that it appends.
+// The tables of a state are saved whole, and those of a context that an instruction may write into; effects and diagnostics are only appended.
 #![tactic(auto)]
 
 ghost use Rattle.std.specs.Prelude.{◌≡◌};
 ghost use Rattle.lent_copies.specs.Copies.{copied};
-ghost use Rattle.call_undo.specs.Saves.{forgotten, restored_context};
+ghost use Rattle.call_undo.specs.Saves.{forgotten, withdrawn, restored_context};
+ghost use Rattle.lent_layout.specs.Context.{held, SameSlices};
 ghost use Rattle.lent_copies.specs.Cleared.{Cleared};
 ghost use Rattle.lent_world.specs.Promise.{Kept};
 
 use lent_copies::copy;
-use lent_layout::{EFFECT_WORDS, EFFECTS_FROM, INTERNED_COUNT, SAVED_WORDS};
-use lent_links::interned_count;
-use lent_slices::{get_or, set};
+use lent_layout::{Context, EFFECT_WORDS, Numbered, UNUSED};
+use lent_slices::set;
 use lent_world::World;
+
+// How many words are saved of each table of a context that an instruction may write into.
+#[derive(Clone, Copy)]
+pub struct Lengths {
+    pub contexts: u16,
+    pub links: u16,
+    pub keys: u16,
+    pub key_order: u16,
+    pub effect_order: u16,
+}
+
+// How many records of a context are in use.
+#[derive(Clone, Copy)]
+pub struct Used {
+    pub effects: u32,
+    pub keys: u32,
+    pub diagnostics: u32,
+}
 
 // Values and n words of sets are copied back.
 // "After a refusal state .. are as before."
@@ -26,29 +44,50 @@ pub fn restore_state(values: &mut [u64], sets: &mut [u64], n: u32, scratch: &[u6
 
 // Interned effects from record `from` to before record `to` become zero.
 // So those that a refused instruction appended go.
-pub fn forget_effects(context: &mut Context, from: u32, to: u32)
-    ensures { held context.new ≡ forgotten from to (held context.old) }
+pub fn forget_effects(effects: &mut [u32], from: u32, to: u32)
+    ensures { effects.new ≡ forgotten from to effects.old }
 {
     if to <= from {
         return;
     }
-    let at = EFFECTS_FROM + (from as usize) * EFFECT_WORDS;
+    let at = (from as usize) * EFFECT_WORDS;
     let n = (to - from) as usize * EFFECT_WORDS;
     for k in 0..n {
-        set(context, at + k, 0);
+        set(effects, at + k, 0);
     }
 }
 
-// A context is put back: the effects appended since go, and the words that were saved return.
-// "After a refusal .. context .. are as before."
-pub fn restore_context(context: &mut Context, scratch: &[u32])
-    ensures { held context.new ≡ restored_context scratch.now (held context.old) }
+// Diagnostics from record `from` to before record `to` become zero.
+pub fn withdraw(diagnostics: &mut [Numbered], from: u32, to: u32)
+    ensures { diagnostics.new ≡ withdrawn from to diagnostics.old }
 {
-    let before = get_or(scratch, 0, 0);
-    let after = context.effect_count;
-    forget_effects(context, before, after);
-    let at = INTERNED_COUNT as u32;
-    copy(scratch, 0, context, at, SAVED_WORDS as u32, 0);
+    if to <= from {
+        return;
+    }
+    copy(&[], 0, diagnostics, from, to - from, UNUSED);
+}
+
+// A context is put back: what was appended since goes, the tables that were saved return, and with them how many records were in use.
+// "After a refusal .. context .. are as before."
+#[tactic(auto, unfolding(crate::specs::Saves::restored_context))]
+pub fn restore_context(context: &mut Context, l: Lengths, u: Used, scratch: &[u32])
+    ensures kept { SameSlices context.old context.new }
+    ensures does { held context.new ≡ restored_context l u scratch.now (held context.old) }
+{
+    forget_effects(context.effects, u.effects, context.effect_count);
+    withdraw(context.diagnostics, u.diagnostics, context.diagnostic_count);
+    let links = l.contexts as u32;
+    copy(scratch, 0, context.contexts, 0, links, 0);
+    let keys = links + l.links as u32;
+    copy(scratch, links, context.links, 0, l.links as u32, 0);
+    let key_order = keys + l.keys as u32;
+    copy(scratch, keys, context.keys, 0, l.keys as u32, 0);
+    let effect_order = key_order + l.key_order as u32;
+    copy(scratch, key_order, context.key_order, 0, l.key_order as u32, 0);
+    copy(scratch, effect_order, context.effect_order, 0, l.effect_order as u32, 0);
+    context.effect_count = u.effects;
+    context.key_count = u.keys;
+    context.diagnostic_count = u.diagnostics;
 }
 
 // ---- both
@@ -56,15 +95,15 @@ pub fn restore_context(context: &mut Context, scratch: &[u32])
 // State and context are put back, and the output list becomes zero.
 // After an instruction was refused.
 #[tactic(auto, unfolding(lent_copies::specs::Copies::zeros))]
-pub fn undo(world: &mut World, n: u32, scratch64: &[u64], scratch32: &[u32])
+pub fn undo(world: &mut World, n: u32, l: Lengths, u: Used, scratch64: &[u64], scratch32: &[u32])
     ensures kept { Kept world.old world.new }
     ensures restores { (world.new.values.now ≡ copied scratch64.now 0 0 1024 world.old.values.now)
         × (world.new.sets.now ≡ copied scratch64.now 1024 0 n world.old.sets.now)
-        × (world.new.context.now ≡ restored_context scratch32.now world.old.context.now)
+        × (held world.new.context.now ≡ restored_context l u scratch32.now (held world.old.context.now))
         × Cleared world.old.output.now world.new.output.now
         × (world.new.run ≡ world.old.run) }
 {
     restore_state(world.values, world.sets, n, scratch64);
-    restore_context(world.context, scratch32);
+    restore_context(world.context, l, u, scratch32);
     world.output.fill(0);
 }
