@@ -8,15 +8,15 @@ ghost use Rattle.def_image.specs.Layout as Image;
 ghost use Rattle.def_image.specs.Layout.{count_of};
 ghost use Rattle.def_image.specs.Decode.{member_of, place_at, places_from};
 ghost use Rattle.lent_sets.specs.Rows.{add_set};
-ghost use Rattle.image_decode.specs.Decoded.{decoded_value, decoded_values, decoded_pair, decoded_sets, decoded_identifier, decoded_identifiers, decoded_counts, decoded_function, decoded_functions, decoded_header, decoded_context};
+ghost use Rattle.image_decode.specs.Decoded.{decoded_value, decoded_values, decoded_pair, decoded_sets, decoded_identifier, decoded_identifiers, decoded_counts, decoded_function, decoded_functions, decoded_places, decoded_contexts, decoded_context};
+ghost use Rattle.lent_layout.specs.Context.{held, SameSlices};
 
 use def_effects::{Place, Span};
 use def_kinds::{AbstractValue, ValueKind};
 use image_class2::{Section, cell, cell_in_run, count_of, word};
-use lent_layout::{CONTEXTS, FUNCTION_COUNT, FUNCTIONS, IDENTIFIER_COUNT, IDENTIFIERS, OPTIONS};
+use lent_layout::{CONTEXTS, Context, FUNCTIONS, IDENTIFIERS};
 use lent_set_writes::{add_set, put_set};
 use lent_sets::add_value;
-use lent_slices::set;
 use lent_tables::Table;
 use lent_values::put_value;
 
@@ -110,14 +110,15 @@ pub fn decode_sets(im: &[u32], sets: &mut [u64])
 
 // ---- the context
 
-// The four words of identifier k are put into a context.
+// The four words of identifier k are put into its table.
 // "flags (1 ref, 2 hoisted), name 1..512 or 0, access start, end"
 #[tactic(auto, using(crate::proofs::Laws::Read::after_more), unfolding(crate::specs::Decoded::after, crate::specs::Decoded::decoded_identifier))]
-fn decode_identifier(im: &[u32], k: u32, context: &mut Context)
-    ensures { held context.new ≡ decoded_identifier im.now k (held context.old) }
+fn decode_identifier(im: &[u32], k: u32, identifiers: &mut [u32])
+    ensures { identifiers.new ≡ decoded_identifier im.now k identifiers.old }
 {
     for j in 0..4 {
-        IDENTIFIERS.put_field(context.identifiers,
+        IDENTIFIERS.put_field(
+            identifiers,
             k as usize,
             j as usize,
             cell(im, Section::Identifiers, k, j),
@@ -125,14 +126,15 @@ fn decode_identifier(im: &[u32], k: u32, context: &mut Context)
     }
 }
 
-// All identifiers of the image are put into a context.
+// All identifiers of the image are put into their table.
 // As many as the header says, one after the other.
 #[tactic(auto, using(crate::proofs::Laws::Read::after_more, crate::proofs::Laws::Read::after_none), unfolding(crate::specs::Decoded::decoded_identifiers))]
-fn decode_identifiers(im: &[u32], context: &mut Context)
-    ensures { held context.new ≡ decoded_identifiers im.now (count_of im.now Image.identifiers) (held context.old) }
+fn decode_identifiers(im: &[u32], identifiers: &mut [u32])
+    ensures { identifiers.new
+        ≡ decoded_identifiers im.now (count_of im.now Image.identifiers) identifiers.old }
 {
     for k in 0..count_of(im, Section::Identifiers) {
-        decode_identifier(im, k, context);
+        decode_identifier(im, k, identifiers);
     }
 }
 
@@ -146,66 +148,72 @@ pub fn put_run(t: Table, xs: &mut [u32], i: usize, w: u32, im: &[u32], first: u3
     }
 }
 
-// Flags and both counts of function k are put into a context.
+// Flags and both counts of function k are put into its table.
 // The counts of context places and of places mutated inside.
 #[tactic(auto, unfolding(crate::specs::Decoded::decoded_counts))]
-fn decode_counts(im: &[u32], k: u32, context: &mut Context)
-    ensures { held context.new ≡ decoded_counts im.now k (held context.old) }
+fn decode_counts(im: &[u32], k: u32, functions: &mut [u32])
+    ensures { functions.new ≡ decoded_counts im.now k functions.old }
 {
     let i = k as usize;
-    FUNCTIONS.put_field(context.functions, i, 0, cell(im, Section::Functions, k, 0));
-    FUNCTIONS.put_field(context.functions, i, 1, cell(im, Section::Functions, k, 2));
-    FUNCTIONS.put_field(context.functions, i, 2, cell(im, Section::Functions, k, 4));
+    FUNCTIONS.put_field(functions, i, 0, cell(im, Section::Functions, k, 0));
+    FUNCTIONS.put_field(functions, i, 1, cell(im, Section::Functions, k, 2));
+    FUNCTIONS.put_field(functions, i, 2, cell(im, Section::Functions, k, 4));
 }
 
-// Function k is put into a context: flags and counts, the places mutated inside, the context places.
-// "each function has its own copy of its context places"
+// Function k is put into its table: flags and counts, and the places mutated inside.
 #[tactic(auto, unfolding(crate::specs::Decoded::decoded_function))]
-fn decode_function(im: &[u32], k: u32, context: &mut Context)
-    ensures { held context.new ≡ decoded_function im.now k (held context.old) }
+fn decode_function(im: &[u32], k: u32, functions: &mut [u32])
+    ensures { functions.new ≡ decoded_function im.now k functions.old }
 {
-    let i = k as usize;
-    let first_context = cell(im, Section::Functions, k, 1);
-    let contexts = cell(im, Section::Functions, k, 2);
-    let first_inside = cell(im, Section::Functions, k, 3);
-    let inside = cell(im, Section::Functions, k, 4);
-    decode_counts(im, k, context);
-    put_run(FUNCTIONS, context, i, 3, im, first_inside, inside);
-    put_run(CONTEXTS, context, i, 0, im, first_context, contexts);
+    let first = cell(im, Section::Functions, k, 3);
+    let n = cell(im, Section::Functions, k, 4);
+    decode_counts(im, k, functions);
+    put_run(FUNCTIONS, functions, k as usize, 3, im, first, n);
 }
 
-// All functions of the image are put into a context.
+// All functions of the image are put into their table.
 // As many as the header says, one after the other.
 #[tactic(auto, using(crate::proofs::Laws::Read::after_more, crate::proofs::Laws::Read::after_none), unfolding(crate::specs::Decoded::decoded_functions))]
-fn decode_functions(im: &[u32], context: &mut Context)
-    ensures { held context.new ≡ decoded_functions im.now (count_of im.now Image.functions) (held context.old) }
+fn decode_functions(im: &[u32], functions: &mut [u32])
+    ensures { functions.new ≡ decoded_functions im.now (count_of im.now Image.functions) functions.old }
 {
     for k in 0..count_of(im, Section::Functions) {
-        decode_function(im, k, context);
+        decode_function(im, k, functions);
     }
 }
 
-// Options and both counts are put into a context.
-#[tactic(auto, unfolding(crate::specs::Decoded::decoded_header))]
-fn decode_header(im: &[u32], context: &mut Context)
-    ensures { held context.new ≡ decoded_header im.now (held context.old) }
+// The context places of function k are put into their table.
+// "each function has its own copy of its context places"
+#[tactic(auto, unfolding(crate::specs::Decoded::decoded_places))]
+fn decode_places(im: &[u32], k: u32, contexts: &mut [u32])
+    ensures { contexts.new ≡ decoded_places im.now k contexts.old }
 {
-    set(context, OPTIONS, word(im, 1));
-    set(
-        context,
-        IDENTIFIER_COUNT,
-        count_of(im, Section::Identifiers),
-    );
-    set(context, FUNCTION_COUNT, count_of(im, Section::Functions));
+    let first = cell(im, Section::Functions, k, 1);
+    let n = cell(im, Section::Functions, k, 2);
+    put_run(CONTEXTS, contexts, k as usize, 0, im, first, n);
+}
+
+// Those of all functions of the image are put into their table.
+// As many as the header says, one after the other.
+#[tactic(auto, using(crate::proofs::Laws::Read::after_more, crate::proofs::Laws::Read::after_none), unfolding(crate::specs::Decoded::decoded_contexts))]
+fn decode_contexts(im: &[u32], contexts: &mut [u32])
+    ensures { contexts.new ≡ decoded_contexts im.now (count_of im.now Image.functions) contexts.old }
+{
+    for k in 0..count_of(im, Section::Functions) {
+        decode_places(im, k, contexts);
+    }
 }
 
 // All that the image says of a context is put into it.
 // "Interned effects, cached numbers, links and diagnostics start empty": the context was zero.
 #[tactic(auto, unfolding(crate::specs::Decoded::decoded_context))]
 pub fn decode_context(im: &[u32], context: &mut Context)
-    ensures { held context.new ≡ decoded_context im.now (held context.old) }
+    ensures kept { SameSlices context.old context.new }
+    ensures does { held context.new ≡ decoded_context im.now (held context.old) }
 {
-    decode_header(im, context);
-    decode_identifiers(im, context);
-    decode_functions(im, context);
+    context.options = word(im, 1);
+    context.function_count = count_of(im, Section::Functions);
+    decode_identifiers(im, context.identifiers);
+    decode_functions(im, context.functions);
+    decode_contexts(im, context.contexts);
 }

@@ -6,11 +6,13 @@ ghost use Rattle.std.specs.Prelude.{◌≡◌};
 ghost use Rattle.lent_copies.specs.Cleared.{Cleared};
 ghost use Rattle.image_outcome.specs.Inferring.{settled, pieces_of};
 ghost use Rattle.image_outcome.specs.Promise.{left_by, leaves_for, written_for, MeansPlain};
+ghost use Rattle.lent_layout.specs.Context.{held, SameSlices, emptied};
 
 use def_refusals::Refusal;
 use image_pieces::Shown;
 use image_read::read_image;
 use image_run::{clear_work, memory_wrong, run_tables, settle};
+use lent_layout::Context;
 
 // The image is read and its job runs; what is shown of what comes of it, or the number with which it is refused.
 // After a refusal the caller clears what stands in the tables.
@@ -25,7 +27,8 @@ fn run_image(
     scratch64: &mut [u64],
     scratch32: &mut [u32],
 ) -> Result<Shown, Refusal>
-    ensures { settled (left_by result values.new sets.new output.new)
+    ensures kept { SameSlices context.old context.new }
+    ensures does { settled (left_by result values.new sets.new output.new)
         ≡ leaves_for bytes.now words.old values.old sets.old (held context.old) candidates.old output.old scratch64.old
         scratch32.old }
 {
@@ -52,14 +55,15 @@ pub fn infer_image(
     scratch64: &mut [u64],
     scratch32: &mut [u32],
 ) -> Result<Shown, Refusal>
-    ensures { (left_by result values.new sets.new output.new
+    ensures kept { SameSlices context.old context.new }
+    ensures does { (left_by result values.new sets.new output.new
         ≡ leaves_for bytes.now words.old values.old sets.old (held context.old) candidates.old output.old scratch64.old
         scratch32.old)
         × (pieces_of (left_by result values.new sets.new output.new)
         ≡ written_for bytes.now words.old values.old sets.old (held context.old) candidates.old output.old scratch64.old
         scratch32.old)
         × Cleared words.old words.new
-        × Cleared (held context.old) (held context.new)
+        × (held context.new ≡ emptied (held context.old))
         × Cleared candidates.old candidates.new
         × Cleared scratch64.old scratch64.new
         × Cleared scratch32.old scratch32.new

@@ -10,6 +10,7 @@ ghost use Rattle.lent_copies.specs.Copies.{zeros};
 ghost use Rattle.image_decode.specs.Decoded.{decoded_values, decoded_sets, decoded_context, decoded_candidates};
 ghost use Rattle.image_job.specs.Reading.{said_of, tables, given, lent_wrong, read_words, read_image};
 ghost use Rattle.lent_copies.specs.Cleared.{Cleared};
+ghost use Rattle.lent_layout.specs.Context.{held, SameSlices, is_full, emptied};
 
 use def_refusals::Refusal;
 use image_class::words_refusal;
@@ -17,7 +18,7 @@ use image_decode::{decode_context, decode_sets, decode_values};
 use image_decode_candidates::decode_candidates;
 use image_job::{Job, job_of};
 use image_words::{length_wrong, load_words};
-use lent_layout::{CANDIDATE_WORDS, CONTEXT_WORDS};
+use lent_layout::{CANDIDATE_WORDS, Context, DIAGNOSTICS, UNUSED};
 
 // The state of an image, in tables that may hold anything.
 // They are cleared first: a number that the image does not name has no entry, an identifier no set.
@@ -32,12 +33,34 @@ fn fill_state(im: &[u32], values: &mut [u64], sets: &mut [u64])
     decode_sets(im, sets);
 }
 
-// The context of an image, in a slice that may hold anything.
+// A context in which every number is zero.
+pub fn empty_context(context: &mut Context)
+    ensures kept { SameSlices context.old context.new }
+    ensures does { held context.new ≡ emptied (held context.old) }
+{
+    context.options = 0;
+    context.function_count = 0;
+    context.effect_count = 0;
+    context.key_count = 0;
+    context.diagnostic_count = 0;
+    context.identifiers.fill(0);
+    context.functions.fill(0);
+    context.contexts.fill(0);
+    context.links.fill(0);
+    context.keys.fill(0);
+    context.key_order.fill(0);
+    context.effects.fill(0);
+    context.effect_order.fill(0);
+    context.diagnostics.fill(UNUSED);
+}
+
+// The context of an image, in slices that may hold anything.
 // "Interned effects, cached numbers, links and diagnostics start empty": it is cleared first.
 fn fill_context(im: &[u32], context: &mut Context)
-    ensures { held context.new ≡ decoded_context im.now (zeros (length (held context.old))) }
+    ensures kept { SameSlices context.old context.new }
+    ensures does { held context.new ≡ decoded_context im.now (emptied (held context.old)) }
 {
-    context.fill(0);
+    empty_context(context);
     decode_context(im, context);
 }
 
@@ -62,7 +85,8 @@ fn read_words(
     context: &mut Context,
     candidates: &mut [u32],
 ) -> Result<Job, Refusal>
-    ensures { given (said_of result) values.new sets.new (held context.new) candidates.new
+    ensures kept { SameSlices context.old context.new }
+    ensures does { given (said_of result) values.new sets.new (held context.new) candidates.new
         ≡ read_words (loaded bytes.now (length words.old))
         (tables values.old sets.old (held context.old) candidates.old) }
 {
@@ -74,8 +98,24 @@ fn read_words(
     Ok(job_of(words))
 }
 
+// Whether each slice of a context has as many records as its table can have.
+#[tactic(auto, unfolding(lent_layout::specs::Context::is_full))]
+fn is_full(context: &Context) -> bool
+    ensures { result ≡ is_full (held context.now) }
+{
+    context.identifiers.len() == 2048
+        && context.functions.len() == 10432
+        && context.contexts.len() == 5120
+        && context.links.len() == 1024
+        && context.keys.len() == 14336
+        && context.key_order.len() == 512
+        && context.effects.len() == 200704
+        && context.effect_order.len() == 2048
+        && context.diagnostics.len() == DIAGNOSTICS
+}
+
 // Whether a lent list has the wrong length: scratch for the words of an image, and the tables at their full size.
-// 16,384 words, 1,024 values, 512 rows of 16 words, a context, 64 records of 98 words.
+// 16,384 words, 1,024 values, 512 rows of 16 words, a context with room for all, 64 records of 98 words.
 #[tactic(auto, unfolding(image_job::specs::Reading::lent_wrong))]
 fn lent_wrong(
     words: &[u32],
@@ -86,12 +126,12 @@ fn lent_wrong(
 ) -> bool
     ensures { result
         ≡ lent_wrong (length words.now) (length values.now) (length sets.now)
-        (length (held context.now)) (length candidates.now) }
+        (is_full (held context.now)) (length candidates.now) }
 {
     words.len() != 16384
         || values.len() != 1024
         || sets.len() != 8192
-        || context.len() != CONTEXT_WORDS
+        || !is_full(context)
         || candidates.len() != CANDIDATE_WORDS
 }
 
@@ -106,7 +146,8 @@ pub fn read_image(
     context: &mut Context,
     candidates: &mut [u32],
 ) -> Result<Job, Refusal>
-    ensures { (given (said_of result) values.new sets.new (held context.new) candidates.new
+    ensures kept { SameSlices context.old context.new }
+    ensures does { (given (said_of result) values.new sets.new (held context.new) candidates.new
         ≡ read_image bytes.now (length words.old)
         (tables values.old sets.old (held context.old) candidates.old))
         × Cleared words.old words.new }

@@ -2,7 +2,7 @@
 // What was lent is cleared here too.
 #![tactic(auto)]
 
-ghost use Rattle.std.specs.Prelude.{◌≡◌, ◌-◌, ◌≤◌, ◌++◌, Bool, length, take, Ok};
+ghost use Rattle.std.specs.Prelude.{◌≡◌, ◌-◌, ◌≤◌, ◌++◌, Bool, true, length, take, Ok};
 ghost use Rattle.call_outcome.specs.Calls.{outcome, told};
 ghost use Rattle.def_effects.specs.declared.Session.{Session as ASession};
 ghost use Rattle.image_job.specs.Reading.{said_of, tables};
@@ -12,14 +12,16 @@ ghost use Rattle.image_outcome.specs.Promise.{left_by};
 ghost use Rattle.lent_copies.specs.Copies.{zeros};
 ghost use Rattle.lent_copies.specs.Cleared.{Cleared};
 ghost use Rattle.lent_layout.specs.Layout as Layout;
+ghost use Rattle.lent_layout.specs.Context.{held, SameSlices, is_full, emptied};
 
 use call_apply::apply_signature;
 use call_outcome::Applied;
 use def_refusals::Refusal;
 use image_job::Job;
 use image_pieces::Shown;
+use image_read::empty_context;
 use lent_copies::clear_scratch;
-use lent_layout::{EFFECT_WORDS, OUTPUT_WORDS, SAVED_WORDS};
+use lent_layout::{Context, EFFECT_WORDS, MOST_SAVED, OUTPUT_WORDS};
 
 // ---- what is shown
 
@@ -60,9 +62,11 @@ pub fn run_tables(
     scratch64: &mut [u64],
     scratch32: &mut [u32],
 ) -> Result<Shown, Refusal>
-    ensures { Fits sets.old candidates.now scratch64.old (said_of (Ok job))
+    ensures kept { SameSlices context.old context.new }
+    ensures does { Fits sets.old candidates.now scratch64.old (said_of (Ok job))
         → length output.old ≡ Layout.output_words
-        → length scratch32.old ≡ Layout.saved_words
+        → length scratch32.old ≡ Layout.most_saved
+        → is_full (held context.old) ≡ true
         → left_by result values.new sets.new output.new
         ≡ keeps (length sets.old)
         (outcome
@@ -102,18 +106,19 @@ pub fn memory_wrong(output: &[u32], scratch64: &[u64], scratch32: &[u32]) -> boo
     ensures { result
         ≡ memory_wrong (length output.now) (length scratch64.now) (length scratch32.now) }
 {
-    output.len() != OUTPUT_WORDS || scratch64.len() != 9216 || scratch32.len() != SAVED_WORDS
+    output.len() != OUTPUT_WORDS || scratch64.len() != 9216 || scratch32.len() != MOST_SAVED
 }
 
 // What was read of an image becomes zero.
 // The state stays: what is shown of it is read there.
 fn clear_read(words: &mut [u32], context: &mut Context, candidates: &mut [u32])
+    ensures kept { SameSlices context.old context.new }
     ensures words { Cleared words.old words.new }
-    ensures context { Cleared (held context.old) (held context.new) }
+    ensures context { held context.new ≡ emptied (held context.old) }
     ensures candidates { Cleared candidates.old candidates.new }
 {
     words.fill(0);
-    context.fill(0);
+    empty_context(context);
     candidates.fill(0);
 }
 
@@ -126,8 +131,9 @@ pub fn clear_work(
     scratch64: &mut [u64],
     scratch32: &mut [u32],
 )
+    ensures kept { SameSlices context.old context.new }
     ensures words { Cleared words.old words.new }
-    ensures context { Cleared (held context.old) (held context.new) }
+    ensures context { held context.new ≡ emptied (held context.old) }
     ensures candidates { Cleared candidates.old candidates.new }
     ensures scratch64 { Cleared scratch64.old scratch64.new }
     ensures scratch32 { Cleared scratch32.old scratch32.new }

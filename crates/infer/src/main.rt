@@ -14,11 +14,35 @@ fn main(rt: HostRuntime) -> io::Result<()> {
     let mut words = [0u32; 16384];
     let mut values = [0u64; 1024];
     let mut sets = [0u64; 8192];
-    let mut context = [0u32; lent_layout::CONTEXT_WORDS];
+    let mut identifiers = [0u32; 2048];
+    let mut functions = [0u32; 10432];
+    let mut contexts = [0u32; 5120];
+    let mut links = [0u32; 1024];
+    let mut keys = [0u32; 14336];
+    let mut key_order = [0u32; 512];
+    let mut effects = [0u32; 200704];
+    let mut effect_order = [0u32; 2048];
+    let mut diagnostics = [lent_layout::UNUSED; lent_layout::DIAGNOSTICS];
+    let mut context = lent_layout::Context {
+        options: 0,
+        function_count: 0,
+        effect_count: 0,
+        key_count: 0,
+        diagnostic_count: 0,
+        identifiers: &mut identifiers,
+        functions: &mut functions,
+        contexts: &mut contexts,
+        links: &mut links,
+        keys: &mut keys,
+        key_order: &mut key_order,
+        effects: &mut effects,
+        effect_order: &mut effect_order,
+        diagnostics: &mut diagnostics,
+    };
     let mut candidates = [0u32; lent_layout::CANDIDATE_WORDS];
     let mut output = [0u32; lent_layout::OUTPUT_WORDS];
     let mut scratch64 = [0u64; 9216];
-    let mut scratch32 = [0u32; lent_layout::SAVED_WORDS];
+    let mut scratch32 = [0u32; lent_layout::MOST_SAVED];
     let shown = image_infer::infer_image(
         &input[..n],
         &mut words,
