@@ -6,8 +6,9 @@
 ghost use Rattle.std.specs.Prelude.{◌<◌};
 
 use call_apply::apply_signature;
-use def_effects::{Place, Span};
+use def_effects::{Diagnostic, NO_SPAN, Place, Span};
 use def_kinds::{AbstractValue, DEFAULT, ValueKind};
+use lent_layout::{Context, Numbered, UNUSED};
 use lent_slices::set;
 use std::io;
 use test_bytes::{argument, fill_state, number, session};
@@ -23,8 +24,7 @@ fn power(e: u32) -> u32 {
 
 // Case 1: Create into 0 as Frozen, State; Assign 0 to 1. Two identifiers.
 // "two plain identifiers, next 1".
-fn lend_case_1(context: &mut [u32], candidates: &mut [u32]) {
-    set(context, 1, 2);
+fn lend_case_1(candidates: &mut [u32]) {
     set(candidates, 0, 9);
     set(candidates, 11, 1);
     set(candidates, 12, 1);
@@ -34,14 +34,13 @@ fn lend_case_1(context: &mut [u32], candidates: &mut [u32]) {
 
 // The function of case 18: value 1 stands for function 0, whose one context place is x.
 // Two identifiers; the first option is on.
-fn lend_function(context: &mut [u32]) {
-    set(context, 0, 1);
-    set(context, 1, 2);
-    set(context, 2, 1);
-    set(context, 2051, 1);
-    set(context, 2052, 1);
-    set(context, 12485, 1);
-    set(context, 17607, 1);
+fn lend_function(context: &mut Context) {
+    context.options = 1;
+    context.function_count = 1;
+    set(context.functions, 0, 1);
+    set(context.functions, 1, 1);
+    set(context.contexts, 0, 1);
+    set(context.links, 2, 1);
 }
 
 // Case 18, f below g: p = {f}, f with context x = {f, g}, either option on; Freeze p never ends in the Rust.
@@ -59,41 +58,49 @@ fn lend_walk(values: &mut [u64], sets: &mut [u64]) {
 
 // Interned effect k of a full context: ImmutableCapture from identifier k % 512 into identifier k / 512.
 // 2,048 keys.
-fn intern_one(context: &mut [u32], k: u32) {
-    let at = 37830 + k as usize * 98;
-    set(context, at, 11);
-    set(context, at + 1, k % 512);
-    set(context, at + 6, k / 512);
+fn intern_one(effects: &mut [u32], k: u32) {
+    let at = k as usize * 98;
+    set(effects, at, 11);
+    set(effects, at + 1, k % 512);
+    set(effects, at + 6, k / 512);
 }
 
 // Place j of the order of these effects: by their source first, so that those of one source stand side by side.
 // ImmutableCapture from identifier j / 4 into identifier j % 4.
-fn order_one(context: &mut [u32], j: u32) {
-    set(context, 35269 + j as usize, j % 4 * 512 + j / 4);
+fn order_one(order: &mut [u32], j: u32) {
+    set(order, j as usize, j % 4 * 512 + j / 4);
 }
 
 // All 2,048 of them, and their order.
-fn intern_all(context: &mut [u32]) {
+fn intern_all(effects: &mut [u32], order: &mut [u32]) {
     for k in 0..2048 {
-        intern_one(context, k);
-        order_one(context, k);
+        intern_one(effects, k);
+        order_one(order, k);
     }
 }
 
 // Diagnostic k of a full context: case 0, sentence 0, own span k to k + 1 of identifier k.
 // 256 identities.
-fn report_one(context: &mut [u32], k: u32) {
-    let at = 32965 + k as usize * 9;
-    set(context, at, k);
-    set(context, at + 1, k);
-    set(context, at + 5, 4294967295);
-    set(context, at + 6, 4294967295);
+fn report_one(diagnostics: &mut [Numbered], k: u32) {
+    let diagnostic = Diagnostic {
+        identifier: k,
+        case: 0,
+        sentence: 0,
+        name: 0,
+        access: NO_SPAN,
+        own: Span { start: 0, end: 0 },
+    };
+    let x = Numbered {
+        identity: k,
+        diagnostic,
+    };
+    set(diagnostics, k as usize, x);
 }
 
 // All 256 of them.
-fn report_all(context: &mut [u32]) {
+fn report_all(diagnostics: &mut [Numbered]) {
     for k in 0..256 {
-        report_one(context, k);
+        report_one(diagnostics, k);
     }
 }
 
@@ -154,54 +161,54 @@ fn middle_code(j: u32) -> u32 {
 }
 
 // The record of that effect, of number k: from identifiers 0 to 16, two each; a Freeze with reason 0 or 1, the others into 18 or 19.
-fn middle_record(context: &mut [u32], k: u32, j: u32, code: u32) {
-    let at = 37830 + k as usize * 98;
-    set(context, at, code);
-    set(context, at + 1, j % 34 / 2);
+fn middle_record(effects: &mut [u32], k: u32, j: u32, code: u32) {
+    let at = k as usize * 98;
+    set(effects, at, code);
+    set(effects, at + 1, j % 34 / 2);
     if code == 0 {
-        set(context, at + 12, j % 2);
+        set(effects, at + 12, j % 2);
         return;
     }
-    set(context, at + 6, 18 + j % 2);
+    set(effects, at + 6, 18 + j % 2);
 }
 
 // Interned effect j by its key has the number j * 37 % 136, so that numbers and order differ.
-fn middle_effect(context: &mut [u32], j: u32) {
+fn middle_effect(effects: &mut [u32], order: &mut [u32], j: u32) {
     let k = j % 136 * 37 % 136;
-    set(context, 35269 + j as usize, k);
-    middle_record(context, k, j, middle_code(j));
+    set(order, j as usize, k);
+    middle_record(effects, k, j, middle_code(j));
 }
 
 // All 136 of them, and their order.
-fn middle_effects(context: &mut [u32]) {
+fn middle_effects(effects: &mut [u32], order: &mut [u32]) {
     for j in 0..136 {
-        middle_effect(context, j);
+        middle_effect(effects, order, j);
     }
 }
 
 // Context place p, of sixteen for each function: an identifier with the effect Capture.
-fn middle_place(context: &mut [u32], p: u32, i: u32) {
-    let at = 12485 + p as usize * 5;
-    set(context, at, i);
-    set(context, at + 1, 3);
+fn middle_place(contexts: &mut [u32], p: u32, i: u32) {
+    let at = p as usize * 5;
+    set(contexts, at, i);
+    set(contexts, at + 1, 3);
 }
 
 // Function f of middling tables: its effects are known, its context places are f, f + 1 and f + 2; it is the function of value f + 1.
-fn middle_function(context: &mut [u32], f: u32) {
+fn middle_function(context: &mut Context, f: u32) {
     let i = f % 8;
-    let at = 2051 + i as usize * 163;
-    let link = 17607 + i as usize * 2;
-    set(context, at, 1);
-    set(context, at + 1, 3);
-    middle_place(context, i * 16, i);
-    middle_place(context, i * 16 + 1, i + 1);
-    middle_place(context, i * 16 + 2, i + 2);
-    set(context, link, 1);
-    set(context, link + 1, i);
+    let at = i as usize * 163;
+    let link = 2 + i as usize * 2;
+    set(context.functions, at, 1);
+    set(context.functions, at + 1, 3);
+    middle_place(context.contexts, i * 16, i);
+    middle_place(context.contexts, i * 16 + 1, i + 1);
+    middle_place(context.contexts, i * 16 + 2, i + 2);
+    set(context.links, link, 1);
+    set(context.links, link + 1, i);
 }
 
 // All 8 of them.
-fn middle_functions(context: &mut [u32]) {
+fn middle_functions(context: &mut Context) {
     for f in 0..8 {
         middle_function(context, f);
     }
@@ -218,33 +225,32 @@ fn middle_turn(v: u32) -> u32 {
 }
 
 // The cached key of number v of middling tables, and its place in their order: Create into v % 20 as Mutable, with reason v / 20.
-// 60 keys; their order stands from word 37,318 on.
-fn middle_key(context: &mut [u32], v: u32) {
-    let at = 18629 + v as usize * 28;
-    set(context, at, 1);
-    set(context, at + 1, 9);
-    set(context, at + 4, 1);
-    set(context, at + 5, v % 20);
-    set(context, at + 7, v / 20);
-    set(context, 37317 + middle_turn(v) as usize, v);
+// 60 keys.
+fn middle_key(keys: &mut [u32], order: &mut [u32], v: u32) {
+    let at = v as usize * 28;
+    set(keys, at, 1);
+    set(keys, at + 1, 9);
+    set(keys, at + 4, 1);
+    set(keys, at + 5, v % 20);
+    set(keys, at + 7, v / 20);
+    set(order, middle_turn(v).saturating_sub(1) as usize, v);
 }
 
 // Those of the numbers 1 to 60.
-fn middle_keys(context: &mut [u32]) {
+fn middle_keys(keys: &mut [u32], order: &mut [u32]) {
     for v in 1..61 {
-        middle_key(context, v);
+        middle_key(keys, order, v);
     }
 }
 
-// A middling context: 20 identifiers, 8 functions, 60 cached numbers, 136 interned effects.
-fn lend_middle(context: &mut [u32]) {
-    set(context, 1, 20);
-    set(context, 2, 8);
-    set(context, 12483, 136);
-    set(context, 37317, 60);
+// A middling context: 8 functions, 60 cached numbers, 136 interned effects.
+fn lend_middle(context: &mut Context) {
+    context.function_count = 8;
+    context.effect_count = 136;
+    context.key_count = 60;
     middle_functions(context);
-    middle_keys(context);
-    middle_effects(context);
+    middle_keys(context.keys, context.key_order);
+    middle_effects(context.effects, context.effect_order);
 }
 
 // A candidate of middling tables: its record, code, source and destination.
@@ -267,12 +273,11 @@ fn middle_candidates(candidates: &mut [u32]) {
 
 // A full context, and an ImmutableCapture that is interned already: the call can be made again and again.
 // 512 identifiers, 2,048 interned effects, 256 diagnostics.
-fn lend_full(context: &mut [u32], candidates: &mut [u32]) {
-    set(context, 1, 512);
-    set(context, 12483, 2048);
-    set(context, 12484, 256);
-    intern_all(context);
-    report_all(context);
+fn lend_full(context: &mut Context, candidates: &mut [u32]) {
+    context.effect_count = 2048;
+    context.diagnostic_count = 256;
+    intern_all(context.effects, context.effect_order);
+    report_all(context.diagnostics);
     set(candidates, 0, 11);
     set(candidates, 1, 5);
     set(candidates, 6, 1);
@@ -284,11 +289,11 @@ fn lend(
     kind: u32,
     values: &mut [u64],
     sets: &mut [u64],
-    context: &mut [u32],
+    context: &mut Context,
     candidates: &mut [u32],
 ) {
     match kind {
-        1 => lend_case_1(context, candidates),
+        1 => lend_case_1(candidates),
         2 => {
             fill_state(values, sets);
             lend_full(context, candidates);
@@ -307,24 +312,64 @@ fn lend(
 }
 
 // The call n times over one state, context and session, on tables of the lengths of a case; refusal and count of the last, as 1,000,000 times the refusal, and the count.
+// Words of sets, identifiers, functions and context places, room for effects, words of candidates and of both scratches.
 // The lvalue is identifier 1, and there is no own function. The first call may intern and number, the others find it; with 0 repetitions the tables are lent, and nothing is called.
-fn measure<const SETS: usize, const CONTEXT: usize, const CANDIDATES: usize, const SCRATCH: usize>(
+fn measure<
+    const SETS: usize,
+    const IDENTIFIERS: usize,
+    const FUNCTIONS: usize,
+    const CONTEXTS: usize,
+    const EFFECTS: usize,
+    const ORDER: usize,
+    const CANDIDATES: usize,
+    const SCRATCH64: usize,
+    const SCRATCH32: usize,
+>(
     kind: u32,
     n: u32,
     next: u32,
 ) -> u64
     requires sets { SETS < 1000000 }
-    requires context { CONTEXT < 1000000 }
+    requires identifiers { IDENTIFIERS < 1000000 }
+    requires functions { FUNCTIONS < 1000000 }
+    requires contexts { CONTEXTS < 1000000 }
+    requires effects { EFFECTS < 1000000 }
+    requires order { ORDER < 1000000 }
     requires candidates { CANDIDATES < 1000000 }
-    requires scratch { SCRATCH < 1000000 }
+    requires scratch64 { SCRATCH64 < 1000000 }
+    requires scratch32 { SCRATCH32 < 1000000 }
 {
     let mut values = [0u64; 1024];
     let mut sets = [0u64; SETS];
-    let mut context = [0u32; CONTEXT];
+    let mut identifiers = [0u32; IDENTIFIERS];
+    let mut functions = [0u32; FUNCTIONS];
+    let mut contexts = [0u32; CONTEXTS];
+    let mut links = [0u32; 1024];
+    let mut keys = [0u32; 14336];
+    let mut key_order = [0u32; 512];
+    let mut effects = [0u32; EFFECTS];
+    let mut effect_order = [0u32; ORDER];
+    let mut diagnostics = [UNUSED; 256];
     let mut candidates = [0u32; CANDIDATES];
     let mut output = [0u32; 109760];
-    let mut scratch64 = [0u64; SCRATCH];
-    let mut scratch32 = [0u32; 25347];
+    let mut scratch64 = [0u64; SCRATCH64];
+    let mut scratch32 = [0u32; SCRATCH32];
+    let mut context = Context {
+        options: 0,
+        function_count: 0,
+        effect_count: 0,
+        key_count: 0,
+        diagnostic_count: 0,
+        identifiers: &mut identifiers,
+        functions: &mut functions,
+        contexts: &mut contexts,
+        links: &mut links,
+        keys: &mut keys,
+        key_order: &mut key_order,
+        effects: &mut effects,
+        effect_order: &mut effect_order,
+        diagnostics: &mut diagnostics,
+    };
     lend(kind, &mut values, &mut sets, &mut context, &mut candidates);
     let lvalue = Place {
         identifier: 1,
@@ -360,16 +405,16 @@ fn measure<const SETS: usize, const CONTEXT: usize, const CANDIDATES: usize, con
 }
 
 // The tables of case 1 have room for 8 interned effects; the first call needs 3, and the others, which find three, 6.
-// Middling ones have room for 144: 136, the 7 that the candidates need, and one more. The others' context has the largest length.
+// Middling ones have room for 144: 136, the 7 that the candidates need, and one more. The others' context has the largest lengths.
 fn main(rt: HostRuntime) -> io::Result<()> {
     let mut text = [0u8; 16];
     let kind = number(argument(&rt, 1, &mut text));
     let n = power(number(argument(&rt, 2, &mut text)));
     let last = match kind {
-        1 => measure::<32, 38614, 196, 1056>(kind, n, 1),
-        2 => measure::<8192, 238534, 98, 9216>(kind, n, 512),
-        4 => measure::<320, 51942, 392, 1344>(kind, n, 61),
-        _ => measure::<32, 238534, 98, 1056>(kind, n, 3),
+        1 => measure::<32, 8, 0, 0, 784, 8, 196, 1056, 15880>(kind, n, 1),
+        2 => measure::<8192, 2048, 10432, 5120, 200704, 2048, 98, 9216, 23040>(kind, n, 512),
+        4 => measure::<320, 80, 1304, 640, 14112, 144, 392, 1344, 16656>(kind, n, 61),
+        _ => measure::<32, 8, 10432, 5120, 200704, 2048, 98, 1056, 23040>(kind, n, 3),
     };
     println!(rt; "{last}")
 }

@@ -6,6 +6,7 @@ ghost use Rattle.std.specs.Prelude.{◌≤◌, ◌<◌, IfSome, length};
 
 use def_refusals::Refusal;
 use image_pieces::Shown;
+use lent_layout::{Context, Numbered, UNUSED};
 use std::env::FillError;
 use std::io::Read;
 use std::rt::{Env, Runtime};
@@ -20,11 +21,19 @@ struct Memory {
     words: [u32; 16384],
     values: [u64; 1024],
     sets: [u64; 8192],
-    context: [u32; lent_layout::CONTEXT_WORDS],
+    identifiers: [u32; 2048],
+    functions: [u32; 10432],
+    contexts: [u32; 5120],
+    links: [u32; 1024],
+    keys: [u32; 14336],
+    key_order: [u32; 512],
+    effects: [u32; 200704],
+    effect_order: [u32; 2048],
+    diagnostics: [Numbered; lent_layout::DIAGNOSTICS],
     candidates: [u32; lent_layout::CANDIDATE_WORDS],
     output: [u32; lent_layout::OUTPUT_WORDS],
     scratch64: [u64; 9216],
-    scratch32: [u32; lent_layout::SAVED_WORDS],
+    scratch32: [u32; lent_layout::MOST_SAVED],
     buffer: [u8; image_pieces::PIECE_BYTES],
     recorded: [u8; image_pieces::PIECE_BYTES],
 }
@@ -153,12 +162,28 @@ fn same_listing(
 // One record: an image is read, put through `infer_image`, and its listing compared. None where it does not stand whole in the file.
 fn replay_record(file: &mut impl Read, memory: &mut Memory) -> Option<bool> {
     let n = read_image(file, &mut memory.image)?;
+    let mut context = Context {
+        options: 0,
+        function_count: 0,
+        effect_count: 0,
+        key_count: 0,
+        diagnostic_count: 0,
+        identifiers: &mut memory.identifiers,
+        functions: &mut memory.functions,
+        contexts: &mut memory.contexts,
+        links: &mut memory.links,
+        keys: &mut memory.keys,
+        key_order: &mut memory.key_order,
+        effects: &mut memory.effects,
+        effect_order: &mut memory.effect_order,
+        diagnostics: &mut memory.diagnostics,
+    };
     let shown = image_infer::infer_image(
         &memory.image[..n],
         &mut memory.words,
         &mut memory.values,
         &mut memory.sets,
-        &mut memory.context,
+        &mut context,
         &mut memory.candidates,
         &mut memory.output,
         &mut memory.scratch64,
@@ -222,11 +247,19 @@ fn main(rt: HostRuntime) -> io::Result<()> {
         words: [0; 16384],
         values: [0; 1024],
         sets: [0; 8192],
-        context: [0; lent_layout::CONTEXT_WORDS],
+        identifiers: [0; 2048],
+        functions: [0; 10432],
+        contexts: [0; 5120],
+        links: [0; 1024],
+        keys: [0; 14336],
+        key_order: [0; 512],
+        effects: [0; 200704],
+        effect_order: [0; 2048],
+        diagnostics: [UNUSED; lent_layout::DIAGNOSTICS],
         candidates: [0; lent_layout::CANDIDATE_WORDS],
         output: [0; lent_layout::OUTPUT_WORDS],
         scratch64: [0; 9216],
-        scratch32: [0; lent_layout::SAVED_WORDS],
+        scratch32: [0; lent_layout::MOST_SAVED],
         buffer: [0; image_pieces::PIECE_BYTES],
         recorded: [0; image_pieces::PIECE_BYTES],
     };
