@@ -1,13 +1,14 @@
--- Every read of a lent context is the one of the plain tables that its words mean: a wrong word or flag is refused here.
+-- Every read of a lent context is the one of the plain tables that its slices mean: a wrong word or flag is refused here.
 -- (The searches along an order: `proofs/Laws/Ordered.antt`, `proofs/Laws/Numbered.antt`.) Assumes nothing.
-use Rattle.std.specs.Prelude.{ℕ, ◌≡◌, List}
+use Rattle.std.specs.Prelude.{ℕ, ◌≡◌}
 use Rattle.std.proofs.Math.Path.{refl}
 use Rattle.def_transfer.specs.Diagnostics.{Diagnostic}
 use Rattle.def_transfer.specs.Pure.{pure}
+use Rattle.lent_layout.specs.Context.{ContextWords}
 use Rattle.lent_context.specs.Lent as Lent
 use Rattle.lent_context.specs.Abstract.{abstract}
 
-module _ (c : List ℕ) where
+module _ (c : ContextWords) where
   pub key_is : (v : ℕ) → Lent.key_at c v ≡ pure.key_at (abstract c) v
   unfolding Lent.key_at
   key_is v = refl
@@ -49,13 +50,13 @@ module _ (c : List ℕ) where
   transitive_is = refl
 
   pub identities_is : Lent.identity_count c ≡ pure.identity_count (abstract c)
-  unfolding Lent.identity_count Lent.instance_count
+  unfolding Lent.identity_count
   identities_is = refl
 
   pub identity_is : (d : Diagnostic) → Lent.find_identity c d ≡ pure.find_identity (abstract c) d
-  unfolding Lent.find_identity Lent.instance_count
+  unfolding Lent.find_identity
   identity_is d = refl
 
   pub instance_is : (m : ℕ) (d : Diagnostic) → Lent.find_instance c m d ≡ pure.find_instance (abstract c) m d
-  unfolding Lent.find_instance Lent.instance_count
+  unfolding Lent.find_instance
   instance_is m d = refl

@@ -1,5 +1,5 @@
 -- Laws by which the code of a context's tables meets the definitions. Assumes nothing.
-use Rattle.std.specs.Prelude.{ℕ, suc, ◌+◌, ◌-◌, ◌*◌, ◌/◌, ◌%◌, ◌≤◌, ◌<◌, ◌≡◌, Bool, not, ◌&&◌, List, get_or, Option, Some}
+use Rattle.std.specs.Prelude.{ℕ, suc, ◌+◌, ◌-◌, ◌*◌, ◌/◌, ◌%◌, ◌≤◌, ◌<◌, ◌≡◌, Bool, ◌&&◌, List, Option, Some}
 use Rattle.std.proofs.Common.{arith, add-one, ap, ◌∙◌}
 use Rattle.std.proofs.Math.Path.{sym, ap₂}
 use Rattle.std.proofs.Math.Dec.{eqb}
@@ -13,56 +13,52 @@ use Rattle.lent_tables.specs.declared.Table.{Table}
 use Rattle.lent_tables.specs.Words.{field, put_field, place_in}
 use Rattle.lent_keys.specs.KeyRecords.{option_in, put_option}
 use Rattle.lent_layout.specs.Layout as Layout
-use Rattle.lent_context.specs.Lent.{link_of, put_link, has_tracked_side_effect, read_place, read_places, make_read, is_ref, is_hoisted, access_span, name_of, is_transitive}
+use Rattle.lent_layout.specs.Context.{ContextWords, with_links, with_contexts}
+use Rattle.lent_context.specs.Lent.{link_of, put_link, has_tracked_side_effect, read_place, read_places, make_read, is_ref, is_hoisted, access_span, name_of}
 
 -- ---- plain reads: the code widens a number, and reads a word
 
--- whether a freeze is transitive is one test of a word
-pub transitive_is : (c : List ℕ) (x : ℕ) → x ≡ get_or c 0 0 → not (eqb x 0) ≡ is_transitive c
-unfolding is_transitive
-transitive_is c x e = ap (λ (y : ℕ). not (eqb y 0)) e
-
 -- whether a function has a tracked side effect is a bit of its flags
 -- the function's number is widened
-pub tracked_is : (c : List ℕ) (f i x : ℕ) → i ≡ f → x ≡ field Layout.functions c i 0 → eqb (x / 2 % 2) 1 ≡ has_tracked_side_effect c f
+pub tracked_is : (c : ContextWords) (f i x : ℕ) → i ≡ f → x ≡ field Layout.functions c.functions i 0 → eqb (x / 2 % 2) 1 ≡ has_tracked_side_effect c f
 unfolding has_tracked_side_effect
-tracked_is c f i x e g = ap (λ (y : ℕ). eqb (y / 2 % 2) 1) (g ∙ ap (λ (j : ℕ). field Layout.functions c j 0) e)
+tracked_is c f i x e g = ap (λ (y : ℕ). eqb (y / 2 % 2) 1) (g ∙ ap (λ (j : ℕ). field Layout.functions c.functions j 0) e)
 
 -- whether an identifier is a ref is a bit of its flags
 -- the identifier's number is widened
-pub ref_is : (c : List ℕ) (f i x : ℕ) → i ≡ f → x ≡ field Layout.identifiers c i 0 → eqb (x % 2) 1 ≡ is_ref c f
+pub ref_is : (c : ContextWords) (f i x : ℕ) → i ≡ f → x ≡ field Layout.identifiers c.identifiers i 0 → eqb (x % 2) 1 ≡ is_ref c f
 unfolding is_ref
-ref_is c f i x e g = ap (λ (y : ℕ). eqb (y % 2) 1) (g ∙ ap (λ (j : ℕ). field Layout.identifiers c j 0) e)
+ref_is c f i x e g = ap (λ (y : ℕ). eqb (y % 2) 1) (g ∙ ap (λ (j : ℕ). field Layout.identifiers c.identifiers j 0) e)
 
 -- whether an identifier is hoisted is a bit of its flags
 -- the identifier's number is widened
-pub hoisted_is : (c : List ℕ) (f i x : ℕ) → i ≡ f → x ≡ field Layout.identifiers c i 0 → eqb (x / 2 % 2) 1 ≡ is_hoisted c f
+pub hoisted_is : (c : ContextWords) (f i x : ℕ) → i ≡ f → x ≡ field Layout.identifiers c.identifiers i 0 → eqb (x / 2 % 2) 1 ≡ is_hoisted c f
 unfolding is_hoisted
-hoisted_is c f i x e g = ap (λ (y : ℕ). eqb (y / 2 % 2) 1) (g ∙ ap (λ (j : ℕ). field Layout.identifiers c j 0) e)
+hoisted_is c f i x e g = ap (λ (y : ℕ). eqb (y / 2 % 2) 1) (g ∙ ap (λ (j : ℕ). field Layout.identifiers c.identifiers j 0) e)
 
 -- the name of an identifier is a word
 -- the identifier's number is widened
-pub name_is : (c : List ℕ) (f i x : ℕ) → i ≡ f → x ≡ field Layout.identifiers c i 1 → x ≡ name_of c f
+pub name_is : (c : ContextWords) (f i x : ℕ) → i ≡ f → x ≡ field Layout.identifiers c.identifiers i 1 → x ≡ name_of c f
 unfolding name_of
-name_is c f i x e g = g ∙ ap (λ (j : ℕ). field Layout.identifiers c j 1) e
+name_is c f i x e g = g ∙ ap (λ (j : ℕ). field Layout.identifiers c.identifiers j 1) e
 
 -- the access span of an identifier is two words
 -- the identifier's number is widened for each
-pub access_is : (c : List ℕ) (f i x j y : ℕ) → i ≡ f → x ≡ field Layout.identifiers c i 2 → j ≡ f → y ≡ field Layout.identifiers c j 3 → ◌≡◌ {A = Span} (record { start = x; end = y }) (access_span c f)
+pub access_is : (c : ContextWords) (f i x j y : ℕ) → i ≡ f → x ≡ field Layout.identifiers c.identifiers i 2 → j ≡ f → y ≡ field Layout.identifiers c.identifiers j 3 → ◌≡◌ {A = Span} (record { start = x; end = y }) (access_span c f)
 unfolding access_span
-access_is c f i x j y e g h k = ap₂ (λ (u v : ℕ). record { start = u; end = v }) (g ∙ ap (λ (n : ℕ). field Layout.identifiers c n 2) e) (k ∙ ap (λ (n : ℕ). field Layout.identifiers c n 3) h)
+access_is c f i x j y e g h k = ap₂ (λ (u v : ℕ). record { start = u; end = v }) (g ∙ ap (λ (n : ℕ). field Layout.identifiers c.identifiers n 2) e) (k ∙ ap (λ (n : ℕ). field Layout.identifiers c.identifiers n 3) h)
 
 -- the function of a value is a number that may be absent
 -- the value's number is widened
-pub link_is : (c : List ℕ) (v i : ℕ) (o : Option ℕ) → i ≡ v → o ≡ option_in Layout.links c i 0 → o ≡ link_of c v
+pub link_is : (c : ContextWords) (v i : ℕ) (o : Option ℕ) → i ≡ v → o ≡ option_in Layout.links c.links i 0 → o ≡ link_of c v
 unfolding link_of
-link_is c v i o e g = g ∙ ap (λ (j : ℕ). option_in Layout.links c j 0) e
+link_is c v i o e g = g ∙ ap (λ (j : ℕ). option_in Layout.links c.links j 0) e
 
 -- a value gets a function
 -- the value's number is widened
-pub link_put : (c d : List ℕ) (v f i : ℕ) → i ≡ v → d ≡ put_option Layout.links c i 0 (Some f) → d ≡ put_link c v f
+pub link_put : (c : ContextWords) (ls : List ℕ) (v f i : ℕ) → i ≡ v → ls ≡ put_option Layout.links c.links i 0 (Some f) → with_links ls c ≡ put_link c v f
 unfolding put_link
-link_put c d v f i e g = g ∙ ap (λ (j : ℕ). put_option Layout.links c j 0 (Some f)) e
+link_put c ls v f i e g = ap (λ (l : List ℕ). with_links l c) (g ∙ ap (λ (j : ℕ). put_option Layout.links c.links j 0 (Some f)) e)
 
 -- a word of a record of any table, and a place
 -- the record's number is widened
@@ -122,9 +118,14 @@ reads_more f i k n c d h e =
 
 -- the last place is done
 -- the loop's end is the whole
-pub reads_none : (f i k n : ℕ) (c₀ c : List ℕ) → n ≡ field Layout.functions c₀ f 1 → n ≤ k → read_places f i 0 (n - 0) c₀ ≡ read_places f i k (n - k) c → c ≡ make_read c₀ f i
-unfolding make_read read_places
-reads_none f i k n c₀ c e h g =
+pub reads_none : (f i k n : ℕ) (c d : List ℕ) → n ≤ k → read_places f i 0 (n - 0) c ≡ read_places f i k (n - k) d → d ≡ read_places f i 0 n c
+unfolding read_places
+reads_none f i k n c d h g =
     let m : n - k ≡ 0 = omega arith in
     let a : n - 0 ≡ n = omega arith in
-    sym (g ∙ ap (λ (z : ℕ). read_places f i k z c) m) ∙ ap (λ (z : ℕ). read_places f i 0 z c₀) (a ∙ e)
+    sym (g ∙ ap (λ (z : ℕ). read_places f i k z d) m) ∙ ap (λ (z : ℕ). read_places f i 0 z c) a
+
+-- all the context places of a function
+pub reads_made : (f i n : ℕ) (c : ContextWords) (ps : List ℕ) → n ≡ field Layout.functions c.functions f 1 → ps ≡ read_places f i 0 n c.contexts → with_contexts ps c ≡ make_read c f i
+unfolding make_read
+reads_made f i n c ps e h = ap (λ (l : List ℕ). with_contexts l c) (h ∙ ap (λ (z : ℕ). read_places f i 0 z c.contexts) e)

@@ -4,7 +4,7 @@ use Prim.Native.Nat.{ℕ, zero, suc, ◌+◌, ◌≤◌, ◌<◌}
 use native.Mathlib.Omega.{arith}
 use Rattle.std.proofs.Math.Path.{◌≡◌, refl, sym, ap}
 use Rattle.std.proofs.Common.{◌∙◌, subst}
-use Rattle.std.specs.Prelude.{Bool, List, Option, None, Some, Result, Ok, Err}
+use Rattle.std.specs.Prelude.{Bool, Option, None, Some, Result, Ok, Err}
 use Rattle.std.proofs.Math.Bool.{true, false}
 use Rattle.std.proofs.Math.Logic.{⊎_elim}
 use lib.Dec.{eqb}
@@ -26,33 +26,34 @@ use Rattle.lent_tables.specs.Words.{field}
 use Rattle.lent_keys.specs.KeyRecords.{key_in}
 use Rattle.lent_order.specs.Order.{order_at}
 use Rattle.lent_layout.specs.Layout as Layout
+use Rattle.lent_layout.specs.Context.{ContextWords}
 use Rattle.lent_context.specs.Lent.{key_at, is_keyed, key_here, key_count, key_spot, number_at, find_number}
 use Rattle.lent_context.specs.Abstract.{abstract}
 
 -- what the order of n cached keys has to be; number 0 is no value number and has none
 -- "two entries of one key, wrong order" earn 4
-pub record NumberedTo (n : ℕ) (c : List ℕ) : Type 0 where
-  pub inside : (j : ℕ) → j < n → order_at Layout.key_order c j < 512
-  pub there : (j : ℕ) → j < n → is_keyed c (order_at Layout.key_order c j) ≡ true
-  pub ascends : Ascends keys (key_here c) (order_at Layout.key_order c) n
+pub record NumberedTo (n : ℕ) (c : ContextWords) : Type 0 where
+  pub inside : (j : ℕ) → j < n → order_at Layout.key_order c.key_order j < 512
+  pub there : (j : ℕ) → j < n → is_keyed c (order_at Layout.key_order c.key_order j) ≡ true
+  pub ascends : Ascends keys (key_here c) (order_at Layout.key_order c.key_order) n
   pub counted : how_many (is_keyed c) 512 ≡ n
   pub zero_none : is_keyed c 0 ≡ false
 
-abbrev pub Numbered : List ℕ → Type 0
+abbrev pub Numbered : ContextWords → Type 0
 Numbered c = NumberedTo (key_count c) c
 
 -- ---- on any words
 
-module _ (c : List ℕ) (v : ℕ) where
+module _ (c : ContextWords) (v : ℕ) where
   -- a number with a key
   pub keyed_at : is_keyed c v ≡ true → key_at c v ≡ Some (key_here c v)
   unfolding is_keyed key_at key_in key_here
-  keyed_at e = ite_no (eqb (field Layout.cached c v 0) 0) None (Some _) (not_true _ e)
+  keyed_at e = ite_no (eqb (field Layout.cached c.keys v 0) 0) None (Some _) (not_true _ e)
 
   -- a number without one
   pub keyless_at : is_keyed c v ≡ false → key_at c v ≡ None
   unfolding is_keyed key_at key_in
-  keyless_at e = ite_yes (eqb (field Layout.cached c v 0) 0) None (Some _) (not-false _ e)
+  keyless_at e = ite_yes (eqb (field Layout.cached c.keys v 0) 0) None (Some _) (not-false _ e)
 
   -- whether it has one, by what is read
   pub keyed_if : (k : EffectKey) → key_at c v ≡ Some k → is_keyed c v ≡ true
@@ -73,15 +74,15 @@ some_eq : {A : Type 0} (a b : A) → Some a ≡ Some b → a ≡ b
 some_eq a b e = cc
 
 -- what is found under a key has that key
-pub number_found : (c : List ℕ) (k : EffectKey) (n : ℕ) → find_number c k ≡ Some n → key_at c n ≡ Some k
+pub number_found : (c : ContextWords) (k : EffectKey) (n : ℕ) → find_number c k ≡ Some n → key_at c n ≡ Some k
 unfolding find_number key_spot keys
-number_found c k n h = go (key_spot c k) (along_finds (λ j. compare_keys k (key_here c (order_at Layout.key_order c j))) (key_count c)) h
+number_found c k n h = go (key_spot c k) (along_finds (λ j. compare_keys k (key_here c (order_at Layout.key_order c.key_order j))) (key_count c)) h
   where
-    go : (s : Result ℕ ℕ) → Finds (λ j. compare_keys k (key_here c (order_at Layout.key_order c j))) 0 (key_count c) s → number_at c s ≡ Some n → key_at c n ≡ Some k
-    go (Ok j) f q = by (is_keyed c (order_at Layout.key_order c j)) refl q
+    go : (s : Result ℕ ℕ) → Finds (λ j. compare_keys k (key_here c (order_at Layout.key_order c.key_order j))) 0 (key_count c) s → number_at c s ≡ Some n → key_at c n ≡ Some k
+    go (Ok j) f q = by (is_keyed c (order_at Layout.key_order c.key_order j)) refl q
       where
         r : ℕ
-        r = order_at Layout.key_order c j
+        r = order_at Layout.key_order c.key_order j
 
         by : (b : Bool) → is_keyed c r ≡ b → ite b (Some r) None ≡ Some n → key_at c n ≡ Some k
         by true e x = ap (key_at c) (sym (some_eq r n x)) ∙ keyed_at c r e ∙ ap Some (sym (keys.equal k (key_here c r) f.0))
@@ -124,9 +125,9 @@ module _ (f : ℕ → Option EffectKey) (k : EffectKey) where
 
 -- ---- the search by halves finds it
 
-module _ (c : List ℕ) (o : Numbered c) (k : EffectKey) where
+module _ (c : ContextWords) (o : Numbered c) (k : EffectKey) where
   abbrev ord : ℕ → ℕ
-  ord = order_at Layout.key_order c
+  ord = order_at Layout.key_order c.key_order
 
   -- a number that has a key
   pub record Keyed (v : ℕ) : Type 0 where
@@ -170,7 +171,7 @@ module _ (c : List ℕ) (o : Numbered c) (k : EffectKey) where
   -- where it finds nothing, the key stands between two neighbours
   abbrev pub Apart : Result ℕ ℕ → Type 0
   Apart (Ok j) = ⊥
-  Apart (Err p) = (p ≤ key_count c) × Between (λ j. compare_keys k (key_here c (order_at Layout.key_order c j))) (key_count c) p
+  Apart (Err p) = (p ≤ key_count c) × Between (λ j. compare_keys k (key_here c (order_at Layout.key_order c.key_order j))) (key_count c) p
 
   pub stands_apart : find_number c k ≡ None → Apart (key_spot c k)
   unfolding find_number keys

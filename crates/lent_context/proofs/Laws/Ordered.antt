@@ -20,30 +20,31 @@ use Rattle.lent_tables.specs.declared.Table.{Table}
 use Rattle.lent_effects.specs.Records.{effect_in}
 use Rattle.lent_order.specs.Order.{order_at}
 use Rattle.lent_layout.specs.Layout as Layout
+use Rattle.lent_layout.specs.Context.{ContextWords}
 use Rattle.lent_context.specs.Lent.{effects_in, interned_count, interned_key, effect_spot, effect_at, find_effect}
 use Rattle.lent_context.specs.Abstract.{abstract}
 use Rattle.lent_context.proofs.Laws.Search.{search_ends, search_goes, search_none}
 
 -- what the order of n effects has to be: each place names one of them, neighbours ascend
 -- "wrong order" earns 4
-pub record OrderedTo (n : ℕ) (c : List ℕ) : Type 0 where
-  pub inside : (j : ℕ) → j < n → order_at Layout.effect_order c j < n
-  pub ascends : Ascends keys (interned_key c) (order_at Layout.effect_order c) n
+pub record OrderedTo (n : ℕ) (c : ContextWords) : Type 0 where
+  pub inside : (j : ℕ) → j < n → order_at Layout.effect_order c.effect_order j < n
+  pub ascends : Ascends keys (interned_key c) (order_at Layout.effect_order c.effect_order) n
 
-abbrev pub Ordered : List ℕ → Type 0
+abbrev pub Ordered : ContextWords → Type 0
 Ordered c = OrderedTo (interned_count c) c
 
 -- ---- on any words: what is found under a key has that key
 
-pub found_under : (c : List ℕ) (k : EffectKey) (e : AliasingEffect) → find_effect c k ≡ Some e → k ≡ effect_key e
+pub found_under : (c : ContextWords) (k : EffectKey) (e : AliasingEffect) → find_effect c k ≡ Some e → k ≡ effect_key e
 unfolding find_effect effect_spot keys
-found_under c k e h = go (effect_spot c k) (along_finds (λ j. compare_keys k (interned_key c (order_at Layout.effect_order c j))) (interned_count c)) h
+found_under c k e h = go (effect_spot c k) (along_finds (λ j. compare_keys k (interned_key c (order_at Layout.effect_order c.effect_order j))) (interned_count c)) h
   where
     some_eq : (a b : AliasingEffect) → Some a ≡ Some b → a ≡ b
     some_eq a b e = cc
 
-    go : (s : Result ℕ ℕ) → Finds (λ j. compare_keys k (interned_key c (order_at Layout.effect_order c j))) 0 (interned_count c) s → effect_at c s ≡ Some e → k ≡ effect_key e
-    go (Ok j) f q = keys.equal k (interned_key c (order_at Layout.effect_order c j)) f.0 ∙ ap effect_key (some_eq _ e q)
+    go : (s : Result ℕ ℕ) → Finds (λ j. compare_keys k (interned_key c (order_at Layout.effect_order c.effect_order j))) 0 (interned_count c) s → effect_at c s ≡ Some e → k ≡ effect_key e
+    go (Ok j) f q = keys.equal k (interned_key c (order_at Layout.effect_order c.effect_order j)) f.0 ∙ ap effect_key (some_eq _ e q)
     go (Err p) f q = cc
 
 -- ---- the first of some effects under a key
@@ -85,33 +86,32 @@ module _ (t : Table) (c : List ℕ) (key : EffectKey) where
 
 -- ---- the search by halves finds it
 
-module _ (c : List ℕ) (o : Ordered c) (k : EffectKey) where
-  says : Says keys (interned_key c) (order_at Layout.effect_order c) (interned_count c) o.ascends o.inside k (effect_spot c k)
+module _ (c : ContextWords) (o : Ordered c) (k : EffectKey) where
+  says : Says keys (interned_key c) (order_at Layout.effect_order c.effect_order) (interned_count c) o.ascends o.inside k (effect_spot c k)
   unfolding effect_spot keys
-  says = search_says keys (interned_key c) (order_at Layout.effect_order c) (interned_count c) o.ascends o.inside k
+  says = search_says keys (interned_key c) (order_at Layout.effect_order c.effect_order) (interned_count c) o.ascends o.inside k
 
-  pub first_under_is : find_effect c k ≡ first_under (effects_in Layout.interned c 0 (interned_count c)) k
+  pub first_under_is : find_effect c k ≡ first_under (effects_in Layout.interned c.effects 0 (interned_count c)) k
   unfolding find_effect
   first_under_is = go (effect_spot c k) says
     where
-      go : (s : Result ℕ ℕ) → Says keys (interned_key c) (order_at Layout.effect_order c) (interned_count c) o.ascends o.inside k s → effect_at c s ≡ first_under (effects_in Layout.interned c 0 (interned_count c)) k
-      go (Ok j) h = sym (first_at Layout.interned c k 0 (interned_count c) (order_at Layout.effect_order c j) (omega arith) (let z = o.inside j h.1 in omega arith) h.0 (λ s l e. h.2 s (omega arith) e))
-      go (Err p) h = sym (first_none Layout.interned c k 0 (interned_count c) (λ s l e. h.1 s (omega arith) e))
+      go : (s : Result ℕ ℕ) → Says keys (interned_key c) (order_at Layout.effect_order c.effect_order) (interned_count c) o.ascends o.inside k s → effect_at c s ≡ first_under (effects_in Layout.interned c.effects 0 (interned_count c)) k
+      go (Ok j) h = sym (first_at Layout.interned c.effects k 0 (interned_count c) (order_at Layout.effect_order c.effect_order j) (omega arith) (let z = o.inside j h.1 in omega arith) h.0 (λ s l e. h.2 s (omega arith) e))
+      go (Err p) h = sym (first_none Layout.interned c.effects k 0 (interned_count c) (λ s l e. h.1 s (omega arith) e))
 
   -- the search of a context in order is the plain one
   pub effect_is : find_effect c k ≡ pure.find_effect (abstract c) k
-  unfolding interned_count
   effect_is = first_under_is
 
   -- where it finds nothing, the key stands between two neighbours
   abbrev pub Parts : Result ℕ ℕ → Type 0
   Parts (Ok j) = Unit {0}
-  Parts (Err p) = (p ≤ interned_count c) × Between (λ j. compare_keys k (interned_key c (order_at Layout.effect_order c j))) (interned_count c) p
+  Parts (Err p) = (p ≤ interned_count c) × Between (λ j. compare_keys k (interned_key c (order_at Layout.effect_order c.effect_order j))) (interned_count c) p
 
   pub parts : Parts (effect_spot c k)
   unfolding keys
   parts = go (effect_spot c k) says
     where
-      go : (s : Result ℕ ℕ) → Says keys (interned_key c) (order_at Layout.effect_order c) (interned_count c) o.ascends o.inside k s → Parts s
+      go : (s : Result ℕ ℕ) → Says keys (interned_key c) (order_at Layout.effect_order c.effect_order) (interned_count c) o.ascends o.inside k s → Parts s
       go (Ok j) h = tt
       go (Err p) h = (h.0, h.2)

@@ -1,4 +1,4 @@
--- Context places made Read: in the words as in the list. Assumes nothing.
+-- Context places made Read: in their slice as in the list. Assumes nothing.
 use Prim.Native.Nat.{ℕ, zero, suc, ◌+◌, ◌*◌, ◌≤◌, ◌<◌}
 use Rattle.std.specs.Prelude.{◌≡◌, Bool, ◌&&◌}
 use Rattle.std.proofs.Math.Path.{refl, ap, ap₂}
@@ -13,11 +13,12 @@ use Rattle.base_tests.specs.Tests.{ite}
 use Rattle.def_effects.specs.declared.Place.{Place}
 use Rattle.def_effects.specs.Places.{Capture, Read}
 use Rattle.def_transfer.specs.Pure.{read_only}
-use Rattle.lent_tables.specs.Words.{within, field, put_field, place_in, places_in, end}
+use Rattle.lent_tables.specs.Words.{within, field, put_field, place_in, places_in}
 use Rattle.lent_tables.proofs.Laws.Word.{within_record, within_word, field_out, put_length, put_record}
 use Rattle.lent_layout.specs.Layout as Layout
+use Rattle.lent_layout.specs.Context.{ContextWords}
 use Rattle.lent_context.specs.Lent.{read_place, read_places, make_read}
-use Rattle.lent_tables.proofs.Laws.Back.{word_back, word_beside, place_same}
+use Rattle.lent_tables.proofs.Laws.Back.{Held, held_as, word_back, word_beside, place_same}
 
 -- what each write of a place's effect keeps, making places Read keeps
 module _ (f i : ℕ) (P : List ℕ → Type 0) (s : (d : List ℕ) (k x : ℕ) → P d → P (put_field Layout.contexts d f (k * 5 + 1) x)) where
@@ -35,9 +36,9 @@ module _ (f i : ℕ) (P : List ℕ → Type 0) (s : (d : List ℕ) (k x : ℕ) �
   read_places_is k (suc n) c h = read_places_is (suc k) n (read_place f i k c) (read_place_is k c h)
 
   -- all the places of a function
-  pub read_keeps : (c : List ℕ) → P c → P (make_read c f i)
+  pub read_keeps : (c : ContextWords) → P c.contexts → P (make_read c f i).contexts
   unfolding make_read
-  read_keeps c h = read_places_is 0 (field Layout.functions c f 1) c h
+  read_keeps c h = read_places_is 0 (field Layout.functions c.functions f 1) c.contexts h
 
 and_second : (a b : Bool) → (a && b) ≡ true → b ≡ true
 and_second true b e = e
@@ -85,7 +86,7 @@ module _ (f i : ℕ) where
   made p = record { identifier = p.identifier; effect = elim (eqb p.identifier i && eqb p.effect Capture) [ true ↦ Read | false ↦ p.effect ]; reactive = p.reactive; span = p.span }
 
   -- the place itself
-  read_at : (k : ℕ) (c : List ℕ) → length c ≡ 238534 → place_in Layout.contexts (read_place f i k c) f (k * 5) ≡ made (place_in Layout.contexts c f (k * 5))
+  read_at : (k : ℕ) (c : List ℕ) → (f < 64 → Held Layout.contexts f c) → place_in Layout.contexts (read_place f i k c) f (k * 5) ≡ made (place_in Layout.contexts c f (k * 5))
   unfolding read_place place_in
   read_at k c long = go (test c k) (λ e. capture_within c f (k * 5 + 1) (and_second (eqb (field Layout.contexts c f (k * 5)) i) _ e))
     where
@@ -96,7 +97,7 @@ module _ (f i : ℕ) where
           let word : k * 5 + 1 < 80 = within_word Layout.contexts f (k * 5 + 1) (h refl) in
           λ j. record {
             identifier = word_beside Layout.contexts f c (k * 5 + 1) Read (k * 5) (λ e. omega arith) j;
-            effect = word_back Layout.contexts f c (k * 5 + 1) Read row word (let z : 12485 + f * 80 + 80 ≤ length c = omega arith in z) j;
+            effect = word_back Layout.contexts f c (k * 5 + 1) Read row word (long row) j;
             reactive = word_beside Layout.contexts f c (k * 5 + 1) Read (k * 5 + 2) (λ e. omega arith) j;
             span = record { start = word_beside Layout.contexts f c (k * 5 + 1) Read (k * 5 + 3) (λ e. omega arith) j; end = word_beside Layout.contexts f c (k * 5 + 1) Read (k * 5 + 4) (λ e. omega arith) j };
           }
@@ -109,7 +110,7 @@ module _ (f i : ℕ) where
   places_from_is c d a k (suc n) l h =
       ap₂ (λ (p : Place) (ps : List Place). p ∷ ps) (place_same Layout.contexts f c d (0 + k * 5) (λ v x y. h v (omega arith))) (places_from_is c d a (suc k) n (omega arith) h)
 
-  reads_at : (k n : ℕ) (c : List ℕ) → length c ≡ 238534 → places_in Layout.contexts (read_places f i k n c) f 0 k n ≡ read_only i (places_in Layout.contexts c f 0 k n)
+  reads_at : (k n : ℕ) (c : List ℕ) → (f < 64 → Held Layout.contexts f c) → places_in Layout.contexts (read_places f i k n c) f 0 k n ≡ read_only i (places_in Layout.contexts c f 0 k n)
   unfolding places_in read_places read_only
   reads_at k zero c long = refl
   reads_at k (suc n) c long =
@@ -117,13 +118,14 @@ module _ (f i : ℕ) where
       ap₂ (λ (p : Place) (ps : List Place). p ∷ ps)
       (place_same Layout.contexts f (read_place f i k c) (read_places f i (suc k) n (read_place f i k c)) (0 + k * 5) (λ v x y. reads_beside (suc k) n (read_place f i k c) v (omega arith))
       ∙ ap (place_in Layout.contexts (read_place f i k c) f) e ∙ read_at k c long ∙ ap (λ (w : ℕ). made (place_in Layout.contexts c f w)) (sym e))
-      (reads_at (suc k) n (read_place f i k c) (read_length k c ∙ long)
+      (reads_at (suc k) n (read_place f i k c) (λ l. held_as Layout.contexts f c (read_place f i k c) (read_length k c) (long l))
       ∙ ap (read_only i) (places_from_is c (read_place f i k c) (suc k * 5) (suc k) n (omega arith) (λ v l. read_beside k c v (λ q. omega arith))))
 
   -- those of another function
-  pub read_other : (c : List ℕ) (g : ℕ) → ¬ (f ≡ g) → (v : ℕ) → field Layout.contexts (make_read c f i) g v ≡ field Layout.contexts c g v
-  read_other c g n v = read_keeps f i (λ (d : List ℕ). field Layout.contexts d g v ≡ field Layout.contexts c g v) (λ d k x h. put_record Layout.contexts d f (k * 5 + 1) x g v n ∙ h) c refl
+  pub read_other : (c : ContextWords) (g : ℕ) → ¬ (f ≡ g) → (v : ℕ) → field Layout.contexts (make_read c f i).contexts g v ≡ field Layout.contexts c.contexts g v
+  read_other c g n v = read_keeps f i (λ (d : List ℕ). field Layout.contexts d g v ≡ field Layout.contexts c.contexts g v) (λ d k x h. put_record Layout.contexts d f (k * 5 + 1) x g v n ∙ h) c refl
 
-  pub read_made : (c : List ℕ) → length c ≡ 238534 → places_in Layout.contexts (make_read c f i) f 0 0 (field Layout.functions c f 1) ≡ read_only i (places_in Layout.contexts c f 0 0 (field Layout.functions c f 1))
+  -- its own
+  pub read_made : (c : ContextWords) → (f < 64 → Held Layout.contexts f c.contexts) → places_in Layout.contexts (make_read c f i).contexts f 0 0 (field Layout.functions c.functions f 1) ≡ read_only i (places_in Layout.contexts c.contexts f 0 0 (field Layout.functions c.functions f 1))
   unfolding make_read
-  read_made c long = reads_at 0 (field Layout.functions c f 1) c long
+  read_made c long = reads_at 0 (field Layout.functions c.functions f 1) c.contexts long

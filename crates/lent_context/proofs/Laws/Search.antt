@@ -1,5 +1,5 @@
 -- Laws by which the searches of a context's tables meet the definitions. Assumes nothing.
-use Rattle.std.specs.Prelude.{ℕ, suc, ◌+◌, ◌-◌, ◌≤◌, ◌<◌, ◌≡◌, refl, Bool, true, false, not, List, [], ◌∷◌, eqb, get_or, set, Option, None, Some, Ok}
+use Rattle.std.specs.Prelude.{ℕ, suc, ◌+◌, ◌-◌, ◌≤◌, ◌<◌, ◌≡◌, refl, Bool, true, false, not, List, [], ◌∷◌, eqb, Option, None, Some, Ok}
 use Rattle.std.proofs.Common.{arith, add-one, sym, ap, ap₂, ◌∙◌, eq-eqb, ne_eqb}
 use Rattle.def_effects.specs.Effects.{AliasingEffect}
 use Rattle.def_effects.specs.Keys.{EffectKey, effect_key, eq_key}
@@ -8,17 +8,11 @@ use Rattle.lent_tables.specs.declared.Table.{Table}
 use Rattle.lent_effects.specs.Records.{effect_in}
 use Rattle.lent_keys.specs.KeyRecords as Keys
 use Rattle.lent_layout.specs.Layout as Layout
-use Rattle.lent_context.specs.Lent.{effects_in, interned_count, is_keyed, key_count, number_at, one_more, cached_at}
+use Rattle.lent_layout.specs.Context.{ContextWords, with_keys}
+use Rattle.lent_context.specs.Lent.{effects_in, is_keyed, key_count, number_at, one_more, cached_at}
 use Rattle.lent_order.specs.Order.{order_at, inserted}
 use Rattle.lent_tables.specs.Words.{field}
 use Rattle.base_tests.specs.Tests.{ite}
-
--- ---- interned effects
-
--- the count of interned effects is a word
-pub interned_is : (c : List ℕ) (x : ℕ) → x ≡ get_or c 12483 0 → x ≡ interned_count c
-unfolding interned_count
-interned_is c x e = e
 
 -- ---- the interned effects, one after the other
 
@@ -54,25 +48,19 @@ search_none k = refl
 
 -- ---- cached numbers
 
--- the count of numbers with a key is a word
-pub keys_counted : (c : List ℕ) (x : ℕ) → x ≡ get_or c 37317 0 → x ≡ key_count c
-unfolding key_count
-keys_counted c x e = e
-
 -- the number at a place of the order: one with a key, or none
-pub number_there : (c : List ℕ) (j r w : ℕ) → r ≡ order_at Layout.key_order c j → w ≡ field Layout.cached c r 0 → (w ≡ 0 → ⊥) → Some r ≡ number_at c (Ok j)
+pub number_there : (c : ContextWords) (j r w : ℕ) → r ≡ order_at Layout.key_order c.key_order j → w ≡ field Layout.cached c.keys r 0 → (w ≡ 0 → ⊥) → Some r ≡ number_at c (Ok j)
 unfolding is_keyed
 number_there c j r w e h n =
-    sym (ap (λ (x : ℕ). ite (not (eqb (field Layout.cached c x 0) 0)) (Some x) None) (sym e) ∙ ap (λ (b : Bool). ite (not b) (Some r) None) (ne_eqb (field Layout.cached c r 0) 0 (λ z. n (h ∙ z))))
+    sym (ap (λ (x : ℕ). ite (not (eqb (field Layout.cached c.keys x 0) 0)) (Some x) None) (sym e) ∙ ap (λ (b : Bool). ite (not b) (Some r) None) (ne_eqb (field Layout.cached c.keys r 0) 0 (λ z. n (h ∙ z))))
 
-pub number_nowhere : (c : List ℕ) (j r w : ℕ) → r ≡ order_at Layout.key_order c j → w ≡ field Layout.cached c r 0 → w ≡ 0 → None ≡ number_at c (Ok j)
+pub number_nowhere : (c : ContextWords) (j r w : ℕ) → r ≡ order_at Layout.key_order c.key_order j → w ≡ field Layout.cached c.keys r 0 → w ≡ 0 → None ≡ number_at c (Ok j)
 unfolding is_keyed
 number_nowhere c j r w e h z =
-    sym (ap (λ (x : ℕ). ite (not (eqb (field Layout.cached c x 0) 0)) (Some x) None) (sym e) ∙ ap (λ (b : Bool). ite (not b) (Some r) None) (eq-eqb (field Layout.cached c r 0) 0 (sym h ∙ z)))
+    sym (ap (λ (x : ℕ). ite (not (eqb (field Layout.cached c.keys x 0) 0)) (Some x) None) (sym e) ∙ ap (λ (b : Bool). ite (not b) (Some r) None) (eq-eqb (field Layout.cached c.keys r 0) 0 (sym h ∙ z)))
 
 -- a number cached at a place of the order
-pub put_cached : (c d e f : List ℕ) (p n i k m : ℕ) (key : EffectKey) → i ≡ n → k ≡ key_count c → d ≡ Keys.put_key Layout.cached c i key → e ≡ inserted Layout.key_order p n k d → m ≡ one_more k → f ≡ set e 37317 m → f ≡ cached_at c p n key
+pub put_cached : (c : ContextWords) (ks os : List ℕ) (p n i m : ℕ) (key : EffectKey) → i ≡ n → ks ≡ Keys.put_key Layout.cached c.keys i key → os ≡ inserted Layout.key_order p n (key_count c) c.key_order → m ≡ one_more (key_count c) → with_keys ks os m c ≡ cached_at c p n key
 unfolding cached_at
-put_cached c d e f p n i k m key hi hk hd he hm hf =
-    hf ∙ ap₂ (λ (l : List ℕ) (x : ℕ). set l 37317 x)
-    (he ∙ ap₂ (λ (x : ℕ) (l : List ℕ). inserted Layout.key_order p n x l) hk (hd ∙ ap (λ (j : ℕ). Keys.put_key Layout.cached c j key) hi)) (hm ∙ ap one_more hk)
+put_cached c ks os p n i m key hi hk ho hm =
+    ap (λ (l : List ℕ). with_keys l os m c) (hk ∙ ap (λ (j : ℕ). Keys.put_key Layout.cached c.keys j key) hi) ∙ ap₂ (λ (l : List ℕ) (x : ℕ). with_keys (Keys.put_key Layout.cached c.keys n key) l x c) ho hm

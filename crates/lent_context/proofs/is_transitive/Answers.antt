@@ -1,5 +1,7 @@
-use Rattle.lent_context.proofs.Laws.Code.{transitive_is}
+use Rattle.std.proofs.Common.{refl}
+use Rattle.lent_context.specs.Lent.{is_transitive}
 use Rattle.lent_context.proofs.is_transitive.Goals as goal
 
 pub returns : goal.returns
-returns c = transitive_is _ _ c.get_or.ensures
+unfolding is_transitive
+returns c = refl
