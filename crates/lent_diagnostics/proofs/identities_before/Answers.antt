@@ -11,5 +11,5 @@ pub returns : goal.returns
 returns c =
     c.unwrap_or.ensures
     ∙ ap (λ o. unwrap_or o 0) (sym (option_map_id _) ∙ max_from_yields_List c.map.result c.max.result c.max.ensures.ran
-    (YieldsList-from_map _ (above c.args.context.now) (YieldsList-from_range 0 c.args.n c.args.n c.map.ensures.source (omega arith)) c.map.ensures.closure (λ x r q k. search rules)))
-    ∙ identities_are c.args.context.now c.args.n
+    (YieldsList-from_map _ (above c.args.diagnostics.now) (YieldsList-from_range 0 c.args.n c.args.n c.map.ensures.source (omega arith)) c.map.ensures.closure (λ x r q k. search rules)))
+    ∙ identities_are c.args.diagnostics.now c.args.n

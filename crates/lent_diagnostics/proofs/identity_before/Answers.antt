@@ -9,8 +9,8 @@ use Rattle.lent_diagnostics.proofs.identity_before.Goals as goal
 
 pub returns : goal.returns
 returns c =
-    mapped _ (λ k. (diagnostic_in c.args.context.now k).identity) c.find.result c.map.result c.map.ensures.cases (λ x y k. search rules)
-    ∙ identity_is c.args.context.now _ c.find.result c.args.d
-    (first_from_Range _ _ _ _ (λ k. same_identity c.args.d (diagnostic_in c.args.context.now k).diagnostic ≡ true)
-    (λ k. same_identity c.args.d (diagnostic_in c.args.context.now k).diagnostic ≡ false) c.find.ensures.ran
+    mapped _ (λ k. (diagnostic_in c.args.diagnostics.now k).identity) c.find.result c.map.result c.map.ensures.cases (λ x y k. search rules)
+    ∙ identity_is c.args.diagnostics.now _ c.find.result c.args.d
+    (first_from_Range _ _ _ _ (λ k. same_identity c.args.d (diagnostic_in c.args.diagnostics.now k).diagnostic ≡ true)
+    (λ k. same_identity c.args.d (diagnostic_in c.args.diagnostics.now k).diagnostic ≡ false) c.find.ensures.ran
     (λ x q k. search rules) (λ x q k. search rules))
