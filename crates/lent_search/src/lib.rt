@@ -103,7 +103,12 @@ pub fn find_key(context: &Context, key: WholeKey) -> Result<u32, u32>
             ensures { result
                 ≡ compare_keys (whole key.entry)
                 (Lent.key_here (held context.entry.now) (Order.order_at Layout.key_order context.entry.now.key_order.now j)) }
-        { compare_keys(key, cached_key(context, order_at(KEY_ORDER, context.key_order, j))) },
+        {
+            compare_keys(
+                key,
+                cached_key(context, order_at(KEY_ORDER, context.key_order, j)),
+            )
+        },
     )
 }
 

@@ -6,23 +6,22 @@ use Rattle.std.specs.declared.cmp.Ordering.{Ordering}
 use Rattle.std.specs.declared.cmp.Ordering.TheVariants.{Less, Equal, Greater}
 use Rattle.base_search.specs.Search.{middle, halving, along}
 use Rattle.base_search.proofs.Laws.Search.{goes_down, goes_up, is_there, is_over}
-use Rattle.def_effects.specs.Keys.{EffectKey}
-use Rattle.def_key_order.specs.KeyOrder.{compare_keys}
 use Rattle.lent_tables.specs.Words.{field}
 use Rattle.lent_keys.specs.declared.Key.{Key}
 use Rattle.lent_keys.specs.KeyRecords.{key_with, numbers_in, key_head_in}
 use Rattle.lent_order.specs.Order.{order_at}
 use Rattle.lent_layout.specs.Layout as Layout
-use Rattle.lent_context.specs.Lent.{interned_count, interned_key, effect_spot, key_here, key_count, key_spot, number_at}
+use Rattle.lent_layout.specs.Context.{ContextWords}
+use Rattle.lent_context.specs.Lent.{key_here, number_at}
 use Rattle.lent_context.proofs.Laws.Search.{number_there, number_nowhere}
 
 -- ---- the key of a cached number
 
 -- with the captures that stand in its record
-pub cached_key_is : (c : List ℕ) (v : ℕ) (key : Key) (is : List ℕ) → ((js : List ℕ) → key_with key js ≡ key_head_in Layout.cached c v js)
-    → is ≡ numbers_in Layout.cached c v 12 1 0 (field Layout.cached c v 11) → key_with key is ≡ key_here c v
+pub cached_key_is : (c : ContextWords) (v : ℕ) (key : Key) (is : List ℕ) → ((js : List ℕ) → key_with key js ≡ key_head_in Layout.cached c.keys v js)
+    → is ≡ numbers_in Layout.cached c.keys v 12 1 0 (field Layout.cached c.keys v 11) → key_with key is ≡ key_here c v
 unfolding key_here
-cached_key_is c v key is h e = h is ∙ ap (key_head_in Layout.cached c v) e
+cached_key_is c v key is h e = h is ∙ ap (key_head_in Layout.cached c.keys v) e
 
 -- ---- the search
 
@@ -43,25 +42,12 @@ module _ (c : ℕ → Ordering) (n lo hi mid : ℕ) (o : Ordering) (l : lo < hi)
 pub search_over : (c : ℕ → Ordering) (n lo hi : ℕ) → hi ≤ lo → along c n ≡ halving (hi - lo) c lo hi → Err lo ≡ along c n
 search_over c n lo hi h inv = sym (inv ∙ is_over c lo hi h)
 
--- what is sought against the key at place j of an order
-abbrev pub sought : (ℕ → EffectKey) → (ℕ → ℕ) → EffectKey → ℕ → Ordering
-sought key_of ord key j = compare_keys key (key_of (ord j))
-
--- both searches are such
-pub effect_search : (c : List ℕ) (key : EffectKey) (n : ℕ) (s : Result ℕ ℕ) → n ≡ interned_count c → s ≡ along (sought (interned_key c) (order_at Layout.effect_order c) key) n → s ≡ effect_spot c key
-unfolding effect_spot
-effect_search c key n s e h = h ∙ ap (along (sought (interned_key c) (order_at Layout.effect_order c) key)) e
-
-pub key_search : (c : List ℕ) (key : EffectKey) (n : ℕ) (s : Result ℕ ℕ) → n ≡ key_count c → s ≡ along (sought (key_here c) (order_at Layout.key_order c) key) n → s ≡ key_spot c key
-unfolding key_spot
-key_search c key n s e h = h ∙ ap (along (sought (key_here c) (order_at Layout.key_order c) key)) e
-
 -- ---- the number where a search ended
 
-module _ (c : List ℕ) (s : Result ℕ ℕ) (j v i w : ℕ) (ends : s ≡ Ok j) (hv : v ≡ order_at Layout.key_order c j) (hi : i ≡ v) (hw : w ≡ field Layout.cached c i 0) where
+module _ (c : ContextWords) (s : Result ℕ ℕ) (j v i w : ℕ) (ends : s ≡ Ok j) (hv : v ≡ order_at Layout.key_order c.key_order j) (hi : i ≡ v) (hw : w ≡ field Layout.cached c.keys i 0) where
   -- the word that says whether it has a key
-  word_there : w ≡ field Layout.cached c v 0
-  word_there = hw ∙ ap (λ (r : ℕ). field Layout.cached c r 0) hi
+  word_there : w ≡ field Layout.cached c.keys v 0
+  word_there = hw ∙ ap (λ (r : ℕ). field Layout.cached c.keys r 0) hi
 
   pub ends_keyless : w ≡ 0 → None ≡ number_at c s
   ends_keyless z = number_nowhere c j v w hv word_there z ∙ ap (number_at c) (sym ends)

@@ -1,5 +1,6 @@
-use Rattle.lent_search.proofs.Laws.Find.{effect_search}
+use Rattle.lent_context.specs.Lent.{effect_spot}
 use Rattle.lent_search.proofs.find_effect.Goals as goal
 
 pub returns : goal.returns
-returns c = effect_search _ _ _ _ c.interned_count.ensures (c.search.ensures _ (λ j o l h. h))
+unfolding effect_spot
+returns c = c.search.ensures _ (λ j o l h. h)
