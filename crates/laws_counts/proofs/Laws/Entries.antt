@@ -6,7 +6,6 @@ use lib.Dec.{nleb→lt}
 use Rattle.def_transfer.specs.Tables.{Tables, Work}
 use Rattle.def_transfer.specs.State.{change}
 use Rattle.def_transfer.specs.Context.{count_entry}
-use Rattle.lent_world.specs.World.{one_more}
 use Rattle.laws_counts.proofs.Laws.Grows.{Grows, unless_grows}
 
 module _ {T : Tables} where

@@ -268,7 +268,7 @@ session_limited (ok a w) = refl
 session_limited (refused n w) = refl
 
 -- an instruction that fits the lent context fits it without limits
-fits_freely : (ins : Instruction) (c : List ℕ) → Fits lent ins c → Fits (unlimited lent) ins c
+fits_freely : (ins : Instruction) (c : lent.Context) → Fits lent ins c → Fits (unlimited lent) ins c
 unfolding mutated
 fits_freely ins c f = record { few = f.few; captures = f.captures; inside = go ins.own f.inside }
   where
