@@ -1,8 +1,8 @@
 -- Numbers, keys, links, effects and diagnostics that were written are read back. Assumes nothing.
 use Prim.Native.Nat.{ℕ, zero, suc, ◌+◌, ◌*◌, ◌≤◌, ◌<◌}
-use Rattle.std.specs.Prelude.{◌≡◌, eqb, leb, get_or, Option, None, Some}
+use Rattle.std.specs.Prelude.{◌≡◌, eqb, get_or, set, Option, None, Some}
 use Rattle.std.proofs.Math.Path.{refl, ap, ap₂}
-use Rattle.std.proofs.Common.{◌∙◌, leb→le}
+use Rattle.std.proofs.Common.{◌∙◌, leb→le, get_or-set_same, get_or-set_other}
 use mathlib.Core.List.{List, [], ◌∷◌, ◌++◌}
 use native.Mathlib.Omega.{arith}
 use Rattle.std.proofs.Math.ListN.{length}
@@ -11,7 +11,6 @@ use Rattle.def_effects.specs.declared.Place.{Place}
 use Rattle.def_effects.specs.Places.{identifiers}
 use Rattle.def_effects.specs.Effects.{AliasingEffect, Freeze, Mutate, MutateConditionally, MutateTransitive, MutateTransitiveConditionally, Capture, Alias, MaybeAlias, Assign, Create, CreateFrom, ImmutableCapture, CreateFunction, MutateFrozen, MutateGlobal, Impure, Render}
 use Rattle.def_effects.specs.Keys.{EffectKey, effect_key}
-use Rattle.def_transfer.specs.Diagnostics.{Diagnostic}
 use Rattle.def_transfer.specs.Pure.{Interned}
 use Rattle.lent_tables.specs.declared.Table.{Table}
 use Rattle.lent_tables.specs.Words.{field, put_field}
@@ -21,8 +20,9 @@ use Rattle.lent_effects.proofs.Laws.EffectFrames.{effect_cong, effect_record}
 use Rattle.lent_keys.specs.KeyRecords.{numbers_in, put_numbers, option_in, put_option, key_head_in, key_in, put_head}
 use Rattle.lent_keys.specs.KeyRecords as Keys
 use Rattle.lent_keys.proofs.Laws.KeyFrames.{numbers_keep}
-use Rattle.lent_layout.specs.Layout as Layout
-use Rattle.lent_context.specs.Lent.{effects_in, diagnostic_in, diagnostics_in, put_diagnostic}
+use Rattle.lent_layout.specs.declared.Numbered.{Numbered}
+use Rattle.lent_layout.specs.Context.{interned_of, unused}
+use Rattle.lent_context.specs.Lent.{effects_in, diagnostic_in, diagnostics_in}
 use Rattle.lent_tables.proofs.Laws.Back.{Held, held_as, word_back, word_beside}
 use Rattle.lent_effects.proofs.Laws.Back.{capture_count, effect_back}
 use Rattle.def_faithful.specs.Ranges.{Short}
@@ -151,12 +151,11 @@ effects_append t c d e k (suc n) h p =
     (effects_append t c d e (suc k) n (λ j l. h j (omega arith)) (ap (effect_in t d) (let z : suc k + n ≡ k + suc n = omega arith in z) ∙ p))
 
 -- an effect written after the last of m
-pub effect_appended : (t : Table) (c d : List ℕ) (m : ℕ) (e : AliasingEffect) → t.width ≡ 98 → m < t.count → Held t m c → Short (effect_key e) → ((j v : ℕ) → field t d j v ≡ field t (put_effect t c m e) j v)
-    → effects_in t d 0 (suc m) ≡ effects_in t c 0 m ++ (e ∷ [])
-effect_appended t c d m e wide row held s h =
-    effects_append t c d e 0 m
-    (λ j l. effect_cong t (put_effect t c m e) d j (h j) ∙ effect_cong t c (put_effect t c m e) j (λ v. effect_record t c m e j v (λ q. omega arith)))
-    (ap (effect_in t d) (let z : 0 + m ≡ m = omega arith in z) ∙ effect_cong t (put_effect t c m e) d m (h m) ∙ effect_back t c m wide row held e (captures_few e s))
+pub effect_appended : (t : Table) (c : List ℕ) (m : ℕ) (e : AliasingEffect) → t.width ≡ 98 → m < t.count → Held t m c → Short (effect_key e) → effects_in t (put_effect t c m e) 0 (suc m) ≡ effects_in t c 0 m ++ (e ∷ [])
+effect_appended t c m e wide row held s =
+    effects_append t c (put_effect t c m e) e 0 m
+    (λ j l. effect_cong t c (put_effect t c m e) j (λ v. effect_record t c m e j v (λ q. omega arith)))
+    (ap (effect_in t (put_effect t c m e)) (let z : 0 + m ≡ m = omega arith in z) ∙ effect_back t c m wide row held e (captures_few e s))
 
 pub effects_length : (t : Table) (c : List ℕ) (k n : ℕ) → length (effects_in t c k n) ≡ n
 unfolding effects_in
@@ -165,40 +164,30 @@ effects_length t c k (suc n) = ap suc (effects_length t c (suc k) n)
 
 -- ---- diagnostics
 
-abbrev diagnostic_words : ℕ → Diagnostic → List ℕ
-diagnostic_words n d = n ∷ d.identifier ∷ d.case ∷ d.sentence ∷ d.name ∷ d.access.start ∷ d.access.end ∷ d.own.start ∷ d.own.end ∷ []
-
-diagnostic_words_is : (c : List ℕ) (k n : ℕ) (d : Diagnostic) → put_diagnostic c k n d ≡ put_numbers Layout.diagnostics c k 0 1 0 (diagnostic_words n d)
-unfolding put_diagnostic put_numbers
-diagnostic_words_is c k n d = refl
-
-pub diagnostic_back : (c : List ℕ) (k n : ℕ) (d : Diagnostic) → k < 256 → Held Layout.diagnostics k c → diagnostic_in (put_diagnostic c k n d) k ≡ (record { identity = n; diagnostic = d })
+-- a record that was written is read, where the slice has it
+pub diagnostic_back : (ds : List Numbered) (k : ℕ) (x : Numbered) → k < length ds → diagnostic_in (set ds k x) k ≡ interned_of x
 unfolding diagnostic_in
-diagnostic_back c k n d row held = λ j. record {
-  identity = at 0 0 refl (omega arith) j;
-  diagnostic = record {
-    identifier = at 1 1 refl (omega arith) j;
-    case = at 2 2 refl (omega arith) j;
-    sentence = at 3 3 refl (omega arith) j;
-    name = at 4 4 refl (omega arith) j;
-    access = record { start = at 5 5 refl (omega arith) j; end = at 6 6 refl (omega arith) j };
-    own = record { start = at 7 7 refl (omega arith) j; end = at 8 8 refl (omega arith) j };
-  };
-}
-  where
-    at : (m v : ℕ) → v ≡ m → m < 9 → field Layout.diagnostics (put_diagnostic c k n d) k v ≡ get_or (diagnostic_words n d) m 0
-    at m v e l =
-        ap (λ (x : List ℕ). field Layout.diagnostics x k v) (diagnostic_words_is c k n d)
-        ∙ numbers_at Layout.diagnostics k c 0 0 (diagnostic_words n d) m v (omega arith) l row (omega arith) held
+diagnostic_back ds k x l = ap interned_of (get_or-set_same ds k x unused l)
 
-pub diagnostics_append : (c d : List ℕ) (x : Interned) (k n : ℕ) → ((j : ℕ) → j < k + n → diagnostic_in d j ≡ diagnostic_in c j) → diagnostic_in d (k + n) ≡ x → diagnostics_in d k (suc n) ≡ diagnostics_in c k n ++ (x ∷ [])
+-- and the others stay
+pub diagnostic_beside : (ds : List Numbered) (k : ℕ) (x : Numbered) (j : ℕ) → (j ≡ k → ⊥) → diagnostic_in (set ds k x) j ≡ diagnostic_in ds j
+unfolding diagnostic_in
+diagnostic_beside ds k x j n = ap interned_of (get_or-set_other ds k j x unused n)
+
+diagnostics_append : (ds es : List Numbered) (x : Interned) (k n : ℕ) → ((j : ℕ) → j < k + n → diagnostic_in es j ≡ diagnostic_in ds j) → diagnostic_in es (k + n) ≡ x → diagnostics_in es k (suc n) ≡ diagnostics_in ds k n ++ (x ∷ [])
 unfolding diagnostics_in
-diagnostics_append c d x k zero h p = ap (λ (y : Interned). y ∷ []) (ap (diagnostic_in d) (let z : k ≡ k + 0 = omega arith in z) ∙ p)
-diagnostics_append c d x k (suc n) h p =
+diagnostics_append ds es x k zero h p = ap (λ (y : Interned). y ∷ []) (ap (diagnostic_in es) (let z : k ≡ k + 0 = omega arith in z) ∙ p)
+diagnostics_append ds es x k (suc n) h p =
     ap₂ (λ (y : Interned) (ys : List Interned). y ∷ ys) (h k (omega arith))
-    (diagnostics_append c d x (suc k) n (λ j l. h j (omega arith)) (ap (diagnostic_in d) (let z : suc k + n ≡ k + suc n = omega arith in z) ∙ p))
+    (diagnostics_append ds es x (suc k) n (λ j l. h j (omega arith)) (ap (diagnostic_in es) (let z : suc k + n ≡ k + suc n = omega arith in z) ∙ p))
 
-pub diagnostics_length : (c : List ℕ) (k n : ℕ) → length (diagnostics_in c k n) ≡ n
+-- a record written after the last of m
+pub diagnostic_appended : (ds : List Numbered) (m : ℕ) (x : Numbered) → m < length ds → diagnostics_in (set ds m x) 0 (suc m) ≡ diagnostics_in ds 0 m ++ (interned_of x ∷ [])
+diagnostic_appended ds m x l =
+    diagnostics_append ds (set ds m x) (interned_of x) 0 m (λ j q. diagnostic_beside ds m x j (λ e. omega arith))
+    (ap (diagnostic_in (set ds m x)) (let z : 0 + m ≡ m = omega arith in z) ∙ diagnostic_back ds m x l)
+
+pub diagnostics_length : (ds : List Numbered) (k n : ℕ) → length (diagnostics_in ds k n) ≡ n
 unfolding diagnostics_in
-diagnostics_length c k zero = refl
-diagnostics_length c k (suc n) = ap suc (diagnostics_length c (suc k) n)
+diagnostics_length ds k zero = refl
+diagnostics_length ds k (suc n) = ap suc (diagnostics_length ds (suc k) n)

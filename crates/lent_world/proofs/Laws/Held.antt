@@ -40,7 +40,7 @@ one_held l es e room s h =
       long = effect_length output l.words m e ∙ g;
       count = sym a;
       effects = ap (effects_in output (put_effect output l.words m e) 0) a
-          ∙ effect_appended output l.words (put_effect output l.words m e) m e refl room (let z : 0 + m * 98 + 98 ≤ length l.words = omega arith in z) s (λ j v. refl) ∙ ap (λ (x : List AliasingEffect). x ++ (e ∷ [])) h.effects;
+          ∙ effect_appended output l.words m e refl room (let z : 0 + m * 98 + 98 ≤ length l.words = omega arith in z) s ∙ ap (λ (x : List AliasingEffect). x ++ (e ∷ [])) h.effects;
       behind = λ k q. after m k (let z : suc m * 98 ≤ k = omega arith in z) ∙ h.behind k (let z : m * 98 ≤ k = omega arith in z);
     })
   where

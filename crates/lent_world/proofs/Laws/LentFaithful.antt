@@ -16,7 +16,6 @@ use Rattle.lent_copies.proofs.Laws.Copy.{zero_word}
 use Rattle.lent_work.specs.declared.Marks.{Marks}
 use Rattle.lent_work.specs.Marks.{no_marks, is_marked, marked}
 use Rattle.lent_layout.specs.Layout as Layout
-use Rattle.lent_context.specs.Lent as Lent
 use Rattle.lent_world.specs.World.{lent, one_more}
 use Rattle.lent_work.specs.Access.{access_of}
 use Rattle.def_faithful.specs.Faithful.{Faithful}
@@ -109,7 +108,7 @@ mark_put m l i p h = subst (λ (x : Marks). Marked x (i ∷ l)) (sym is) (record
 -- ---- all of them
 
 unfoldable pub lent_faithful : (n : ℕ) → n ≤ 512 → Faithful n lent
-unfolding Lent.interned_count Lent.instance_count one_more access_of
+unfolding one_more access_of
 lent_faithful n few = record {
   few = few;
   FitValues = λ t. length t ≡ 1024;
@@ -122,7 +121,7 @@ lent_faithful n few = record {
   set_put = set_put n;
   FitContext = FitContext;
   meaning = abstract;
-  count_is = λ c h. sym (effects_length Layout.interned c 0 (get_or c 12483 0));
+  count_is = λ c h. sym (effects_length Layout.interned c.effects 0 c.effect_count);
   effect_is = λ c k h. effect_is c h.ordered k;
   key_is = λ c v h. key_is c v;
   number_is = λ c k h. number_is c h.numbered k;
@@ -136,7 +135,7 @@ lent_faithful n few = record {
   name_is = λ c i h. name_is c i;
   transitive_is = λ c h. transitive_is c;
   identities_is = λ c h. identities_is c;
-  instances_is = λ c h. sym (diagnostics_length c 0 (get_or c 12484 0));
+  instances_is = λ c h. sym (diagnostics_length c.diagnostics 0 c.diagnostic_count);
   identity_is = λ c d h. identity_is c d;
   instance_is = λ c m d h. instance_is c m d;
   effect_fit = effect_fit;
@@ -146,7 +145,7 @@ lent_faithful n few = record {
   link_fit = λ c v f h p. link_fit c v f h;
   link_put = link_put;
   read_fit = read_fit;
-  read_made = read_means;
+  read_made = λ c f i h. read_means c f i;
   diagnostic_fit = λ c m d h l z. diagnostic_fit c m d h;
   diagnostic_add = λ c m d h l z. diagnostic_add c m d h l;
   Marked = Marked;

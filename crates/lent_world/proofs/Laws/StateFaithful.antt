@@ -1,5 +1,5 @@
 -- Lent values, sets and marks read back what is written. Assumes nothing.
-use Rattle.std.specs.Prelude.{ℕ, ◌-◌, ◌*◌, ◌/◌, ◌%◌, ◌<◌, ◌≡◌, refl, ◌⊎◌, List, Option, None, Some}
+use Rattle.std.specs.Prelude.{ℕ, ◌-◌, ◌*◌, ◌/◌, ◌%◌, ◌<◌, ◌≡◌, refl, List, Option, None, Some}
 use Rattle.std.proofs.Common.{mod-lt, arith, sym, ap, ◌∙◌, subst, ⊎_elim, eq-eqb}
 use mathlib.Core.Bool.{Bool, true, false}
 use lib.Dec.{eqb, eqb→eq, lit<}
