@@ -12,6 +12,7 @@ use Rattle.def_transfer.specs.Diagnostics.{Diagnostic}
 use Rattle.def_transfer.specs.Pure.{pure, at, read_only_in, with_interned, with_cached, with_links, with_functions, with_diagnostics}
 use Rattle.def_transfer.specs.Pure as Pure
 use Rattle.lent_tables.specs.Words.{end, field}
+use Rattle.lent_tables.proofs.Laws.Word.{places_cong}
 use Rattle.lent_effects.specs.Records.{put_effect}
 use Rattle.lent_effects.proofs.Laws.EffectFrames.{effect_length, effect_cong, effect_record}
 use Rattle.lent_effects.proofs.Laws.Back.{effect_back}
@@ -36,7 +37,7 @@ use Rattle.base_tests.proofs.Laws.Choice.{ite_lt}
 use Rattle.def_faithful.specs.Ranges.{Fresh, Short}
 use Rattle.lent_world.proofs.Laws.StateFaithful.{at_is}
 use Rattle.lent_context.specs.Abstract.{abstract, function_in}
-use Rattle.lent_world.proofs.Laws.Frames.{function_same, keyed_same, here_same, ordered_same, numbered_same}
+use Rattle.lent_world.proofs.Laws.Frames.{keyed_same, here_same, ordered_same, numbered_same}
 use Rattle.lent_world.proofs.Laws.Back.{captures_few, key_back, link_back, effect_appended, diagnostic_appended}
 
 -- a context that has room for whatever an instruction may write, and whose interned effects and cached keys are in order
@@ -291,9 +292,17 @@ read_fit c f i h = record {
 
 functions_made : (c : ContextWords) (f i : ℕ) → function_in (make_read c f i) ≡ at (function_in c) f (read_only_in i (function_in c f))
 unfolding make_read
-functions_made c f i = fun_ext (at_is (function_in c) (function_in (make_read c f i)) f (read_only_in i (function_in c f))
-    (λ j. record { context = read_made f i c j; inside = (function_in c f).inside; tracked = (function_in c f).tracked })
-    (λ g n. function_same c (make_read c f i) g (read_other f i c g n) (λ j v. refl)))
+functions_made c f i = fun_ext (at_is (function_in c) (function_in (make_read c f i)) f (read_only_in i (function_in c f)) own other)
+  where
+    own : function_in (make_read c f i) f ≡ read_only_in i (function_in c f)
+    own = λ j. record { context = read_made f i c j; inside = (function_in c f).inside; tracked = (function_in c f).tracked }
+
+    other : (g : ℕ) → ¬ (f ≡ g) → function_in (make_read c f i) g ≡ function_in c g
+    other g n = λ j. record {
+      context = places_cong Layout.contexts c.contexts (make_read c f i).contexts g 0 0 (field Layout.functions c.functions g 1) (read_other f i c g n) j;
+      inside = (function_in c g).inside;
+      tracked = (function_in c g).tracked;
+    }
 
 pub read_means : (c : ContextWords) (f i : ℕ) → abstract (make_read c f i) ≡ pure.make_read (abstract c) f i
 unfolding make_read

@@ -1,21 +1,18 @@
 -- Contexts with the same words in a table mean the same there: so of a slice that is written elsewhere, or that has more words behind it.
 -- Assumes nothing.
-use Rattle.std.specs.Prelude.{ℕ, zero, suc, ◌/◌, ◌%◌, ◌<◌, ◌≡◌, refl, not, List, ◌∷◌, eqb}
+use Rattle.std.specs.Prelude.{ℕ, zero, suc, ◌<◌, ◌≡◌, refl, not, List, ◌∷◌, eqb}
 use Rattle.std.proofs.Common.{sym, ap, ap₂, ◌∙◌, subst}
-use Rattle.std.proofs.Math.Path.{fun_ext}
 use Rattle.def_effects.specs.Effects.{AliasingEffect}
 use Rattle.def_effects.specs.Keys.{effect_key}
 use Rattle.def_key_order.proofs.Laws.KeyOrder.{keys}
 use Rattle.lent_tables.specs.declared.Table.{Table}
-use Rattle.lent_tables.specs.Words.{field, places_in}
-use Rattle.lent_tables.proofs.Laws.Word.{places_cong}
+use Rattle.lent_tables.specs.Words.{field}
 use Rattle.lent_effects.specs.Records.{effect_in}
 use Rattle.lent_effects.proofs.Laws.EffectFrames.{effect_cong}
 use Rattle.lent_keys.proofs.Laws.KeyFrames.{head_cong}
 use Rattle.lent_layout.specs.Layout as Layout
 use Rattle.lent_layout.specs.Context.{ContextWords}
 use Rattle.lent_context.specs.Lent.{effects_in, interned_key, is_keyed, key_here}
-use Rattle.lent_context.specs.Abstract.{function_in, identifier_in}
 use Rattle.lent_context.proofs.Laws.Ordered.{OrderedTo, Ordered}
 use Rattle.lent_context.proofs.Laws.Numbered.{NumberedTo, Numbered}
 use Rattle.base_search.proofs.Laws.Counting.{count_same}
@@ -33,20 +30,6 @@ effects_cong t c d k (suc n) h = ap₂ (λ (x : AliasingEffect) (xs : List Alias
 module _ (c d : ContextWords) where
   pub interned_same : SameWords Layout.interned c.effects d.effects → d.effect_count ≡ c.effect_count → effects_in Layout.interned d.effects 0 d.effect_count ≡ effects_in Layout.interned c.effects 0 c.effect_count
   interned_same h e = effects_cong Layout.interned c.effects d.effects 0 d.effect_count h ∙ ap (effects_in Layout.interned c.effects 0) e
-
-  -- a function whose words stay
-  pub function_same : (f : ℕ) → ((v : ℕ) → field Layout.contexts d.contexts f v ≡ field Layout.contexts c.contexts f v) → SameWords Layout.functions c.functions d.functions → function_in d f ≡ function_in c f
-  function_same f h g = λ j. record {
-    context = (places_cong Layout.contexts c.contexts d.contexts f 0 0 (field Layout.functions d.functions f 1) h ∙ ap (places_in Layout.contexts c.contexts f 0 0) (g f 1)) j;
-    inside = (places_cong Layout.functions c.functions d.functions f 3 0 (field Layout.functions d.functions f 2) (g f) ∙ ap (places_in Layout.functions c.functions f 3 0) (g f 2)) j;
-    tracked = eqb (g f 0 j / 2 % 2) 1;
-  }
-
-  pub functions_same : SameWords Layout.contexts c.contexts d.contexts → SameWords Layout.functions c.functions d.functions → function_in d ≡ function_in c
-  functions_same h g = fun_ext (λ f. function_same f (h f) g)
-
-  pub identifiers_same : SameWords Layout.identifiers c.identifiers d.identifiers → identifier_in d ≡ identifier_in c
-  identifiers_same h = fun_ext (λ i j. record { ref = eqb (h i 0 j % 2) 1; hoisted = eqb (h i 0 j / 2 % 2) 1; access = record { start = h i 2 j; end = h i 3 j }; name = h i 1 j })
 
   -- a number whose words stay
   module _ (v : ℕ) (h : (w : ℕ) → field Layout.cached d.keys v w ≡ field Layout.cached c.keys v w) where
