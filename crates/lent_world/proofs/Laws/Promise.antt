@@ -1,19 +1,10 @@
 -- Slices stay the same from one part of an instruction to the next. Assumes nothing.
-use Rattle.std.specs.Prelude.{List, refl}
-use Rattle.std.specs.Borrow.{MutBor}
+use Rattle.std.specs.Prelude.{refl}
 use Rattle.std.proofs.Common.{◌∙◌}
-use Rattle.lent_layout.specs.Context.{Same, SameSlices}
+use Rattle.lent_layout.specs.Context.{SameSlices}
 use Rattle.lent_layout.specs.declared.Context.{Context}
 use Rattle.lent_world.specs.declared.World.{World as Lent}
 use Rattle.lent_world.specs.Promise.{Kept}
-
--- ---- of one slice
-
-pub same_start : {A : Type 0} (r : MutBor (List A)) → Same r r
-same_start r = (refl, refl)
-
-pub same_then : {A : Type 0} (r s t : MutBor (List A)) → Same r s → Same s t → Same r t
-same_then r s t h g = (h.0 ∙ g.0, h.1 ∙ g.1)
 
 -- ---- of a context
 
