@@ -165,12 +165,12 @@ effects_length t c k (suc n) = ap suc (effects_length t c (suc k) n)
 -- ---- diagnostics
 
 -- a record that was written is read, where the slice has it
-pub diagnostic_back : (ds : List Numbered) (k : ℕ) (x : Numbered) → k < length ds → diagnostic_in (set ds k x) k ≡ interned_of x
+diagnostic_back : (ds : List Numbered) (k : ℕ) (x : Numbered) → k < length ds → diagnostic_in (set ds k x) k ≡ interned_of x
 unfolding diagnostic_in
 diagnostic_back ds k x l = ap interned_of (get_or-set_same ds k x unused l)
 
 -- and the others stay
-pub diagnostic_beside : (ds : List Numbered) (k : ℕ) (x : Numbered) (j : ℕ) → (j ≡ k → ⊥) → diagnostic_in (set ds k x) j ≡ diagnostic_in ds j
+diagnostic_beside : (ds : List Numbered) (k : ℕ) (x : Numbered) (j : ℕ) → (j ≡ k → ⊥) → diagnostic_in (set ds k x) j ≡ diagnostic_in ds j
 unfolding diagnostic_in
 diagnostic_beside ds k x j n = ap interned_of (get_or-set_other ds k j x unused n)
 
