@@ -38,7 +38,7 @@ pub record Ready (vs ss : List ℕ) (c : ContextWords) (os xs s64 s32 : List ℕ
   pub sets : length ss ≡ 16 * count
   pub most : count ≤ 512
   pub contexts : length c.contexts ≤ 5120
-  pub links : length c.links ≤ 1024
+  pub links : length c.links ≡ 1024
   pub keys : length c.keys ≤ 14336
   pub key_order : length c.key_order ≤ 512
   pub effect_order : length c.effect_order ≤ 2048
