@@ -80,7 +80,8 @@ pub fn find_effect(context: &Context, key: WholeKey) -> Result<u32, u32>
         |j: u32| -> Ordering
             ensures { result
                 ≡ compare_keys (whole key.entry)
-                (Lent.interned_key (held context.entry.now) (Order.order_at Layout.effect_order context.entry.now.effect_order.now j)) }
+                (Lent.interned_key (held context.entry.now)
+                (Order.order_at Layout.effect_order context.entry.now.effect_order.now j)) }
         {
             compare_keys(
                 key,
@@ -102,7 +103,8 @@ pub fn find_key(context: &Context, key: WholeKey) -> Result<u32, u32>
         |j: u32| -> Ordering
             ensures { result
                 ≡ compare_keys (whole key.entry)
-                (Lent.key_here (held context.entry.now) (Order.order_at Layout.key_order context.entry.now.key_order.now j)) }
+                (Lent.key_here (held context.entry.now)
+                (Order.order_at Layout.key_order context.entry.now.key_order.now j)) }
         {
             compare_keys(
                 key,
