@@ -1,6 +1,5 @@
 -- `call_undo::forget_effects` meets its contract: one loop, a word at each turn. Assumes nothing.
-use Prim.Native.Nat.{ℕ, ◌+◌, ◌*◌}
-use mathlib.Core.Path.{refl, ap, ◌∙◌}
+use mathlib.Core.Path.{refl, ◌∙◌}
 use Rattle.call_undo.proofs.Laws.Save.{forgets_none, forgets_more, forgets_end}
 use Rattle.call_undo.proofs.forget_effects.Goals as goal
 
@@ -8,7 +7,7 @@ pub returns-then-to-from : goal.returns-then-to-from
 returns-then-to-from c = forgets_none _ _ _ c.if-to-from.true
 
 pub loop-k-init : goal.loop-k-init
-loop-k-init c = (refl, ap (λ (x : ℕ). 37830 + x * 98) refl, ap (λ (x : ℕ). x * 98) refl, refl)
+loop-k-init c = (refl, refl, refl, refl)
 
 pub loop-k-preserved : goal.loop-k-preserved
 loop-k-preserved c =
