@@ -29,9 +29,11 @@ pub fn save_context(context: &Context, l: Lengths, scratch: &mut [u32])
     copy(context.links, 0, scratch, links, l.links as u32, 0);
     let key_order = keys + l.keys as u32;
     copy(context.keys, 0, scratch, keys, l.keys as u32, 0);
-    let effect_order = key_order + l.key_order as u32;
-    copy(context.key_order, 0, scratch, key_order, l.key_order as u32, 0);
-    copy(context.effect_order, 0, scratch, effect_order, l.effect_order as u32, 0);
+    let n = l.key_order as u32;
+    copy(context.key_order, 0, scratch, key_order, n, 0);
+    let effect_order = key_order + n;
+    let n = l.effect_order as u32;
+    copy(context.effect_order, 0, scratch, effect_order, n, 0);
 }
 
 // State and context are saved.

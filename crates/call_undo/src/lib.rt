@@ -82,9 +82,11 @@ pub fn restore_context(context: &mut Context, l: Lengths, u: Used, scratch: &[u3
     copy(scratch, links, context.links, 0, l.links as u32, 0);
     let key_order = keys + l.keys as u32;
     copy(scratch, keys, context.keys, 0, l.keys as u32, 0);
-    let effect_order = key_order + l.key_order as u32;
-    copy(scratch, key_order, context.key_order, 0, l.key_order as u32, 0);
-    copy(scratch, effect_order, context.effect_order, 0, l.effect_order as u32, 0);
+    let n = l.key_order as u32;
+    copy(scratch, key_order, context.key_order, 0, n, 0);
+    let effect_order = key_order + n;
+    let n = l.effect_order as u32;
+    copy(scratch, effect_order, context.effect_order, 0, n, 0);
     context.effect_count = u.effects;
     context.key_count = u.keys;
     context.diagnostic_count = u.diagnostics;

@@ -248,14 +248,15 @@ module _ (l : Lengths) (c₀ c : ContextWords) (ws : List ℕ) (hw : length ws �
   effects_back : forgotten c₀.effect_count c.effect_count c.effects ≡ c₀.effects
   unfolding forgotten
   effects_back =
-      let g = kept.effects_grown in
-      cut_back 0 c₀.effects c.effects (c₀.effect_count * 98) (c.effect_count * 98) ((c.effect_count - c₀.effect_count) * 98) (omega arith) (omega arith) kept.effects kept.effects_fixed kept.effects_after effects_after
+      let g = kept.effects.grown in
+      cut_back 0 c₀.effects c.effects (c₀.effect_count * 98) (c.effect_count * 98) ((c.effect_count - c₀.effect_count) * 98) (omega arith) (omega arith) kept.effects.long kept.effects.fixed kept.effects.after effects_after
 
   diagnostics_back : withdrawn c₀.diagnostic_count c.diagnostic_count c.diagnostics ≡ c₀.diagnostics
   unfolding withdrawn
   diagnostics_back =
-      let g = kept.diagnostics_grown in
-      cut_back unused c₀.diagnostics c.diagnostics c₀.diagnostic_count c.diagnostic_count (c.diagnostic_count - c₀.diagnostic_count) refl (omega arith) kept.diagnostics kept.diagnostics_fixed kept.diagnostics_after diagnostics_after
+      cut_back unused c₀.diagnostics c.diagnostics c₀.diagnostic_count c.diagnostic_count (c.diagnostic_count - c₀.diagnostic_count) refl (let g = kept.diagnostics.grown in g) kept.diagnostics.long
+      (λ k h. kept.diagnostics.fixed k (omega arith))
+      (λ k h. kept.diagnostics.after k (omega arith)) diagnostics_after
 
   -- all tables
   pub context_restored : restored_context l (used c₀) saved c ≡ c₀
