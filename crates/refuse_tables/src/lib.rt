@@ -146,13 +146,21 @@ fn label_class(case: u32, access: Span) -> Verdict
 }
 
 // The numbers of a record of diagnostics, in the order of their limits.
+#[tactic(auto, unfolding(crate::specs::TableClasses::numbers_of))]
 fn numbers_of(x: Numbered) -> [u32; 9]
     ensures { result ≡ numbers_of (interned_of x) }
 {
     let d = x.diagnostic;
     [
-        x.identity, d.identifier, d.case, d.sentence, d.name, d.access.start, d.access.end,
-        d.own.start, d.own.end,
+        x.identity,
+        d.identifier,
+        d.case,
+        d.sentence,
+        d.name,
+        d.access.start,
+        d.access.end,
+        d.own.start,
+        d.own.end,
     ]
 }
 

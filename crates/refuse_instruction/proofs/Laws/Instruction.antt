@@ -9,8 +9,8 @@ use Rattle.base_tests.proofs.Laws.Choice.{ite_eq, ite_ne}
 use Rattle.def_effects.specs.declared.Place.{Place}
 use Rattle.lent_tables.specs.declared.Table.{Table}
 use Rattle.lent_tables.specs.Words.{field}
-use Rattle.lent_layout.specs.Layout as Layout
-use Rattle.lent_context.specs.Lent.{instance_count}
+use Rattle.lent_layout.specs.Context.{ContextWords}
+use Rattle.lent_context.specs.Lent.{instance_count, diagnostic_in}
 use Rattle.refuse_class.specs.Class.{lower}
 use Rattle.refuse_class.proofs.Laws.Class.{lower_none}
 use Rattle.base_tests.proofs.Laws.Bool.{or_first, or_second}
@@ -21,7 +21,7 @@ use Rattle.lent_layout.specs.Layout.{candidate_table}
 
 -- ---- an effect
 
-module _ (identifiers functions : ℕ) (c : List ℕ) (apply : ℕ) (t : Table) (xs : List ℕ) (i : ℕ) where
+module _ (identifiers functions : ℕ) (c : ContextWords) (apply : ℕ) (t : Table) (xs : List ℕ) (i : ℕ) where
   -- the class of an effect that is no Apply
   abbrev parts : ℕ
   parts =
@@ -55,7 +55,7 @@ module _ (identifiers functions : ℕ) (c : List ℕ) (apply : ℕ) (t : Table) 
       (earns_class 2 (eqb (uses (field t xs i 0) 7) 1 && ltb 16 (field t xs i 17)) (omega arith) (omega arith))
       (lower_keeps Class (record_class t xs (effect_limit identifiers functions (instance_count c) (field t xs i 0) (field t xs i 17)) i) _
       (record_class_is t xs (effect_limit identifiers functions (instance_count c) (field t xs i 0) (field t xs i 17)) i)
-      (earns_class 3 (eqb (uses (field t xs i 0) 6) 1 && not (eqb (field t xs i 15) (field Layout.diagnostics c (field t xs i 16) 0))) (omega arith) (omega arith)))
+      (earns_class 3 (eqb (uses (field t xs i 0) 6) 1 && not (eqb (field t xs i 15) (diagnostic_in c.diagnostics (field t xs i 16)).identity)) (omega arith) (omega arith)))
 
   -- an effect earns what an Apply does, or what its parts do
   chosen : (P : ℕ → Type 0) → P apply → P parts → (b : Bool) → P (ite b apply parts)
@@ -104,7 +104,7 @@ module _ (identifiers : ℕ) (p : Place) where
 
 -- ---- the instruction
 
-module _ (identifiers functions : ℕ) (c xs : List ℕ) (count : ℕ) (lvalue : Place) (own : ℕ) where
+module _ (identifiers functions : ℕ) (c : ContextWords) (xs : List ℕ) (count : ℕ) (lvalue : Place) (own : ℕ) where
   -- what an instruction earns beside its count
   abbrev beside : ℕ
   beside = lower (lowest_below count (effect_class identifiers functions c 5 candidate_table xs)) (lower (place_class identifiers lvalue) (earns 3 (not (leb own functions))))

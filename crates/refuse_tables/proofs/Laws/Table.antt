@@ -1,4 +1,4 @@
--- Laws by which the code of identifiers, functions, links and diagnostics meets the definitions: a law for each way through a function. Assumes nothing.
+-- Laws by which the code of identifiers, functions and links meets the definitions: a law for each way through a function. Assumes nothing.
 use Rattle.std.specs.Prelude.{ℕ, zero, suc, ◌<◌, ◌≡◌, Bool, List, eqb, Option, None, Some}
 use Rattle.std.proofs.Math.Path.{refl, sym, ap}
 use Rattle.std.proofs.Common.{ap₂, ◌∙◌}
@@ -12,7 +12,7 @@ use Rattle.lent_tables.specs.Words.{field}
 use Rattle.lent_layout.specs.Layout as Layout
 use Rattle.refuse_class.specs.Class.{lower}
 use Rattle.refuse_words.specs.Classes.{earns, used_if, any, run_limit, record_class}
-use Rattle.refuse_tables.specs.TableClasses.{identifier_limit, function_limit, needs_known, places_class, function_class, diagnostic_limit, label_class, message_class}
+use Rattle.refuse_tables.specs.TableClasses.{identifier_limit, function_limit, needs_known, places_class, function_class}
 
 -- ---- limits
 
@@ -58,23 +58,12 @@ module _ (identifiers inside w : ℕ) where
       (same_or_not w 1)
 
 -- the class of a function is that of its parts
-pub function_is : (identifiers : ℕ) (c : List ℕ) (f flags n inside ws ps ks cs a b r : ℕ) (k : Bool) → flags ≡ field Layout.functions c f 0 → n ≡ field Layout.functions c f 1 → inside ≡ field Layout.functions c f 2
-    → ws ≡ record_class Layout.functions c (function_limit identifiers inside) f → ps ≡ record_class Layout.contexts c (run_limit identifiers n) f
-    → k ≡ needs_known flags inside → ks ≡ earns 3 k → cs ≡ places_class n inside → a ≡ lower ks ps → b ≡ lower ws a → r ≡ lower cs b → r ≡ function_class identifiers c f
+pub function_is : (identifiers : ℕ) (c places : List ℕ) (f flags n inside ws ps ks cs a b r : ℕ) (k : Bool) → flags ≡ field Layout.functions c f 0 → n ≡ field Layout.functions c f 1 → inside ≡ field Layout.functions c f 2
+    → ws ≡ record_class Layout.functions c (function_limit identifiers inside) f → ps ≡ record_class Layout.contexts places (run_limit identifiers n) f
+    → k ≡ needs_known flags inside → ks ≡ earns 3 k → cs ≡ places_class n inside → a ≡ lower ks ps → b ≡ lower ws a → r ≡ lower cs b → r ≡ function_class identifiers c places f
 unfolding function_class
-function_is identifiers c f flags n inside ws ps ks cs a b r k hf hn hi hw hp hk he hc ha hb hr =
+function_is identifiers c places f flags n inside ws ps ks cs a b r k hf hn hi hw hp hk he hc ha hb hr =
     hr
     ∙ ap₂ lower (hc ∙ ap₂ places_class hn hi)
     (hb ∙ ap₂ lower (hw ∙ ap (λ (x : ℕ). record_class Layout.functions c (function_limit identifiers x) f) hi)
-    (ha ∙ ap₂ lower (he ∙ ap (earns 3) (hk ∙ ap₂ needs_known hf hi)) (hp ∙ ap (λ (x : ℕ). record_class Layout.contexts c (run_limit identifiers x) f) hn)))
-
--- ---- diagnostics
-
--- the class of a diagnostic by its words is that of its parts
-pub message_is : (identifiers : ℕ) (c : List ℕ) (k case start end ws ls r : ℕ) → case ≡ field Layout.diagnostics c k 2 → start ≡ field Layout.diagnostics c k 5 → end ≡ field Layout.diagnostics c k 6
-    → ws ≡ record_class Layout.diagnostics c (diagnostic_limit identifiers case) k → ls ≡ label_class case start end → r ≡ lower ws ls → r ≡ message_class identifiers c k
-unfolding message_class
-message_is identifiers c k case start end ws ls r hc hs he hw hl hr =
-    hr
-    ∙ ap₂ lower (hw ∙ ap (λ (x : ℕ). record_class Layout.diagnostics c (diagnostic_limit identifiers x) k) hc)
-    (hl ∙ ap₂ (label_class case) hs he ∙ ap (λ (x : ℕ). label_class x (field Layout.diagnostics c k 5) (field Layout.diagnostics c k 6)) hc)
+    (ha ∙ ap₂ lower (he ∙ ap (earns 3) (hk ∙ ap₂ needs_known hf hi)) (hp ∙ ap (λ (x : ℕ). record_class Layout.contexts places (run_limit identifiers x) f) hn)))
