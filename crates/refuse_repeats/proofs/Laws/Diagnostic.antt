@@ -9,16 +9,14 @@ use Rattle.def_effects.specs.declared.Diagnostic.{Diagnostic}
 use Rattle.def_transfer.specs.Diagnostics.{same_labels}
 use Rattle.base_tests.specs.Tests.{is_some}
 use Rattle.def_transfer.specs.Pure.{Interned, identities, find_identity, find_instance}
-use Rattle.lent_tables.specs.Words.{field}
-use Rattle.lent_layout.specs.Layout as Layout
+use Rattle.lent_layout.specs.declared.Numbered.{Numbered}
+use Rattle.lent_layout.specs.Context.{interned_of}
 use Rattle.lent_context.specs.Lent.{diagnostic_in, diagnostics_in}
-use Rattle.lent_diagnostics.specs.declared.Numbered.{Numbered}
-use Rattle.lent_diagnostics.specs.Numbered.{interned_of}
 use Rattle.base_tests.proofs.Laws.Bool.{or_first, or_second}
 use Rattle.base_tests.proofs.Laws.Order.{same_or_not}
 use Rattle.refuse_repeats.specs.Repeats.{number_or, right_identity, diagnostic_twice}
 
-module _ (c : List ℕ) (n : ℕ) (d : Diagnostic) (o : Option ℕ) (h : o ≡ find_identity (diagnostics_in c 0 n) d) where
+module _ (c : List Numbered) (n : ℕ) (d : Diagnostic) (o : Option ℕ) (h : o ≡ find_identity (diagnostics_in c 0 n) d) where
   -- no message is equal
   right_next : (r : ℕ) → o ≡ None → r ≡ identities (diagnostics_in c 0 n) → r ≡ right_identity c n d
   unfolding right_identity
@@ -42,10 +40,9 @@ none_yet i (x ∷ xs) n d l =
     ap (λ (b : Bool). elim (b && same_labels d x.diagnostic) as (λ _. Option ℕ) [ true ↦ Some i | false ↦ find_instance (suc i) xs n d ]) (ne_eqb n x.identity (λ e. omega arith))
     ∙ none_yet (suc i) xs n d (omega arith)
 
-module _ (c : List ℕ) (k : ℕ) (x : Numbered) (g : interned_of x ≡ diagnostic_in c k) where
+module _ (c : List Numbered) (k : ℕ) (x : Numbered) (g : interned_of x ≡ diagnostic_in c k) where
   -- the identity of a record that was read
-  identity_is : x.identity ≡ field Layout.diagnostics c k 0
-  unfolding diagnostic_in
+  identity_is : x.identity ≡ (diagnostic_in c k).identity
   identity_is = ap (λ (y : Interned). y.identity) g
 
   -- its diagnostic
@@ -53,14 +50,14 @@ module _ (c : List ℕ) (k : ℕ) (x : Numbered) (g : interned_of x ≡ diagnost
   diagnostic_is = ap (λ (y : Interned). y.diagnostic) g
 
   -- the identity that it has to have
-  same_test : (m : ℕ) → m ≡ right_identity c k x.diagnostic → eqb x.identity m ≡ eqb (field Layout.diagnostics c k 0) (right_identity c k (diagnostic_in c k).diagnostic)
+  same_test : (m : ℕ) → m ≡ right_identity c k x.diagnostic → eqb x.identity m ≡ eqb (diagnostic_in c k).identity (right_identity c k (diagnostic_in c k).diagnostic)
   same_test m h = ap₂ eqb identity_is (h ∙ ap (right_identity c k) diagnostic_is)
 
   -- another identity than it has to have
   diagnostic_wrong : (m : ℕ) → m ≡ right_identity c k x.diagnostic → (x.identity ≡ m → ⊥) → true ≡ diagnostic_twice c k
   unfolding diagnostic_twice
   diagnostic_wrong m h n =
-      sym (or_first (not (eqb (field Layout.diagnostics c k 0) (right_identity c k (diagnostic_in c k).diagnostic))) (is_some (find_instance 0 (diagnostics_in c 0 k) (field Layout.diagnostics c k 0) (diagnostic_in c k).diagnostic))
+      sym (or_first (not (eqb (diagnostic_in c k).identity (right_identity c k (diagnostic_in c k).diagnostic))) (is_some (find_instance 0 (diagnostics_in c 0 k) (diagnostic_in c k).identity (diagnostic_in c k).diagnostic))
       (ap not (sym (same_test m h) ∙ ne_eqb x.identity m n)))
 
   -- the right identity: an equal record decides
@@ -68,7 +65,7 @@ module _ (c : List ℕ) (k : ℕ) (x : Numbered) (g : interned_of x ≡ diagnost
   unfolding diagnostic_twice
   diagnostic_right m r h e q =
       q ∙ ap₂ (λ (i : ℕ) (d : Diagnostic). is_some (find_instance 0 (diagnostics_in c 0 k) i d)) identity_is diagnostic_is
-      ∙ sym (or_second (not (eqb (field Layout.diagnostics c k 0) (right_identity c k (diagnostic_in c k).diagnostic))) (is_some (find_instance 0 (diagnostics_in c 0 k) (field Layout.diagnostics c k 0) (diagnostic_in c k).diagnostic))
+      ∙ sym (or_second (not (eqb (diagnostic_in c k).identity (right_identity c k (diagnostic_in c k).diagnostic))) (is_some (find_instance 0 (diagnostics_in c 0 k) (diagnostic_in c k).identity (diagnostic_in c k).diagnostic))
       (ap not (sym (same_test m h) ∙ eq-eqb x.identity m e)))
 
   -- a message that is new: it has the next identity, or another
