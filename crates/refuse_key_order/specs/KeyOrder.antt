@@ -1,6 +1,6 @@
 -- Which class of refusal the order of the cached keys earns (document 01, 'Refused calls': "an index lies outside its range",
 -- "two entries of one key, wrong order, an unused word not zero"). Assumes nothing: these are definitions.
-use Rattle.std.specs.Prelude.{ℕ, Bool, not, ◌||◌, List, eqb, Some}
+use Rattle.std.specs.Prelude.{ℕ, Bool, not, ◌||◌, eqb, Some}
 use Rattle.base_search.specs.Counting.{how_many}
 use Rattle.lent_layout.specs.Layout as Layout
 use Rattle.lent_layout.specs.Context.{ContextWords}

@@ -81,6 +81,9 @@ pub fn key_order_class(context: &Context, m: u32) -> Verdict
     let places = lowest(n as usize, |k| key_place_class(context, m, n, k as u32));
     lower(
         counted,
-        lower(places, stray_after(KEY_ORDER, context.key_order, n as usize)),
+        lower(
+            places,
+            stray_after(KEY_ORDER, context.key_order, n as usize),
+        ),
     )
 }

@@ -1,6 +1,6 @@
 -- Which class of refusal the order of the interned effects earns (document 01, 'Refused calls': "an index lies outside its range",
 -- "two entries of one key, wrong order, an unused word not zero"). Assumes nothing: these are definitions.
-use Rattle.std.specs.Prelude.{ℕ, suc, ◌<◌, ◌≡◌, Bool, true, false, not, ◌&&◌, List, ltb, Some}
+use Rattle.std.specs.Prelude.{ℕ, suc, ◌<◌, ◌≡◌, Bool, true, false, not, ◌&&◌, ltb, Some}
 use Rattle.std.specs.declared.cmp.Ordering.{Ordering}
 use Rattle.std.specs.declared.cmp.Ordering.TheVariants.{Less, Equal, Greater}
 use Rattle.def_effects.specs.Keys.{EffectKey}

@@ -54,7 +54,10 @@ pub fn descends<F: Fn(u32, u32) -> Ordering>(
 fn place_class(context: &Context, n: u32, j: u32) -> Verdict
     ensures { class_of result ≡ place_class (held context.now) n j }
 {
-    let inside = word_class(Some(n as u64), order_at(EFFECT_ORDER, context.effect_order, j));
+    let inside = word_class(
+        Some(n as u64),
+        order_at(EFFECT_ORDER, context.effect_order, j),
+    );
     let compare = |a: u32, b: u32| compare_records(context, a, b);
     let misplaced = descends(EFFECT_ORDER, context.effect_order, n, j, compare);
     lower(inside, earns(Refusal::Order, misplaced))
@@ -67,5 +70,8 @@ pub fn order_class(context: &Context) -> Verdict
 {
     let n = context.effect_count;
     let places = lowest(n as usize, |k| place_class(context, n, k as u32));
-    lower(places, stray_after(EFFECT_ORDER, context.effect_order, n as usize))
+    lower(
+        places,
+        stray_after(EFFECT_ORDER, context.effect_order, n as usize),
+    )
 }

@@ -1,5 +1,5 @@
 -- An order of cached keys that earns no class is in order, where no number from m on has a key, nor number 0. Assumes nothing.
-use Rattle.std.specs.Prelude.{ℕ, suc, ◌≤◌, ◌<◌, ◌≡◌, true, false, not, List, ltb}
+use Rattle.std.specs.Prelude.{ℕ, suc, ◌≤◌, ◌<◌, ◌≡◌, true, false, not, ltb}
 use Rattle.std.proofs.Common.{arith, ◌∙◌}
 use borrow.Author.Tests.{ltb-true, eqb-true}
 use Rattle.base_tests.proofs.Laws.Bool.{not-false, or_no_first, or_no_second}

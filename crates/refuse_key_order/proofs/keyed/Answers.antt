@@ -10,11 +10,9 @@ use Rattle.refuse_key_order.proofs.keyed.Goals as goal
 
 pub sum-requires-clause-fits : goal.sum-requires-clause-fits
 sum-requires-clause-fits c =
-    let e = counted (is_keyed (held c.args.context.now)) c.args.m in
-    let l = how_many_le (is_keyed (held c.args.context.now)) c.args.m in
     fits_from_yields_list c.map.result 4294967296
     (YieldsList-from_map _ (λ v. ite (is_keyed (held c.args.context.now) v) 1 0) (YieldsList-from_range 0 c.args.m c.args.m c.map.ensures.source (omega arith)) c.map.ensures.closure (λ x r q k. search rules))
-    (omega arith)
+    (let e = counted (is_keyed (held c.args.context.now)) c.args.m in let l = how_many_le (is_keyed (held c.args.context.now)) c.args.m in omega arith)
 
 pub returns : goal.returns
 returns c =

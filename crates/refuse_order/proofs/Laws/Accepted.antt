@@ -1,5 +1,5 @@
 -- An order that earns no class is in order: each place names one of the effects, and their keys ascend. Assumes nothing.
-use Rattle.std.specs.Prelude.{ℕ, suc, ◌<◌, ◌≡◌, refl, true, false, List, ltb}
+use Rattle.std.specs.Prelude.{ℕ, suc, ◌<◌, ◌≡◌, refl, true, false, ltb}
 use Rattle.std.proofs.Common.{arith, sym, ◌∙◌}
 use borrow.Author.Tests.{ltb-true, lt-ltb}
 use Rattle.base_tests.proofs.Laws.Bool.{not-false, and_first}
