@@ -32,10 +32,11 @@ use Rattle.lent_work.specs.Access.{access_of}
 use Rattle.effect_parts.specs.Parts.{with_session}
 use Rattle.state_ops.specs.Use.{after_use}
 use Rattle.lent_layout.specs.Layout.{one_run, output}
+use Rattle.lent_layout.specs.Context.{ContextWords}
 
 -- ---- an effect is listed
 
-module _ (vs ss cs os : List ℕ) (e : AliasingEffect) where
+module _ (vs ss : List ℕ) (cs : ContextWords) (os : List ℕ) (e : AliasingEffect) where
   -- a count that fills its word stays
   pub emit_full : (r : Run) → 4294967295 ≤ r.listed → Context.emit e (world vs ss cs os r) ≡ ok tt (world vs ss cs os r)
   unfolding Context.emit change put_listed
@@ -51,7 +52,7 @@ module _ (vs ss cs os : List ℕ) (e : AliasingEffect) where
 
 -- ---- a place begins
 
-module _ (vs ss cs os : List ℕ) (r : Run) (i : ℕ) (b : Bool) (e : b ≡ is_marked r.marks i) where
+module _ (vs ss : List ℕ) (cs : ContextWords) (os : List ℕ) (r : Run) (i : ℕ) (b : Bool) (e : b ≡ is_marked r.marks i) where
   pub begin_again : b ≡ true → Context.begin i (world vs ss cs os r) ≡ refused 6 (world vs ss cs os r)
   unfolding Context.begin Context.is_initialized ask refuse
   begin_again h = bind_ok _ _ _ _ _ _ refl (if_true _ _ _ _ _ (sym e ∙ h) refl)
@@ -66,7 +67,7 @@ module _ (vs ss cs os : List ℕ) (r : Run) (i : ℕ) (b : Bool) (e : b ≡ is_m
 -- ---- the kind of a place, and its first undefined access
 
 pub kind_is : (vs ss : List ℕ) (r : Run) (i : ℕ) (span : Span) (a : AbstractValue) (s : Session) (u : Run) → a ≡ kind_of (value_at vs) (set_at ss i) → s ≡ after_use ss r.session i span → u ≡ with_session s r
-    → (cs os : List ℕ) → State.kind_with_span i span (world vs ss cs os r) ≡ ok a (world vs ss cs os u)
+    → (cs : ContextWords) (os : List ℕ) → State.kind_with_span i span (world vs ss cs os r) ≡ ok a (world vs ss cs os u)
 unfolding State.kind_with_span State.set_of State.peek State.record_access State.change after_use access_of done when◌then◌else◌ return ◌>>◌ ◌>>=◌ and_then
 kind_is vs ss r i span a s u e g h cs os =
     go (is_some (set_at ss i)) (eqb r.session.access 0)
@@ -89,14 +90,14 @@ kind_plain w u i a h = h
 -- ---- a place gets a value
 
 pub create_is : (vs us ss ts : List ℕ) (p : Place) (v n : ℕ) (a : AbstractValue) → n ≡ v → us ≡ put_value vs n a → ts ≡ put_set ss p.identifier (2 ^ v)
-    → (cs os : List ℕ) (r : Run) → Step.create p v a (world vs ss cs os r) ≡ ok tt (world us ts cs os r)
+    → (cs : ContextWords) (os : List ℕ) (r : Run) → Step.create p v a (world vs ss cs os r) ≡ ok tt (world us ts cs os r)
 unfolding Step.create State.initialize State.define State.point ◌>>◌ ◌>>=◌ and_then
 create_is vs us ss ts p v n a m g h cs os r =
     ap₂ (λ (x y : List ℕ). ok tt (world x y cs os r)) (ap (λ (k : ℕ). put_value vs k a) (sym m) ∙ sym g) (sym h)
 
 -- ---- captured places that can be written
 
-module _ (vs ss cs os : List ℕ) (r : Run) (p : Place) where
+module _ (vs ss : List ℕ) (cs : ContextWords) (os : List ℕ) (r : Run) (p : Place) where
   pub written_not : (b : Bool) → b ≡ is_some (set_at ss p.identifier) → b ≡ false → Step.is_written p (world vs ss cs os r) ≡ ok false (world vs ss cs os r)
   unfolding Step.is_written State.set_of State.peek return ◌>>=◌ and_then
   written_not b e h = ap (λ (x : Bool). ok (x && writable (kind_of (value_at vs) (set_at ss p.identifier)).kind) (world vs ss cs os r)) (sym e ∙ h)
