@@ -1,102 +1,245 @@
 -- The ways through the tests of a call, and what holds of lists that no class refuses. Assumes nothing.
-use Rattle.std.specs.Prelude.{ℕ, zero, suc, ◌+◌, ◌-◌, ◌*◌, ◌/◌, ◌%◌, ◌≤◌, ◌<◌, ◌≡◌, Bool, true, ◌||◌, List, eqb, ltb, length, get_or, None}
+use Rattle.std.specs.Prelude.{ℕ, zero, suc, ◌+◌, ◌-◌, ◌*◌, ◌/◌, ◌%◌, ◌≤◌, ◌<◌, ◌≡◌, Bool, true, ◌&&◌, ◌||◌, List, eqb, ltb, length, get_or, None}
 use Rattle.std.proofs.Common.{arith, ◌∙◌, subst, ⊎_elim}
 use Rattle.std.proofs.Math.Path.{refl, sym, ap, ap₂}
 use Rattle.std.proofs.Math.Bool.{false, not}
 use Rattle.std.proofs.Math.ListN.{get_or-eq_default}
+use Rattle.std.proofs.Math.Nat.{mul-le-mul_right}
 use borrow.Author.Tests.{le-ltb, eq-eqb, ne_eqb, eqb-true, ltb-false}
 use Rattle.base_tests.proofs.Laws.Bool.{not-false, or_neither, or_no_first, or_no_second}
 use Rattle.base_tests.proofs.Laws.Choice.{ite_lt, ite_ge, ite_yes, ite_no}
 use Rattle.base_tests.proofs.Laws.Order.{lt_or_ge, same_or_not}
 use Rattle.def_effects.specs.declared.Place.{Place}
 use Rattle.def_effects.specs.declared.Session.{Session}
+use Rattle.lent_tables.specs.declared.Table.{Table}
 use Rattle.lent_tables.specs.Words.{index}
 use Rattle.lent_layout.specs.Layout as Layout
-use Rattle.lent_context.specs.Lent.{interned_count, effects_in}
+use Rattle.lent_layout.specs.declared.Numbered.{Numbered}
+use Rattle.lent_layout.specs.Context.{ContextWords, interned_of, unused, is_full}
+use Rattle.lent_context.specs.Lent.{interned_count, instance_count, effects_in, diagnostic_in}
 use Rattle.laws_room.specs.Room.{needs}
 use Rattle.refuse_entries.specs.Words.{identifiers, state_refusal}
 use Rattle.refuse_class.specs.Class.{lower}
 use Rattle.refuse_class.proofs.Laws.Class.{lower_none, lower_alone, lower_first, lower_0}
-use Rattle.refuse_words.specs.Classes.{lowest_below, earns, word_class, stray_from, stray_after}
+use Rattle.refuse_words.specs.Classes.{earns, word_class, stray_from, stray_after}
 use Rattle.refuse_words.proofs.Laws.Class.{earns_none, lowest_0}
 use Rattle.refuse_instruction.specs.EffectClasses.{instruction_class}
+use Rattle.refuse_tables.specs.TableClasses.{numbers_of, numbered_class, unused_class}
 use Rattle.refuse_order.specs.Order.{order_class}
-use Rattle.refuse_records.specs.Accepting.{counts_wrong, effects_class, tables_class, context_class}
-use Rattle.call_outcome.specs.Calls.{call, room_for, context_wrong, wrong_context, lengths_wrong, candidate_count, call_class}
-use Rattle.call_outcome.specs.Attempts.{at_most}
+use Rattle.refuse_records.specs.Accepting.{counts_wrong, unused_from, diagnostics_class, effects_class, tables_class, context_class}
+use Rattle.call_undo.specs.Saves.{saved_words}
+use Rattle.call_outcome.specs.Calls.{Call, call, room_for, table_wrong, context_wrong, lengths_wrong, candidate_count, call_class}
+use Rattle.call_outcome.specs.Attempts.{at_most, lengths_of}
 
--- ---- lengths
+-- ---- a length with a limit
 
--- the lengths of five lists, and whether that of the context is wrong
-module _ (sets : ℕ) (context : Bool) (candidates output scratch64 scratch32 : ℕ) where
-  -- all lengths are right
-  pub lengths_right : lengths_wrong sets context candidates output scratch64 scratch32 ≡ false
-      → (context ≡ false) × (candidates % 98 ≡ 0) × (output ≡ 109760) × (scratch32 ≡ 25347) × (scratch64 ≡ 1024 + sets)
-  unfolding lengths_wrong
-  lengths_right e = (or_no_first context _ e, right (candidates % 98) 0 e2, right output 109760 e3, right scratch32 25347 e4, right scratch64 (1024 + sets) e5)
-    where
-      right : (m n : ℕ) → not (eqb m n) ≡ false → m ≡ n
-      right m n h = eqb-true m n (not-false (eqb m n) h)
-
-      r1 : (not (eqb (candidates % 98) 0) || (not (eqb output 109760) || (not (eqb scratch32 25347) || not (eqb scratch64 (1024 + sets))))) ≡ false
-      r1 = or_no_second context _ e
-
-      e2 : not (eqb (candidates % 98) 0) ≡ false
-      e2 = or_no_first (not (eqb (candidates % 98) 0)) _ r1
-
-      r2 : (not (eqb output 109760) || (not (eqb scratch32 25347) || not (eqb scratch64 (1024 + sets)))) ≡ false
-      r2 = or_no_second (not (eqb (candidates % 98) 0)) _ r1
-
-      e3 : not (eqb output 109760) ≡ false
-      e3 = or_no_first (not (eqb output 109760)) _ r2
-
-      r3 : (not (eqb scratch32 25347) || not (eqb scratch64 (1024 + sets))) ≡ false
-      r3 = or_no_second (not (eqb output 109760)) _ r2
-
-      e4 : not (eqb scratch32 25347) ≡ false
-      e4 = or_no_first (not (eqb scratch32 25347)) _ r3
-
-      e5 : not (eqb scratch64 (1024 + sets)) ≡ false
-      e5 = or_no_second (not (eqb scratch32 25347)) _ r3
-
--- ---- the length of a context
-
--- a context of a right length has all its tables, room for what is asked, and whole records
-pub record RightLength (room context : ℕ) : Type 0 where
-  pub room_there : 37830 + room * 98 ≤ context
-  pub most : context ≤ 238534
-  pub whole : (context - 37830) % 98 ≡ 0
-
-pub right_length : (room context : ℕ) → context_wrong room context ≡ false → RightLength room context
-unfolding context_wrong
-right_length room context e = record {
-  room_there = ltb-false context (37830 + room * 98) (or_no_first (ltb context (37830 + room * 98)) _ e);
-  most = ltb-false 238534 context (or_no_first (ltb 238534 context) _ r);
-  whole = eqb-true ((context - 37830) % 98) 0 (not-false (eqb ((context - 37830) % 98) 0) (or_no_second (ltb 238534 context) _ r));
-}
-  where
-    r : (ltb 238534 context || not (eqb ((context - 37830) % 98) 0)) ≡ false
-    r = or_no_second (ltb context (37830 + room * 98)) _ e
-
--- a context of the largest length is right for any candidates
-pub full_right : (cs xs : List ℕ) → length cs ≡ 238534 → wrong_context cs xs ≡ false
-unfolding context_wrong room_for
-full_right cs xs e =
-    or_neither (ltb (length cs) (37830 + room_for cs xs * 98)) _ (le-ltb (length cs) (37830 + room_for cs xs * 98) (let z = most_within_limit 2048 (interned_count cs + needs (effects_in Layout.candidate_table xs 0 (candidate_count xs))) in omega arith))
-    (or_neither (ltb 238534 (length cs)) _ (le-ltb 238534 (length cs) (omega arith)) (ap not (eq-eqb ((length cs - 37830) % 98) 0 (ap (λ (n : ℕ). (n - 37830) % 98) e))))
-  where
-    most_within_limit : (limit n : ℕ) → at_most limit n ≤ limit
-    most_within_limit limit n = ⊎_elim
-        (λ h. subst (λ (x : ℕ). x ≤ limit) (sym (ite_lt limit n limit n h)) (omega arith))
-        (λ h. subst (λ (x : ℕ). x ≤ limit) (sym (ite_ge limit n limit n h)) h)
-        (lt_or_ge limit n)
-
--- a length within its limit, and one past it
+-- within its limit, and past it
 pub most_past : (limit n : ℕ) → limit < n → limit ≡ at_most limit n
 most_past limit n l = sym (ite_lt limit n limit n l)
 
 pub most_within : (limit n : ℕ) → n ≤ limit → n ≡ at_most limit n
 most_within limit n l = sym (ite_ge limit n limit n l)
+
+-- never past it
+pub most_limit : (limit n : ℕ) → at_most limit n ≤ limit
+most_limit limit n = ⊎_elim
+    (λ h. subst (λ (x : ℕ). x ≤ limit) (most_past limit n h) (omega arith))
+    (λ h. subst (λ (x : ℕ). x ≤ limit) (most_within limit n h) h)
+    (lt_or_ge limit n)
+
+-- ---- lengths
+
+-- a test that two numbers are not the same fails where they are
+same_if : (m n : ℕ) → not (eqb m n) ≡ false → m ≡ n
+same_if m n h = eqb-true m n (not-false (eqb m n) h)
+
+if_same : (m n : ℕ) → m ≡ n → not (eqb m n) ≡ false
+if_same m n h = ap not (eq-eqb m n h)
+
+-- a slice of a right length has the records that are asked of its table, not more than it can have, and whole ones
+pub record RightTable (t : Table) (n words : ℕ) : Type 0 where
+  pub room_there : n * t.width ≤ words
+  pub most : words ≤ t.count * t.width
+  pub whole : words % t.width ≡ 0
+
+pub right_table : (t : Table) (n words : ℕ) → table_wrong t n words ≡ false → RightTable t n words
+unfolding table_wrong
+right_table t n words e = record {
+  room_there = ltb-false words (n * t.width) (or_no_first (ltb words (n * t.width)) _ e);
+  most = ltb-false (t.count * t.width) words (or_no_first (ltb (t.count * t.width) words) _ r);
+  whole = same_if (words % t.width) 0 (or_no_second (ltb (t.count * t.width) words) _ r);
+}
+  where
+    r : (ltb (t.count * t.width) words || not (eqb (words % t.width) 0)) ≡ false
+    r = or_no_second (ltb words (n * t.width)) _ e
+
+table_right : (t : Table) (n words : ℕ) → RightTable t n words → table_wrong t n words ≡ false
+unfolding table_wrong
+table_right t n words r =
+    or_neither (ltb words (n * t.width)) _ (le-ltb words (n * t.width) r.room_there)
+    (or_neither (ltb (t.count * t.width) words) _ (le-ltb (t.count * t.width) words r.most) (if_same (words % t.width) 0 r.whole))
+
+-- a context of right lengths, for so many identifiers and room for so many interned effects: a slice of a right length for each table
+pub record RightLength (n room : ℕ) (c : ContextWords) : Type 0 where
+  pub identifiers : RightTable Layout.identifiers n (length c.identifiers)
+  pub functions : RightTable Layout.functions (at_most 64 c.function_count) (length c.functions)
+  pub contexts : RightTable Layout.contexts (at_most 64 c.function_count) (length c.contexts)
+  pub links : RightTable Layout.links 512 (length c.links)
+  pub keys : RightTable Layout.cached 512 (length c.keys)
+  pub key_order : RightTable Layout.key_order 512 (length c.key_order)
+  pub effects : RightTable Layout.interned room (length c.effects)
+  pub effect_order : RightTable Layout.effect_order room (length c.effect_order)
+  pub diagnostics : length c.diagnostics ≡ 256
+
+-- the tests of a context's slices, from one on
+module _ (n room : ℕ) (c : ContextWords) where
+  abbrev wrong9 : Bool
+  wrong9 = not (eqb (length c.diagnostics) 256)
+
+  abbrev wrong8 : Bool
+  wrong8 = table_wrong Layout.effect_order room (length c.effect_order) || wrong9
+
+  abbrev wrong7 : Bool
+  wrong7 = table_wrong Layout.interned room (length c.effects) || wrong8
+
+  abbrev wrong6 : Bool
+  wrong6 = table_wrong Layout.key_order 512 (length c.key_order) || wrong7
+
+  abbrev wrong5 : Bool
+  wrong5 = table_wrong Layout.cached 512 (length c.keys) || wrong6
+
+  abbrev wrong4 : Bool
+  wrong4 = table_wrong Layout.links 512 (length c.links) || wrong5
+
+  abbrev wrong3 : Bool
+  wrong3 = table_wrong Layout.contexts (at_most 64 c.function_count) (length c.contexts) || wrong4
+
+  abbrev wrong2 : Bool
+  wrong2 = table_wrong Layout.functions (at_most 64 c.function_count) (length c.functions) || wrong3
+
+  -- none of them fails
+  pub right_length : context_wrong n room c ≡ false → RightLength n room c
+  unfolding context_wrong
+  right_length e = record {
+    identifiers = right_table Layout.identifiers n (length c.identifiers) (or_no_first (table_wrong Layout.identifiers n (length c.identifiers)) wrong2 e);
+    functions = right_table Layout.functions (at_most 64 c.function_count) (length c.functions) (or_no_first (table_wrong Layout.functions (at_most 64 c.function_count) (length c.functions)) wrong3 e2);
+    contexts = right_table Layout.contexts (at_most 64 c.function_count) (length c.contexts) (or_no_first (table_wrong Layout.contexts (at_most 64 c.function_count) (length c.contexts)) wrong4 e3);
+    links = right_table Layout.links 512 (length c.links) (or_no_first (table_wrong Layout.links 512 (length c.links)) wrong5 e4);
+    keys = right_table Layout.cached 512 (length c.keys) (or_no_first (table_wrong Layout.cached 512 (length c.keys)) wrong6 e5);
+    key_order = right_table Layout.key_order 512 (length c.key_order) (or_no_first (table_wrong Layout.key_order 512 (length c.key_order)) wrong7 e6);
+    effects = right_table Layout.interned room (length c.effects) (or_no_first (table_wrong Layout.interned room (length c.effects)) wrong8 e7);
+    effect_order = right_table Layout.effect_order room (length c.effect_order) (or_no_first (table_wrong Layout.effect_order room (length c.effect_order)) wrong9 e8);
+    diagnostics = same_if (length c.diagnostics) 256 e9;
+  }
+    where
+      e2 : wrong2 ≡ false
+      e2 = or_no_second (table_wrong Layout.identifiers n (length c.identifiers)) wrong2 e
+
+      e3 : wrong3 ≡ false
+      e3 = or_no_second (table_wrong Layout.functions (at_most 64 c.function_count) (length c.functions)) wrong3 e2
+
+      e4 : wrong4 ≡ false
+      e4 = or_no_second (table_wrong Layout.contexts (at_most 64 c.function_count) (length c.contexts)) wrong4 e3
+
+      e5 : wrong5 ≡ false
+      e5 = or_no_second (table_wrong Layout.links 512 (length c.links)) wrong5 e4
+
+      e6 : wrong6 ≡ false
+      e6 = or_no_second (table_wrong Layout.cached 512 (length c.keys)) wrong6 e5
+
+      e7 : wrong7 ≡ false
+      e7 = or_no_second (table_wrong Layout.key_order 512 (length c.key_order)) wrong7 e6
+
+      e8 : wrong8 ≡ false
+      e8 = or_no_second (table_wrong Layout.interned room (length c.effects)) wrong8 e7
+
+      e9 : wrong9 ≡ false
+      e9 = or_no_second (table_wrong Layout.effect_order room (length c.effect_order)) wrong9 e8
+
+  -- lengths that are right pass them
+  length_right : RightLength n room c → context_wrong n room c ≡ false
+  unfolding context_wrong
+  length_right r =
+      or_neither (table_wrong Layout.identifiers n (length c.identifiers)) wrong2 (table_right Layout.identifiers n (length c.identifiers) r.identifiers)
+      (or_neither (table_wrong Layout.functions (at_most 64 c.function_count) (length c.functions)) wrong3 (table_right Layout.functions (at_most 64 c.function_count) (length c.functions) r.functions)
+      (or_neither (table_wrong Layout.contexts (at_most 64 c.function_count) (length c.contexts)) wrong4 (table_right Layout.contexts (at_most 64 c.function_count) (length c.contexts) r.contexts)
+      (or_neither (table_wrong Layout.links 512 (length c.links)) wrong5 (table_right Layout.links 512 (length c.links) r.links)
+      (or_neither (table_wrong Layout.cached 512 (length c.keys)) wrong6 (table_right Layout.cached 512 (length c.keys) r.keys)
+      (or_neither (table_wrong Layout.key_order 512 (length c.key_order)) wrong7 (table_right Layout.key_order 512 (length c.key_order) r.key_order)
+      (or_neither (table_wrong Layout.interned room (length c.effects)) wrong8 (table_right Layout.interned room (length c.effects) r.effects)
+      (or_neither (table_wrong Layout.effect_order room (length c.effect_order)) wrong9 (table_right Layout.effect_order room (length c.effect_order) r.effect_order)
+      (if_same (length c.diagnostics) 256 r.diagnostics))))))))
+
+-- both of two tests hold
+both_hold : (a b : Bool) → (a && b) ≡ true → (a ≡ true) × (b ≡ true)
+both_hold true b e = (refl, e)
+both_hold false b e = absurd (let z : false ≡ true = e in cc)
+
+-- of a slice with all its records
+whole_table : (t : Table) (n words : ℕ) → words ≡ t.count * t.width → n ≤ t.count → (t.count * t.width) % t.width ≡ 0 → RightTable t n words
+whole_table t n words e l w = record {
+  room_there = subst (λ (x : ℕ). n * t.width ≤ x) (sym e) (mul-le-mul_right t.width l);
+  most = omega arith;
+  whole = ap (λ (x : ℕ). x % t.width) e ∙ w;
+}
+
+-- a context with room for all is right for any candidates
+pub full_right : (n : ℕ) (c : ContextWords) (xs : List ℕ) → n ≤ 512 → is_full c ≡ true → context_wrong n (room_for c xs) c ≡ false
+unfolding is_full room_for
+full_right n c xs few e =
+    let f1 = both_hold (eqb (length c.identifiers) 2048) _ e in
+    let f2 = both_hold (eqb (length c.functions) 10432) _ f1.1 in
+    let f3 = both_hold (eqb (length c.contexts) 5120) _ f2.1 in
+    let f4 = both_hold (eqb (length c.links) 1024) _ f3.1 in
+    let f5 = both_hold (eqb (length c.keys) 14336) _ f4.1 in
+    let f6 = both_hold (eqb (length c.key_order) 512) _ f5.1 in
+    let f7 = both_hold (eqb (length c.effects) 200704) _ f6.1 in
+    let f8 = both_hold (eqb (length c.effect_order) 2048) (eqb (length c.diagnostics) 256) f7.1 in
+    let room = most_limit 2048 (interned_count c + needs (effects_in Layout.candidate_table xs 0 (candidate_count xs))) in
+    let known = most_limit 64 c.function_count in
+    length_right n (room_for c xs) c (record {
+      identifiers = whole_table Layout.identifiers n (length c.identifiers) (eqb-true _ _ f1.0) few refl;
+      functions = whole_table Layout.functions (at_most 64 c.function_count) (length c.functions) (eqb-true _ _ f2.0) known refl;
+      contexts = whole_table Layout.contexts (at_most 64 c.function_count) (length c.contexts) (eqb-true _ _ f3.0) known refl;
+      links = whole_table Layout.links 512 (length c.links) (eqb-true _ _ f4.0) (omega arith) refl;
+      keys = whole_table Layout.cached 512 (length c.keys) (eqb-true _ _ f5.0) (omega arith) refl;
+      key_order = whole_table Layout.key_order 512 (length c.key_order) (eqb-true _ _ f6.0) (omega arith) refl;
+      effects = whole_table Layout.interned (room_for c xs) (length c.effects) (eqb-true _ _ f7.0) room refl;
+      effect_order = whole_table Layout.effect_order (room_for c xs) (length c.effect_order) (eqb-true _ _ f8.0) room refl;
+      diagnostics = eqb-true _ _ f8.1;
+    })
+
+-- all lengths of a call are right
+pub lengths_right : (c : Call) → lengths_wrong c ≡ false
+    → (context_wrong (identifiers c.sets) (room_for c.context c.candidates) c.context ≡ false) × (length c.candidates % 98 ≡ 0) × (length c.output ≡ 109760)
+    × (length c.scratch32 ≡ saved_words (lengths_of c.context)) × (length c.scratch64 ≡ 1024 + length c.sets)
+unfolding lengths_wrong
+lengths_right c e =
+    (or_no_first wrong _ e, same_if (length c.candidates % 98) 0 (or_no_first t2 _ r1), same_if (length c.output) 109760 (or_no_first t3 _ r2), same_if (length c.scratch32) (saved_words (lengths_of c.context)) (or_no_first t4 _ r3), same_if (length c.scratch64) (1024 + length c.sets) (or_no_second t4 _ r3))
+  where
+    wrong : Bool
+    wrong = context_wrong (identifiers c.sets) (room_for c.context c.candidates) c.context
+
+    t2 : Bool
+    t2 = not (eqb (length c.candidates % 98) 0)
+
+    t3 : Bool
+    t3 = not (eqb (length c.output) 109760)
+
+    t4 : Bool
+    t4 = not (eqb (length c.scratch32) (saved_words (lengths_of c.context)))
+
+    t5 : Bool
+    t5 = not (eqb (length c.scratch64) (1024 + length c.sets))
+
+    r1 : (t2 || (t3 || (t4 || t5))) ≡ false
+    r1 = or_no_second wrong _ e
+
+    r2 : (t3 || (t4 || t5)) ≡ false
+    r2 = or_no_second t2 _ r1
+
+    r3 : (t4 || t5) ≡ false
+    r3 = or_no_second t3 _ r2
 
 -- ---- the lowest class
 
@@ -108,16 +251,16 @@ lower_1 (suc x) = lower_first 1 (suc x) (λ z. omega arith) (λ z. omega arith) 
 
 -- the class of a call, from the tests that it is made of
 -- each law is one way through the code
-module _ (vs ss : List ℕ) (flag : Bool) (cs : List ℕ) (s : Session) (xs : List ℕ) (p : Place) (own : ℕ) (os s64 s32 : List ℕ) where
-  -- the lengths, the state, the context, the instruction
+module _ (vs ss : List ℕ) (flag : Bool) (cs : ContextWords) (s : Session) (xs : List ℕ) (p : Place) (own : ℕ) (os s64 s32 : List ℕ) where
+  -- the lengths, the context, the instruction
   abbrev lengths : Bool
-  lengths = lengths_wrong (length ss) (wrong_context cs xs) (length xs) (length os) (length s64) (length s32)
+  lengths = lengths_wrong (call vs ss flag cs s xs p own os s64 s32)
 
   abbrev tables : ℕ
-  tables = context_class (identifiers ss) (get_or cs Layout.function_count 0) cs s.next
+  tables = context_class (identifiers ss) cs s.next
 
   abbrev instruction : ℕ
-  instruction = instruction_class (identifiers ss) (get_or cs Layout.function_count 0) cs xs (candidate_count xs) p own
+  instruction = instruction_class (identifiers ss) cs.function_count cs xs (candidate_count xs) p own
 
   -- a length is wrong
   -- 1 at once
@@ -141,17 +284,17 @@ module _ (vs ss : List ℕ) (flag : Bool) (cs : List ℕ) (s : Session) (xs : Li
   class_state b r e h g q = lower_1 (lower tables instruction) ∙ sym (ap (λ (x : ℕ). lower x (lower tables instruction)) (sym g ∙ q)) ∙ class_rest b e h
 
   -- all are tested
-  pub class_lowest : (b : Bool) (r n f t u v q : ℕ) → b ≡ lengths → b ≡ false → r ≡ state_refusal vs ss s.next s.access → n ≡ length ss / 16 → f ≡ get_or cs 2 0
-      → t ≡ context_class n f cs s.next → u ≡ instruction_class n f cs xs (length xs / 98) p own → v ≡ lower t u → q ≡ lower r v
+  pub class_lowest : (b : Bool) (r n t u v q : ℕ) → b ≡ lengths → b ≡ false → r ≡ state_refusal vs ss s.next s.access → n ≡ length ss / 16
+      → t ≡ context_class n cs s.next → u ≡ instruction_class n cs.function_count cs xs (length xs / 98) p own → v ≡ lower t u → q ≡ lower r v
       → q ≡ call_class (call vs ss flag cs s xs p own os s64 s32)
   unfolding identifiers
-  class_lowest b r n f t u v q e h g i k ht hu hv hq =
+  class_lowest b r n t u v q e h g i ht hu hv hq =
       hq
       ∙ ap₂ lower g
       (hv
       ∙ ap₂ lower
-      (ht ∙ ap₂ (λ (x y : ℕ). context_class x y cs s.next) i k)
-      (hu ∙ ap₂ (λ (x y : ℕ). instruction_class x y cs xs (candidate_count xs) p own) i k))
+      (ht ∙ ap (λ (x : ℕ). context_class x cs s.next) i)
+      (hu ∙ ap (λ (x : ℕ). instruction_class x cs.function_count cs xs (candidate_count xs) p own) i))
       ∙ class_rest b e h
 
   -- ---- what no class refuses
@@ -171,43 +314,80 @@ pub word_0 : (x : ℕ) → word_class None x ≡ 0 → x ≡ 0
 unfolding word_class
 word_0 x e = ⊎_elim (λ z. z) (λ n. absurd (let y : ◌≡◌ {A = ℕ} 4 0 = sym (ap (λ (b : Bool). earns 4 (not b)) (ne_eqb x 0 n)) ∙ e in omega arith)) (same_or_not x 0)
 
--- the order of the interned effects of an accepted context earns no class
-pub order_right : (n f : ℕ) (cs : List ℕ) (next : ℕ) → context_class n f cs next ≡ 0 → order_class cs ≡ 0
-unfolding context_class tables_class effects_class
-order_right n f cs next e = go (counts_wrong n f cs) refl
+-- a record without use that earns no class is an unused one
+unused_0 : (x : Numbered) → unused_class (interned_of x) ≡ 0 → x ≡ unused
+unfolding unused_class numbered_class numbers_of
+unused_0 x e = λ j. record {
+  identity = zero_at 0 (omega arith) j;
+  diagnostic = record {
+    identifier = zero_at 1 (omega arith) j;
+    case = zero_at 2 (omega arith) j;
+    sentence = zero_at 3 (omega arith) j;
+    name = zero_at 4 (omega arith) j;
+    access = record { start = zero_at 5 (omega arith) j; end = zero_at 6 (omega arith) j };
+    own = record { start = zero_at 7 (omega arith) j; end = zero_at 8 (omega arith) j };
+  };
+}
   where
-    go : (b : Bool) → counts_wrong n f cs ≡ b → order_class cs ≡ 0
-    go true h = absurd (let z : 2 ≡ 0 = sym (ite_yes (counts_wrong n f cs) 2 (tables_class n f cs next) h) ∙ e in omega arith)
-    go false h =
-        let a : tables_class n f cs next ≡ 0 = sym (ite_no (counts_wrong n f cs) 2 (tables_class n f cs next) h) ∙ e in
-        (lower_0 _ _ (lower_0 _ _ (lower_0 _ _ (lower_0 _ _ (lower_0 _ _ (lower_0 _ _ (lower_0 _ _ (lower_0 _ _ a).1).1).1).1).1).1).1).1
+    zero_at : (w : ℕ) → w < 9 → get_or (numbers_of (interned_of x)) w 0 ≡ 0
+    zero_at w l = word_0 (get_or (numbers_of (interned_of x)) w 0) (lowest_0 9 (λ w. word_class None (get_or (numbers_of (interned_of x)) w 0)) e w l)
 
--- after the last interned effect of an accepted context every word is zero
--- the words of its table, and past the end of the list
-pub zero_after : (n f : ℕ) (cs : List ℕ) (next : ℕ) → length cs ≤ 238534 → context_class n f cs next ≡ 0 → (k : ℕ) → 37830 + interned_count cs * 98 ≤ k → get_or cs k 0 ≡ 0
-unfolding context_class tables_class effects_class stray_after stray_from counts_wrong index
-zero_after n f cs next long e k l = go (counts_wrong n f cs) refl
-  where
-    m : ℕ
-    m = interned_count cs
+-- what holds of the tables of an accepted context, by the class of each
+module _ (n : ℕ) (c : ContextWords) (next : ℕ) (e : context_class n c next ≡ 0) where
+  -- no count is above its limit, and the tables earn no class
+  counts_right : counts_wrong c ≡ false
+  unfolding context_class
+  counts_right = go (counts_wrong c) refl
+    where
+      go : (b : Bool) → counts_wrong c ≡ b → counts_wrong c ≡ false
+      go true h = absurd (let z : ◌≡◌ {A = ℕ} 2 0 = sym (ite_yes (counts_wrong c) 2 (tables_class n c next) h) ∙ e in omega arith)
+      go false h = h
 
-    words : tables_class n f cs next ≡ 0 → m ≤ 2048 → get_or cs k 0 ≡ 0
-    words h q = ⊎_elim inside past (lt_or_ge k 238534)
-      where
-        stray : lowest_below ((2048 - m) * 98) (λ j. word_class None (get_or cs (37830 + m * 98 + 0 + j) 0)) ≡ 0
-        stray = (lower_0 _ _ (lower_0 _ _ (lower_0 _ _ (lower_0 _ _ (lower_0 _ _ (lower_0 _ _ (lower_0 _ _ (lower_0 _ _ h).1).1).1).1).1).1).1).0
+  pub tables_right : tables_class n c next ≡ 0
+  unfolding context_class
+  tables_right = sym (ite_no (counts_wrong c) 2 (tables_class n c next) counts_right) ∙ e
 
-        inside : k < 238534 → get_or cs k 0 ≡ 0
-        inside p =
-            let z : k ≡ 37830 + m * 98 + 0 + (k - (37830 + m * 98)) = omega arith in
-            ap (λ (x : ℕ). get_or cs x 0) z
-            ∙ word_0 (get_or cs (37830 + m * 98 + 0 + (k - (37830 + m * 98))) 0) (lowest_0 ((2048 - m) * 98) _ stray (k - (37830 + m * 98)) (omega arith))
+  -- no more effects are interned than there can be, and no more diagnostics
+  few_effects : interned_count c ≤ 2048
+  unfolding counts_wrong
+  few_effects = ltb-false 2048 (interned_count c) (or_no_first (ltb 2048 (interned_count c)) _ (or_no_second (ltb 64 c.function_count) _ counts_right))
 
-        past : 238534 ≤ k → get_or cs k 0 ≡ 0
-        past p = get_or-eq_default cs 0 {n = k} (omega arith)
+  -- the diagnostics, then the effects
+  last_two : (diagnostics_class n c ≡ 0) × (effects_class n c.function_count c ≡ 0)
+  unfolding tables_class
+  last_two = lower_0 _ _ (lower_0 _ _ (lower_0 _ _ (lower_0 _ _ (lower_0 _ _ (lower_0 _ _ tables_right).1).1).1).1).1
 
-    go : (b : Bool) → counts_wrong n f cs ≡ b → get_or cs k 0 ≡ 0
-    go true h = absurd (let z : 2 ≡ 0 = sym (ite_yes (counts_wrong n f cs) 2 (tables_class n f cs next) h) ∙ e in omega arith)
-    go false h =
-        words (sym (ite_no (counts_wrong n f cs) 2 (tables_class n f cs next) h) ∙ e)
-        (ltb-false 2048 m (or_no_first (ltb 2048 m) _ (or_no_second (ltb 64 f) _ (or_no_second (not (eqb (get_or cs Layout.function_count 0) f)) _ (or_no_second (not (eqb (get_or cs Layout.identifier_count 0) n)) _ h)))))
+  -- the order of the interned effects earns no class
+  pub order_right : order_class c ≡ 0
+  unfolding effects_class
+  order_right = (lower_0 _ _ (lower_0 _ _ last_two.1).1).1
+
+  -- after the last interned effect every word is zero
+  -- the words of its table, and past the end of the slice
+  pub effects_after : length c.effects ≤ 200704 → (k : ℕ) → interned_count c * 98 ≤ k → get_or c.effects k 0 ≡ 0
+  unfolding effects_class stray_after stray_from index
+  effects_after long k l = ⊎_elim inside (λ p. get_or-eq_default c.effects 0 {n = k} (omega arith)) (lt_or_ge k 200704)
+    where
+      m : ℕ
+      m = interned_count c
+
+      inside : k < 200704 → get_or c.effects k 0 ≡ 0
+      inside p =
+          let few = few_effects in
+          let z : k ≡ 0 + m * 98 + 0 + (k - m * 98) = omega arith in
+          ap (λ (x : ℕ). get_or c.effects x 0) z
+          ∙ word_0 (get_or c.effects (0 + m * 98 + 0 + (k - m * 98)) 0) (lowest_0 ((2048 - m) * 98) (λ j. word_class None (get_or c.effects (0 + m * 98 + 0 + j) 0)) (lower_0 _ _ (lower_0 _ _ last_two.1).1).0 (k - m * 98) (omega arith))
+
+  -- after the last diagnostic every record is an unused one
+  pub diagnostics_after : length c.diagnostics ≡ 256 → (k : ℕ) → instance_count c ≤ k → get_or c.diagnostics k unused ≡ unused
+  unfolding diagnostics_class unused_from diagnostic_in
+  diagnostics_after long k l = ⊎_elim inside (λ p. get_or-eq_default c.diagnostics unused {n = k} (omega arith)) (lt_or_ge k 256)
+    where
+      m : ℕ
+      m = instance_count c
+
+      inside : k < 256 → get_or c.diagnostics k unused ≡ unused
+      inside p =
+          let z : k ≡ m + (k - m) = omega arith in
+          ap (λ (x : ℕ). get_or c.diagnostics x unused) z
+          ∙ unused_0 (get_or c.diagnostics (m + (k - m)) unused) (lowest_0 (256 - m) (λ j. unused_class (diagnostic_in c.diagnostics (m + j))) (lower_0 _ _ last_two.0).1 (k - m) (omega arith))

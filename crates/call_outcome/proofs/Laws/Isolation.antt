@@ -1,19 +1,17 @@
 -- Demand 3 of the call: two runs from accepted states that agree on the instruction's reach end alike. Assumes nothing.
-use Rattle.std.specs.Prelude.{ℕ, ◌*◌, ◌/◌, ◌≤◌, ◌≡◌, refl, length, get_or}
+use Rattle.std.specs.Prelude.{ℕ, ◌+◌, ◌*◌, ◌/◌, ◌%◌, ◌≤◌, ◌≡◌, refl, not, ◌||◌, eqb, length}
 use Rattle.std.proofs.Common.{arith, ◌∙◌}
 use Rattle.std.proofs.Math.Path.{sym, ap, ap₂, subst}
 use Rattle.std.proofs.Math.Logic.{⊎_elim}
-use mathlib.Core.List.{List}
 use Rattle.base_tests.proofs.Laws.Choice.{ite_eq, ite_ne}
 use Rattle.base_tests.proofs.Laws.Order.{same_or_not}
 use Rattle.lent_copies.specs.Copies.{zeros}
-use Rattle.def_effects.specs.declared.Session.{Session}
 use Rattle.def_transfer.specs.Monad.{Res, ok, refused, Done}
 use Rattle.def_transfer.specs.Tables.{World}
 use Rattle.def_transfer.specs.Instruction.{Instruction, apply_signature}
 use Rattle.def_transfer.specs.Reach.{Ends}
 use Rattle.def_transfer.specs.Reach as Reach
-use Rattle.lent_layout.specs.Layout as Layout
+use Rattle.lent_layout.specs.Context.{ContextWords}
 use Rattle.lent_world.specs.World.{lent}
 use Rattle.lent_world.proofs.Laws.LentIsolation.{Sized, lent_isolation}
 use Rattle.refuse_entries.specs.Words.{identifiers}
@@ -22,7 +20,9 @@ use Rattle.refuse_class.specs.Class.{lower}
 use Rattle.refuse_words.specs.Classes.{earns}
 use Rattle.refuse_instruction.specs.EffectClasses.{instruction_class}
 use Rattle.refuse_records.specs.Accepting.{context_class}
-use Rattle.call_outcome.specs.Calls.{Call, Outcome, room_for, wrong_context, lengths_wrong, candidate_count, call_class, lent_instruction, lent_world, refused_with, ends_in, concluded, outcome}
+use Rattle.call_outcome.specs.Calls.{Call, Outcome, room_for, context_wrong, lengths_wrong, candidate_count, call_class, lent_instruction, lent_world, refused_with, ends_in, concluded, outcome}
+use Rattle.call_undo.specs.Saves.{saved_words}
+use Rattle.call_outcome.specs.Attempts.{lengths_of}
 use Rattle.call_outcome.specs.Isolation.{state_of, reach, Twins, Alike, Isolation}
 use Rattle.call_outcome.proofs.Laws.Class.{class_0, lengths_right, right_length}
 
@@ -32,23 +32,20 @@ module _ (c d : Call) (t : Twins c d) where
   -- they earn the same class
   -- of their states only the number of identifiers counts, since both are accepted
   same_class : call_class c ≡ call_class d
-  unfolding call_class identifiers
+  unfolding call_class identifiers lengths_wrong
   same_class =
       ap₂ lower lengths
       (ap₂ lower (t.accepted ∙ sym t.accepted')
       (ap₂ lower
-      (ap₂ (λ (n : ℕ) (x : List ℕ). context_class (n / 16) (get_or x Layout.function_count 0) x c.session.next) t.identifiers t.context
-      ∙ ap (λ (s : Session). context_class (length d.sets / 16) (get_or d.context Layout.function_count 0) d.context s.next) t.session)
-      (ap₂ (λ (n : ℕ) (x : List ℕ). instruction_class (n / 16) (get_or x Layout.function_count 0) x c.candidates (candidate_count c.candidates) c.lvalue c.own) t.identifiers t.context
-      ∙ same_instruction)))
+      (λ j. context_class (t.identifiers j / 16) (t.context j) (t.session j).next)
+      (λ j. instruction_class (t.identifiers j / 16) (t.context j).function_count (t.context j) (t.candidates j) (candidate_count (t.candidates j)) (t.lvalue j) (t.own j))))
     where
-      lengths : earns 1 (lengths_wrong (length c.sets) (wrong_context c.context c.candidates) (length c.candidates) (length c.output) (length c.scratch64) (length c.scratch32))
-          ≡ earns 1 (lengths_wrong (length d.sets) (wrong_context d.context d.candidates) (length d.candidates) (length d.output) (length d.scratch64) (length d.scratch32))
-      lengths = λ j. earns 1 (lengths_wrong (t.identifiers j) (wrong_context (t.context j) (t.candidates j)) (length (t.candidates j)) (t.output j) (t.scratch64 j) (t.scratch32 j))
-
-      same_instruction : instruction_class (length d.sets / 16) (get_or d.context Layout.function_count 0) d.context c.candidates (candidate_count c.candidates) c.lvalue c.own
-          ≡ instruction_class (length d.sets / 16) (get_or d.context Layout.function_count 0) d.context d.candidates (candidate_count d.candidates) d.lvalue d.own
-      same_instruction = λ j. instruction_class (length d.sets / 16) (get_or d.context Layout.function_count 0) d.context (t.candidates j) (candidate_count (t.candidates j)) (t.lvalue j) (t.own j)
+      lengths : earns 1 (lengths_wrong c) ≡ earns 1 (lengths_wrong d)
+      lengths = λ j. earns 1
+          (context_wrong (t.identifiers j / 16) (room_for (t.context j) (t.candidates j)) (t.context j)
+          || (not (eqb (length (t.candidates j) % 98) 0)
+          || (not (eqb (t.output j) 109760)
+          || (not (eqb (t.scratch32 j) (saved_words (lengths_of (t.context j)))) || not (eqb (t.scratch64 j) (1024 + t.identifiers j))))))
 
   -- both are refused with the same number
   refused_alike : (m n : ℕ) → m ≡ n → Alike c d (refused_with m c) (refused_with n d)
@@ -96,19 +93,17 @@ module _ (c d : Call) (t : Twins c d) where
       same : lent_instruction c ≡ lent_instruction d
       same = λ j. Rattle.call_parts.specs.Instructions.instruction_of (t.candidates j) (candidate_count (t.candidates j)) (t.lvalue j) (t.own j)
 
-      long : 37830 ≤ length c.context
-      long =
-          let l = lengths_right (length c.sets) (wrong_context c.context c.candidates) (length c.candidates) (length c.output) (length c.scratch64) (length c.scratch32)
-          (class_0 c.values c.sets c.flag c.context c.session c.candidates c.lvalue c.own c.output c.scratch64 c.scratch32 z).0 in
-          let r = (right_length (room_for c.context c.candidates) (length c.context) l.0).room_there in
-          omega arith
+      links : 1024 ≤ length c.context.links
+      links =
+          let l = lengths_right c (class_0 c.values c.sets c.flag c.context c.session c.candidates c.lvalue c.own c.output c.scratch64 c.scratch32 z).0 in
+          (right_length (identifiers c.sets) (room_for c.context c.candidates) c.context l.0).links.room_there
 
       fits : Sized (length c.sets / 16) (lent_world c)
       fits =
           let h = accepted_lent c.values c.sets c.session.next c.session.access t.accepted in record {
             values = h.values_length;
             sets = h.sets_length;
-            context = omega (arith, long);
+            links = links;
           }
 
       fits' : Sized (length c.sets / 16) (lent_world d)
@@ -116,7 +111,7 @@ module _ (c d : Call) (t : Twins c d) where
           let h = accepted_lent d.values d.sets d.session.next d.session.access t.accepted' in record {
             values = h.values_length;
             sets = h.sets_length ∙ ap (λ (n : ℕ). 16 * (n / 16)) (sym t.identifiers);
-            context = omega (arith, long, ap length t.context);
+            links = omega (arith, links, ap (λ (x : ContextWords). length x.links) t.context);
           }
 
   -- they end alike

@@ -1,5 +1,5 @@
 -- What the code answers and leaves is the definition's outcome; and after a refusal everything is as before. Assumes nothing.
-use Rattle.std.specs.Prelude.{ℕ, zero, suc, ◌/◌, ◌≤◌, ◌≡◌, Bool, true, false, ltb, get_or, Result, Ok, Err}
+use Rattle.std.specs.Prelude.{ℕ, zero, suc, ◌/◌, ◌≤◌, ◌≡◌, Bool, true, false, ltb, Result, Ok, Err}
 use Rattle.std.proofs.Common.{arith, ◌∙◌, subst, ⊎_elim, ltb-false}
 use Rattle.std.proofs.Math.Path.{refl, sym, ap, ap₂}
 use mathlib.Core.List.{List}
@@ -19,23 +19,23 @@ use Rattle.def_transfer.specs.Instruction.{start_instruction, run, apply_signatu
 use Rattle.laws_monad.specs.Answers.{answer}
 use Rattle.laws_monad.proofs.Laws.Answers.{answer_ok, answer_refused}
 use Rattle.lent_work.specs.declared.Run.{Run}
-use Rattle.lent_layout.specs.Layout as Layout
+use Rattle.lent_layout.specs.Context.{ContextWords}
 use Rattle.lent_world.specs.World.{lent, world}
 use Rattle.lent_world.proofs.Laws.LentIsolation.{after}
 use Rattle.refuse_entries.specs.Words.{identifiers}
 use Rattle.refuse_entries.proofs.Laws.Accepted.{accepted_lent}
 use Rattle.call_parts.specs.Instructions.{instruction_of}
-use Rattle.call_outcome.specs.Calls.{Call, Outcome, call, given, room_for, wrong_context, candidate_count, call_class, lent_instruction, start_run, lent_world, refused_with, concluded, outcome, told}
+use Rattle.call_outcome.specs.Calls.{Call, Outcome, call, given, room_for, candidate_count, call_class, lent_instruction, start_run, lent_world, refused_with, concluded, outcome, told}
 use Rattle.call_outcome.specs.declared.Applied.{Applied}
 use Rattle.def_refusals.specs.declared.Refusal.{Refusal}
 use Rattle.def_refusals.specs.Verdicts.{number_of, class_of}
 use Rattle.call_outcome.specs.Attempts.{run_or, Ready}
-use Rattle.call_outcome.proofs.Laws.Class.{lengths_right, right_length, class_0, zero_after}
+use Rattle.call_outcome.proofs.Laws.Class.{lengths_right, right_length, class_0, effects_after, diagnostics_after}
 use Rattle.call_outcome.proofs.Laws.Attempt.{applies}
 
 -- an instruction that no class refuses has no more than 64 candidates
 -- "a count is above its limit"
-few : (n f : ℕ) (cs xs : List ℕ) (count : ℕ) (p : Place) (own : ℕ) → instruction_class n f cs xs count p own ≡ 0 → count ≤ 64
+few : (n f : ℕ) (cs : ContextWords) (xs : List ℕ) (count : ℕ) (p : Place) (own : ℕ) → instruction_class n f cs xs count p own ≡ 0 → count ≤ 64
 unfolding instruction_class
 few n f cs xs count p own e = go (ltb 64 count) refl (lower_0 _ _ e).0
   where
@@ -52,7 +52,7 @@ Ends (Err q) (Err w) = w ≡ q
 
 -- a call, by its parts
 -- in the order of the function's parameters
-module _ (vs ss : List ℕ) (flag : Bool) (cs : List ℕ) (s : Session) (xs : List ℕ) (p : Place) (own : ℕ) (os s64 s32 : List ℕ) where
+module _ (vs ss : List ℕ) (flag : Bool) (cs : ContextWords) (s : Session) (xs : List ℕ) (p : Place) (own : ℕ) (os s64 s32 : List ℕ) where
   abbrev c : Call
   c = call vs ss flag cs s xs p own os s64 s32
 
@@ -62,17 +62,22 @@ module _ (vs ss : List ℕ) (flag : Bool) (cs : List ℕ) (s : Session) (xs : Li
   unfolding identifiers
   is_ready zs e z =
       let a = class_0 vs ss flag cs s xs p own os s64 s32 e in
-      let l = lengths_right (length ss) (wrong_context cs xs) (length xs) (length os) (length s64) (length s32) a.0 in
-      let g = right_length (room_for cs xs) (length cs) l.0 in
+      let l = lengths_right c a.0 in
+      let g = right_length (identifiers ss) (room_for cs xs) cs l.0 in
       let h = accepted_lent vs ss s.next s.access a.1 in record {
         count = length ss / 16;
         values = h.values_length;
         sets = h.sets_length;
         most = h.most;
-        context = let z = g.room_there in omega arith;
-        after = zero_after (identifiers ss) (get_or cs Layout.function_count 0) cs s.next g.most a.2;
+        contexts = g.contexts.most;
+        links = let x = g.links.room_there in let y = g.links.most in omega arith;
+        keys = g.keys.most;
+        key_order = g.key_order.most;
+        effect_order = let y = g.effect_order.most in omega arith;
+        effects_after = effects_after (identifiers ss) cs s.next a.2 g.effects.most;
+        diagnostics_after = diagnostics_after (identifiers ss) cs s.next a.2 g.diagnostics;
         output = z ∙ ap zeros l.2;
-        candidates = few (identifiers ss) (get_or cs Layout.function_count 0) cs xs (candidate_count xs) p own a.3;
+        candidates = few (identifiers ss) cs.function_count cs xs (candidate_count xs) p own a.3;
         scratch64 = l.4;
         scratch32 = l.3;
       }
@@ -92,7 +97,7 @@ module _ (vs ss : List ℕ) (flag : Bool) (cs : List ℕ) (s : Session) (xs : Li
   cleared zs = refl
 
   -- no class refuses: the transfer decides
-  pub outcome_runs : (class : ℕ) (zs us ts ds ps t64 t32 : List ℕ) (n64 n32 q : ℕ) (r : Run) → class ≡ call_class c → class ≡ 0 → zs ≡ zeros (length os)
+  pub outcome_runs : (class : ℕ) (zs us ts : List ℕ) (ds : ContextWords) (ps t64 t32 : List ℕ) (n64 n32 q : ℕ) (r : Run) → class ≡ call_class c → class ≡ 0 → zs ≡ zeros (length os)
       → (Ready vs ss cs zs xs s64 s32 → apply_signature (instruction_of xs (candidate_count xs) p own) (world vs ss cs zs (start_run s flag)) ≡ answer q tt (world us ts ds ps r))
       → n64 ≡ length s64 → n32 ≡ length s32 → t64 ≡ zeros n64 → t32 ≡ zeros n32
       → given (record { refusal = q; count = r.listed; entries = r.entries; session = r.session; flag = r.flag }) us ts ds ps t64 t32 ≡ outcome c
@@ -134,7 +139,7 @@ module _ (vs ss : List ℕ) (flag : Bool) (cs : List ℕ) (s : Session) (xs : Li
           as_before (refused n w) y = sym (ap after y)
 
   -- the same of what the run answers, and of what the call answers then
-  pub outcome_told : (class : ℕ) (zs us ts ds ps t64 t32 : List ℕ) (n64 n32 : ℕ) (ran : Result Run Refusal) (a : Result Applied Refusal) → class ≡ call_class c → class ≡ 0 → zs ≡ zeros (length os)
+  pub outcome_told : (class : ℕ) (zs us ts : List ℕ) (ds : ContextWords) (ps t64 t32 : List ℕ) (n64 n32 : ℕ) (ran : Result Run Refusal) (a : Result Applied Refusal) → class ≡ call_class c → class ≡ 0 → zs ≡ zeros (length os)
       → (Ready vs ss cs zs xs s64 s32 → apply_signature (instruction_of xs (candidate_count xs) p own) (world vs ss cs zs (start_run s flag)) ≡ answer (class_of ran) tt (world us ts ds ps (run_or (start_run s flag) ran)))
       → n64 ≡ length s64 → n32 ≡ length s32 → t64 ≡ zeros n64 → t32 ≡ zeros n32 → Ends ran a
       → given (told s flag a) us ts ds ps t64 t32 ≡ outcome c
