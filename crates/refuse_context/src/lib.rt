@@ -38,7 +38,10 @@ fn functions_class(context: &Context, counts: Counts) -> Verdict
     let n = counts.functions as usize;
     let records = function_records(context.functions, context.contexts, n, counts.identifiers);
     let after = stray_after(FUNCTIONS, context.functions, n);
-    lower(records, lower(after, stray_after(CONTEXTS, context.contexts, n)))
+    lower(
+        records,
+        lower(after, stray_after(CONTEXTS, context.contexts, n)),
+    )
 }
 
 // How many fresh numbers there are below next.

@@ -15,9 +15,7 @@ use lent_slices::get_or;
 use refuse_instruction::{Counts, effect_class};
 use refuse_keys::{key_class, no_key_class};
 use refuse_repeats::diagnostic_twice;
-use refuse_tables::{
-    function_class, identifier_class, link_class, message_class, unused_class,
-};
+use refuse_tables::{function_class, identifier_class, link_class, message_class, unused_class};
 use refuse_words::{earns, lowest};
 
 // Whether a cached key has too many captures; only that of a CreateFunction has any.
@@ -57,7 +55,14 @@ fn diagnostic_class(diagnostics: &[Numbered], k: u32, identifiers: u32) -> Verdi
 fn interned_class(context: &Context, k: usize, counts: Counts) -> Verdict
     ensures { class_of result ≡ interned_class counts.identifiers counts.functions (held context.now) k }
 {
-    effect_class(context, Err(Refusal::Range), INTERNED, context.effects, k, counts)
+    effect_class(
+        context,
+        Err(Refusal::Range),
+        INTERNED,
+        context.effects,
+        k,
+        counts,
+    )
 }
 
 // What n identifiers earn.
@@ -68,18 +73,10 @@ pub fn identifier_records(identifiers: &[u32], n: usize) -> Verdict
 }
 
 // What n functions earn, whose context places stand in a table of their own.
-pub fn function_records(
-    functions: &[u32],
-    contexts: &[u32],
-    n: usize,
-    identifiers: u32,
-) -> Verdict
+pub fn function_records(functions: &[u32], contexts: &[u32], n: usize, identifiers: u32) -> Verdict
     ensures { class_of result ≡ lowest_below n (function_class identifiers functions.now contexts.now) }
 {
-    lowest(
-        n,
-        |k| function_class(functions, contexts, k, identifiers),
-    )
+    lowest(n, |k| function_class(functions, contexts, k, identifiers))
 }
 
 // What the links of n numbers earn.
@@ -109,7 +106,6 @@ pub fn diagnostic_records(diagnostics: &[Numbered], n: u32, identifiers: u32) ->
 }
 
 // What the records of diagnostics from the n-th on earn, which are not in use.
-#[tactic(auto, unfolding(crate::specs::Accepting::unused_from))]
 pub fn unused_from(diagnostics: &[Numbered], n: u32) -> Verdict
     ensures { class_of result ≡ unused_from diagnostics.now n }
 {

@@ -1,7 +1,5 @@
-use Rattle.std.proofs.Common.{refl}
 use Rattle.refuse_records.proofs.Laws.Accepting.{effects_are}
 use Rattle.refuse_context.proofs.effects_class.Goals as goal
 
 pub returns : goal.returns
-returns c =
-    effects_are _ _ _ _ _ _ _ _ _ _ c.interned_count-n.ensures refl c.effect_records-records.ensures c.stray_after-after.ensures c.order_class.ensures c.lower.ensures c.lower-2.ensures
+returns c = effects_are _ _ _ _ _ _ _ _ c.effect_records-records.ensures c.stray_after-after.ensures c.order_class.ensures c.lower.ensures c.lower-2.ensures
