@@ -6,4 +6,4 @@ use Rattle.image_decode.specs.Decoded.{after}
 use Rattle.image_decode.proofs.decode_identifier.Given as goal
 
 abbrev pub invariant-loop-j : goal.invariant-loop-j
-invariant-loop-j l = l.context ≡ after (λ j c. put_field Lent.identifiers c l.k j (cell l.im identifiers l.k j)) l.j l.initial.context
+invariant-loop-j l = l.identifiers ≡ after (λ j c. put_field Lent.identifiers c l.k j (cell l.im identifiers l.k j)) l.j l.initial.identifiers

@@ -3,4 +3,4 @@ use Rattle.image_decode.specs.Decoded.{after, decoded_identifier}
 use Rattle.image_decode.proofs.decode_identifiers.Given as goal
 
 abbrev pub invariant-loop-k : goal.invariant-loop-k
-invariant-loop-k l = l.context ≡ after (decoded_identifier l.im) l.k l.initial.context
+invariant-loop-k l = l.identifiers ≡ after (decoded_identifier l.im) l.k l.initial.identifiers
