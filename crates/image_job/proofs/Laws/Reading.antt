@@ -11,6 +11,7 @@ use Rattle.lent_copies.specs.Copies.{zeros}
 use Rattle.base_tests.proofs.Laws.Bool.{or_no_first, or_no_second}
 use Rattle.def_image.specs.Layout.{wrong_length, words_of, values, pairs, candidates, count_of}
 use Rattle.def_image.specs.Refusals.{refusal_of_words, refusal_of}
+use Rattle.lent_layout.specs.Context.{ContextWords, is_full, emptied}
 use Rattle.image_words.specs.Loaded.{loaded}
 use Rattle.image_words.proofs.Laws.Load.{loaded_whole}
 use Rattle.image_decode.specs.Decoded.{decoded_values, decoded_sets, decoded_context, decoded_candidates}
@@ -20,7 +21,7 @@ use Rattle.image_job.specs.Reading.{Said, Tables, tables, Read, given, job_of, f
 
 -- a class refuses them: nothing was written
 -- one way through `read_words`
-pub words_refused : (bs im : List ℕ) (m : ℕ) (vs ss cs xs : List ℕ) (n : ℕ) (j : Said) → im ≡ loaded bs m → n ≡ refusal_of_words im → (n ≡ 0 → ⊥) → j ≡ no_job n → given j vs ss cs xs ≡ read_words (loaded bs m) (tables vs ss cs xs)
+pub words_refused : (bs im : List ℕ) (m : ℕ) (vs ss : List ℕ) (cs : ContextWords) (xs : List ℕ) (n : ℕ) (j : Said) → im ≡ loaded bs m → n ≡ refusal_of_words im → (n ≡ 0 → ⊥) → j ≡ no_job n → given j vs ss cs xs ≡ read_words (loaded bs m) (tables vs ss cs xs)
 unfolding read_words
 words_refused bs im m vs ss cs xs n j e f g h =
     let q : n ≡ refusal_of_words (loaded bs m) = f ∙ ap refusal_of_words e in
@@ -28,8 +29,8 @@ words_refused bs im m vs ss cs xs n j e f g h =
     ∙ sym (ite_ne (refusal_of_words (loaded bs m)) 0 (record { job = job_of (loaded bs m); tables = filled (loaded bs m) (tables vs ss cs xs) }) (refused_with (refusal_of_words (loaded bs m)) (tables vs ss cs xs)) (λ z. g (q ∙ z)))
 
 -- none does: the tables are filled
-pub words_read : (bs im : List ℕ) (m : ℕ) (vs ss cs xs us ts ds ys : List ℕ) (n : ℕ) (j : Said) → im ≡ loaded bs m → n ≡ refusal_of_words im → n ≡ 0
-    → us ≡ decoded_values im (count_of im values) (zeros (length vs)) → ts ≡ decoded_sets im (count_of im pairs) (zeros (length ss)) → ds ≡ decoded_context im (zeros (length cs))
+pub words_read : (bs im : List ℕ) (m : ℕ) (vs ss : List ℕ) (cs : ContextWords) (xs us ts : List ℕ) (ds : ContextWords) (ys : List ℕ) (n : ℕ) (j : Said) → im ≡ loaded bs m → n ≡ refusal_of_words im → n ≡ 0
+    → us ≡ decoded_values im (count_of im values) (zeros (length vs)) → ts ≡ decoded_sets im (count_of im pairs) (zeros (length ss)) → ds ≡ decoded_context im (emptied cs)
     → ys ≡ decoded_candidates im (count_of im candidates) (zeros (length xs)) → j ≡ job_of im
     → given j us ts ds ys ≡ read_words (loaded bs m) (tables vs ss cs xs)
 unfolding read_words filled
@@ -45,14 +46,14 @@ words_read bs im m vs ss cs xs us ts ds ys n j e f g hv hs hc hx hj =
 
 -- what is lent, and which class refuses it
 -- one law for each way through `read_image`
-module _ (bs : List ℕ) (w : ℕ) (vs ss cs xs : List ℕ) where
+module _ (bs : List ℕ) (w : ℕ) (vs ss : List ℕ) (cs : ContextWords) (xs : List ℕ) where
   -- the tables as they are lent
   abbrev t : Tables
   t = tables vs ss cs xs
 
   -- whether a lent list has the wrong length
   abbrev wrong : Bool
-  wrong = lent_wrong w (length vs) (length ss) (length cs) (length xs)
+  wrong = lent_wrong w (length vs) (length ss) (is_full cs) (length xs)
 
   -- a class decides, once it is known
   by_class : (n : ℕ) → read_class bs w t ≡ n → ite (eqb n 0) (record { job = job_of (words_of bs); tables = filled (words_of bs) t }) (refused_with n t) ≡ read_image bs w t
@@ -89,7 +90,7 @@ module _ (bs : List ℕ) (w : ℕ) (vs ss cs xs : List ℕ) where
 
 -- scratch of the right length has room for an image of the right length
 -- "from 68 to 65,536 bytes": 16,384 words
-pub words_fit : (bs : List ℕ) (w v s c x : ℕ) → false ≡ lent_wrong w v s c x → false ≡ wrong_length bs → length bs / 4 ≤ w
+pub words_fit : (bs : List ℕ) (w v s : ℕ) (c : Bool) (x : ℕ) → false ≡ lent_wrong w v s c x → false ≡ wrong_length bs → length bs / 4 ≤ w
 unfolding lent_wrong wrong_length
 words_fit bs w v s c x h g =
     let a = eqb-true w 16384 (not-false _ (or_no_first (not (eqb w 16384)) _ (sym h))) in
