@@ -5,10 +5,10 @@ use Rattle.laws_monad.proofs.Laws.Answers.{passes}
 use Rattle.image_job.proofs.Laws.Reading.{words_refused, words_read}
 use Rattle.image_read.proofs.read_words.Goals as goal
 
-pub returns-in_err-words_refusal : goal.returns-in_err-words_refusal
-returns-in_err-words_refusal c =
+pub returns-in_err-words_refusal-clause-does : goal.returns-in_err-words_refusal-clause-does
+returns-in_err-words_refusal-clause-does c =
     rw (passes _ _ c.from_residual.ensures.1) (words_refused _ _ _ _ _ _ _ _ _ c.load_words.ensures c.in_err-words_refusal.ensures (number_some c.in_err-words_refusal.field-0.0) refl)
 
-pub returns : goal.returns
-returns c =
-    words_read _ _ _ _ _ _ _ _ _ _ _ _ _ c.load_words.ensures c.in_ok-words_refusal.ensures refl c.fill_state.ensures.0 c.fill_state.ensures.1 c.fill_context.ensures c.fill_candidates.ensures c.job_of.ensures
+pub returns-clause-does : goal.returns-clause-does
+returns-clause-does c =
+    words_read _ _ _ _ _ _ _ _ _ _ _ _ _ c.load_words.ensures c.in_ok-words_refusal.ensures refl c.fill_state.ensures.0 c.fill_state.ensures.1 c.fill_context.ensures.does c.fill_candidates.ensures c.job_of.ensures
