@@ -1,6 +1,7 @@
 use native.Mathlib.Omega.{arith}
 use mathlib.Core.Path.{refl, sym, ◌∙◌}
 use Rattle.laws_monad.proofs.Laws.Answers.{passes}
+use Rattle.lent_world.proofs.Laws.Promise.{kept_start, kept_then, slices_then}
 use Rattle.effect_walk.proofs.Laws.Walk.{values_some, goes_start, enters_none, enters_plain, runs_shut, row_start, runs_open, enters, row_next, row_fails, walk_ends, walk_fails}
 use Rattle.effect_walk.proofs.+freeze_function_captures_transitive.Goals as goal
 use Rattle.effect_walk.proofs.+freeze_function_captures_transitive.Goals.{then-opens+in_default-value_from, else-opens}
@@ -12,10 +13,10 @@ pub returns-in_default-clause-does : goal.returns-in_default-clause-does
 returns-in_default-clause-does t c = enters_plain c.args.world.now _ _ _ c.if-world-ge4096.false c.one_more-world.ensures _ c.link_of.ensures c.in_default.is
 
 pub loop-k-init : goal.loop-k-init
-loop-k-init t c = (((refl, refl), (refl, refl), (refl, refl), (refl, refl)), goes_start _ _ _ _ _ refl)
+loop-k-init t c = (kept_start c.args.world.now, goes_start _ _ _ _ _ refl)
 
 pub loop-m-init : goal.loop-m-init
-loop-m-init t c = (((refl, refl), (refl, refl), (refl, refl), (refl, refl)), row_start _ _ _ _)
+loop-m-init t c = (kept_start c.loop-k.world, row_start _ _ _ _)
 
 pub freeze_function_captures_transitive-requires : goal.freeze_function_captures_transitive-requires
 freeze_function_captures_transitive-requires t c = (let x = c.loop-k.invariant.1.walked.grows in let y = c.loop-m.invariant.1.walked.grows in omega arith)
@@ -34,12 +35,12 @@ pub loop-m-preserved : goal.loop-m-preserved
 loop-m-preserved t c =
     let h : _ = c.loop-m.invariant.0 in
     let g : _ = c.freeze_function_captures_transitive.ensures.kept in
-    (((h.0.0 ∙ g.0.0, h.0.1 ∙ sym c.freeze_value.auto.values ∙ g.0.1), (h.1.0 ∙ g.1.0, h.1.1 ∙ g.1.1), (h.2.0 ∙ g.2.0, h.2.1 ∙ g.2.1), (h.3.0 ∙ g.3.0, h.3.1 ∙ g.3.1)), row_next _ _ _ _ _ _ c.loop-m.invariant.1 _ c.value_from.ensures _ _ c.in-Some-value_from.is (record { sets = c.freeze_function_captures_transitive.ensures.walked.sets; context = c.freeze_function_captures_transitive.ensures.walked.context; grows = c.freeze_function_captures_transitive.ensures.walked.grows }) (enters _ _ c.loop-m.world _ c.freeze_value.ensures _ c.in_ok-freeze_function_captures_transitive.ensures.does))
+    (((h.0.0 ∙ g.0.0, h.0.1 ∙ sym c.freeze_value.auto.values ∙ g.0.1), (h.1.0 ∙ g.1.0, h.1.1 ∙ g.1.1), (h.2.0 ∙ g.2.0, h.2.1 ∙ g.2.1), h.3 ∙ g.3, slices_then c.loop-k.world.context.now c.loop-m.world.context.now c.freeze_function_captures_transitive.new.world.context.now h.4 g.4), row_next _ _ _ _ _ _ c.loop-m.invariant.1 _ c.value_from.ensures _ _ c.in-Some-value_from.is (record { sets = c.freeze_function_captures_transitive.ensures.walked.sets; context = c.freeze_function_captures_transitive.ensures.walked.context; grows = c.freeze_function_captures_transitive.ensures.walked.grows }) (enters _ _ c.loop-m.world _ c.freeze_value.ensures _ c.in_ok-freeze_function_captures_transitive.ensures.does))
 
 pub loop-k-preserved : goal.loop-k-preserved
 loop-k-preserved t c =
     elim c.if-opens.branch [
-      | then-opens+in_default-value_from w ↦ rw w.world-is (((c.loop-k.invariant.0.0.0 ∙ w.loop-m.invariant.0.0.0, c.loop-k.invariant.0.0.1 ∙ w.loop-m.invariant.0.0.1), (c.loop-k.invariant.0.1.0 ∙ w.loop-m.invariant.0.1.0, c.loop-k.invariant.0.1.1 ∙ w.loop-m.invariant.0.1.1), (c.loop-k.invariant.0.2.0 ∙ w.loop-m.invariant.0.2.0, c.loop-k.invariant.0.2.1 ∙ w.loop-m.invariant.0.2.1), (c.loop-k.invariant.0.3.0 ∙ w.loop-m.invariant.0.3.0, c.loop-k.invariant.0.3.1 ∙ w.loop-m.invariant.0.3.1)), runs_open _ _ _ _ _ _ _ _ c.loop-k.invariant.1 c.loop-k-test.true c.entered_place-i.ensures c.opens.ensures w.if-opens.true _ _ w.loop-m.invariant.1 _ w.value_from.ensures w.in_default-value_from.is)
+      | then-opens+in_default-value_from w ↦ rw w.world-is (kept_then c.args.world.now c.loop-k.world w.loop-m.world c.loop-k.invariant.0 w.loop-m.invariant.0, runs_open _ _ _ _ _ _ _ _ c.loop-k.invariant.1 c.loop-k-test.true c.entered_place-i.ensures c.opens.ensures w.if-opens.true _ _ w.loop-m.invariant.1 _ w.value_from.ensures w.in_default-value_from.is)
       | else-opens w ↦ rw w.world-is (c.loop-k.invariant.0, runs_shut _ _ _ _ _ _ _ _ c.loop-k.invariant.1 c.loop-k-test.true c.entered_place-i.ensures c.opens.ensures w.if-opens.false)
     ]
 

@@ -25,6 +25,8 @@ use Rattle.state_ops.specs.Lists.{frozen, freezes}
 use Rattle.lent_tables.specs.Words.{field, place_in, places_in}
 use Rattle.lent_tables.proofs.Laws.Word.{places_more, places_none}
 use Rattle.lent_layout.specs.Layout as Layout
+use Rattle.lent_layout.specs.declared.Context.{Context}
+use Rattle.lent_layout.specs.Context.{ContextWords, held}
 use Rattle.lent_context.specs.Lent.{link_of, context_of}
 use Rattle.lent_work.specs.declared.Run.{Run}
 use Rattle.laws_monad.proofs.Laws.Answers.{bind_ok, then_ok, then_fails, if_le, if_gt}
@@ -93,14 +95,14 @@ module _ (F : ℕ → M (World lent) Done) (reason : ℕ) where
       bind_ok _ _ _ _ _ _ refl
       (each_done (enter_place F reason) _ w (ap (λ (o : Option ℕ). elim o as (λ x. List Place) [ None ↦ [] | Some f ↦ function_context f w.rest ]) e))
 
-  context_some : (w : World lent) (v f n : ℕ) → link_of w.rest.context v ≡ Some f → n ≡ field Layout.functions w.rest.context f 1
-      → enter_context F reason v w ≡ each (places_in Layout.contexts w.rest.context f 0 0 (n - 0)) (enter_place F reason) w
+  context_some : (w : World lent) (v f n : ℕ) → link_of w.rest.context v ≡ Some f → n ≡ field Layout.functions w.rest.context.functions f 1
+      → enter_context F reason v w ≡ each (places_in Layout.contexts w.rest.context.contexts f 0 0 (n - 0)) (enter_place F reason) w
   unfolding enter_context ask linked_context function_context context_of
   context_some w v f n e g =
       let z : n - 0 ≡ n = omega arith in
       bind_ok _ _ _ _ _ _ refl
-      (ap (λ (o : Option ℕ). each (elim o as (λ x. List Place) [ None ↦ [] | Some f ↦ places_in Layout.contexts w.rest.context f 0 0 (field Layout.functions w.rest.context f 1) ]) (enter_place F reason) w) e
-      ∙ ap (λ (m : ℕ). each (places_in Layout.contexts w.rest.context f 0 0 m) (enter_place F reason) w) (sym g ∙ sym z))
+      (ap (λ (o : Option ℕ). each (elim o as (λ x. List Place) [ None ↦ [] | Some f ↦ places_in Layout.contexts w.rest.context.contexts f 0 0 (field Layout.functions w.rest.context.functions f 1) ]) (enter_place F reason) w) e
+      ∙ ap (λ (m : ℕ). each (places_in Layout.contexts w.rest.context.contexts f 0 0 m) (enter_place F reason) w) (sym g ∙ sym z))
 
   -- ---- a place of the context
 
@@ -131,7 +133,7 @@ module _ (F : ℕ → M (World lent) Done) (reason : ℕ) where
   entered w u v x e h = then_ok _ _ _ _ _ _ e h
 
 -- the code freezes a value as the definition does
-freezes_value : (vs us ss cs os : List ℕ) (r : Run) (v reason : ℕ) → us ≡ frozen vs v reason → freeze_value reason v (world vs ss cs os r) ≡ ok tt (world us ss cs os r)
+freezes_value : (vs us ss : List ℕ) (cs : ContextWords) (os : List ℕ) (r : Run) (v reason : ℕ) → us ≡ frozen vs v reason → freeze_value reason v (world vs ss cs os r) ≡ ok tt (world us ss cs os r)
 unfolding freeze_value initialize
 freezes_value vs us ss cs os r v reason e = ap (λ (l : List ℕ). ok tt (world l ss cs os r)) (sym e)
 
@@ -233,69 +235,69 @@ module _ (reason : ℕ) (f : (ℕ → M (World lent) Done) → ℕ → M (World 
 
 -- the loop over the context of the value's function
 abbrev pub Runs : ℕ → Lent → Lent → ℕ → ℕ → ℕ → Type 0
-Runs reason v w f n k = Goes reason (λ F. enter_place F reason) v w (places_in Layout.contexts v.context.now f 0 0 (n - 0)) (places_in Layout.contexts v.context.now f 0 k (n - k))
+Runs reason v w f n k = Goes reason (λ F. enter_place F reason) v w (places_in Layout.contexts v.context.now.contexts.now f 0 0 (n - 0)) (places_in Layout.contexts v.context.now.contexts.now f 0 k (n - k))
 
 -- from the entry of a value to the end of its walk
-module _ (u : Lent) (a reason x : ℕ) (h : u.run.freeze < 4096) (g : a ≡ one_more u.run.entries) (o : Option ℕ) (l : o ≡ link_of u.context.now x) where
+module _ (u : Lent) (a reason x : ℕ) (h : u.run.freeze < 4096) (g : a ≡ one_more u.run.entries) (o : Option ℕ) (l : o ≡ link_of (held u.context.now) x) where
   -- a value without a function: only the entry is counted
   -- "Each entry is counted, repeats too"
   pub enters_plain : o ≡ None → (d : ℕ) → 4096 - u.run.freeze ≤ d → freeze_function_captures_transitive d reason x (seen u) ≡ ok tt (seen (counted u (u.run.freeze + 1) a))
   enters_plain n d q = deeper (λ y. freeze_function_captures_transitive y reason x (seen u) ≡ ok tt (seen (counted u (u.run.freeze + 1) a))) u.run.freeze d h q (λ c r.
       depth_more (seen u) (seen (counted u (u.run.freeze + 1) a)) reason x c (count_one u a h g) ∙ context_none (freeze_function_captures_transitive c reason) reason (seen (counted u (u.run.freeze + 1) a)) x (sym l ∙ n))
 
-  module _ (f n : ℕ) (s : o ≡ Some f) (t : n ≡ field Layout.functions u.context.now f 1) where
+  module _ (f n : ℕ) (s : o ≡ Some f) (t : n ≡ field Layout.functions u.context.now.functions.now f 1) where
     -- one with a function comes to what the loop over its context comes to
     enters_runs : (r : Res (World lent) Done)
-        → ((d : ℕ) → 4096 - (u.run.freeze + 1) ≤ d → each (places_in Layout.contexts u.context.now f 0 0 (n - 0)) (enter_place (freeze_function_captures_transitive d reason) reason) (seen (counted u (u.run.freeze + 1) a)) ≡ r)
+        → ((d : ℕ) → 4096 - (u.run.freeze + 1) ≤ d → each (places_in Layout.contexts u.context.now.contexts.now f 0 0 (n - 0)) (enter_place (freeze_function_captures_transitive d reason) reason) (seen (counted u (u.run.freeze + 1) a)) ≡ r)
         → (d : ℕ) → 4096 - u.run.freeze ≤ d → freeze_function_captures_transitive d reason x (seen u) ≡ r
     enters_runs r k d q = deeper (λ y. freeze_function_captures_transitive y reason x (seen u) ≡ r) u.run.freeze d h q (λ c p.
         depth_more (seen u) (seen (counted u (u.run.freeze + 1) a)) reason x c (count_one u a h g)
         ∙ context_some (freeze_function_captures_transitive c reason) reason (seen (counted u (u.run.freeze + 1) a)) x f n (sym l ∙ s) t ∙ k c p)
 
 -- the loop over the context
-module _ (reason : ℕ) (v w : Lent) (f n k i : ℕ) (b : Bool) (r : Runs reason v w f n k) (h : k < n) (e : i ≡ field Layout.contexts w.context.now f (k * 5)) (o : b ≡ freezes w.values.now w.sets.now i) where
-  named : (place_in Layout.contexts v.context.now f (0 + k * 5)).identifier ≡ i
+module _ (reason : ℕ) (v w : Lent) (f n k i : ℕ) (b : Bool) (r : Runs reason v w f n k) (h : k < n) (e : i ≡ field Layout.contexts w.context.now.contexts.now f (k * 5)) (o : b ≡ freezes w.values.now w.sets.now i) where
+  named : (place_in Layout.contexts v.context.now.contexts.now f (0 + k * 5)).identifier ≡ i
   unfolding place_in
   named =
       let z : 0 + k * 5 ≡ k * 5 = omega arith in
-      ap (field Layout.contexts v.context.now f) z ∙ sym (e ∙ ap (λ (c : List ℕ). field Layout.contexts c f (k * 5)) r.walked.context)
+      ap (field Layout.contexts v.context.now.contexts.now f) z ∙ sym (e ∙ ap (λ (c : Context). field Layout.contexts c.contexts.now f (k * 5)) r.walked.context)
 
   -- a place that a freeze does not act on is passed
   pub runs_shut : b ≡ false → Runs reason v w f n (k + 1)
   runs_shut z =
-      goes_on _ _ _ _ _ _ r w _ _ (places_more Layout.contexts v.context.now f 0 k n h) (walked_none w)
+      goes_on _ _ _ _ _ _ r w _ _ (places_more Layout.contexts v.context.now.contexts.now f 0 k n h) (walked_none w)
       (λ d q. place_shut (freeze_function_captures_transitive d reason) reason (seen w) _ i b named o z)
 
   module _ (z : b ≡ true) where
     -- its values are done, and the walk goes on with the next place
     pub runs_open : (u : Lent) (from : ℕ) → RunsRow reason (λ F. freeze_and_enter F reason) w u i from → (s : Option ℕ) → s ≡ value_from u.sets.now i from → s ≡ None → Runs reason v u f n (k + 1)
     runs_open u from y s t g =
-        goes_on _ _ _ _ _ _ r u _ _ (places_more Layout.contexts v.context.now f 0 k n h) y.walked
+        goes_on _ _ _ _ _ _ r u _ _ (places_more Layout.contexts v.context.now.contexts.now f 0 k n h) y.walked
         (λ d q. place_opens (freeze_function_captures_transitive d reason) reason (seen w) _ i b named o z
         ∙ row_ends reason (λ F. freeze_and_enter F reason) w u i from y s t g d (let x = r.walked.grows in omega arith))
 
     -- a value of the place was refused
     runs_refused : (u : World lent) (x : ℕ) → ((d : ℕ) → 4096 - w.run.freeze ≤ d → each (values_of (set_at w.sets.now i)) (freeze_and_enter (freeze_function_captures_transitive d reason) reason) (seen w) ≡ refused x u)
-        → (d : ℕ) → 4096 - v.run.freeze ≤ d → each (places_in Layout.contexts v.context.now f 0 0 (n - 0)) (enter_place (freeze_function_captures_transitive d reason) reason) (seen v) ≡ refused x u
+        → (d : ℕ) → 4096 - v.run.freeze ≤ d → each (places_in Layout.contexts v.context.now.contexts.now f 0 0 (n - 0)) (enter_place (freeze_function_captures_transitive d reason) reason) (seen v) ≡ refused x u
     runs_refused u x y =
-        goes_fails _ _ _ _ _ _ r u _ _ x (places_more Layout.contexts v.context.now f 0 k n h)
+        goes_fails _ _ _ _ _ _ r u _ _ x (places_more Layout.contexts v.context.now.contexts.now f 0 k n h)
         (λ d q. place_opens (freeze_function_captures_transitive d reason) reason (seen w) _ i b named o z ∙ y d (let p = r.walked.grows in omega arith))
 
 -- a value is frozen, then entered
 pub enters : (reason m : ℕ) (w : Lent) (us : List ℕ) → us ≡ frozen w.values.now m reason → (x : Res (World lent) Done)
-    → ((d : ℕ) → 4096 - w.run.freeze ≤ d → freeze_function_captures_transitive d reason m (world us w.sets.now w.context.now w.output.now w.run) ≡ x)
+    → ((d : ℕ) → 4096 - w.run.freeze ≤ d → freeze_function_captures_transitive d reason m (world us w.sets.now (held w.context.now) w.output.now w.run) ≡ x)
     → (d : ℕ) → 4096 - w.run.freeze ≤ d → freeze_and_enter (freeze_function_captures_transitive d reason) reason m (seen w) ≡ x
-enters reason m w us e x g d l = entered (freeze_function_captures_transitive d reason) reason (seen w) _ m x (freezes_value w.values.now us w.sets.now w.context.now w.output.now w.run m reason e) (g d l)
+enters reason m w us e x g d l = entered (freeze_function_captures_transitive d reason) reason (seen w) _ m x (freezes_value w.values.now us w.sets.now (held w.context.now) w.output.now w.run m reason e) (g d l)
 
 -- the walk of a value with a function ends as its loop over the context does
-module _ (u : Lent) (a reason x : ℕ) (h : u.run.freeze < 4096) (g : a ≡ one_more u.run.entries) (o : Option ℕ) (l : o ≡ link_of u.context.now x) (f n : ℕ) (s : o ≡ Some f) (t : n ≡ field Layout.functions u.context.now f 1)
+module _ (u : Lent) (a reason x : ℕ) (h : u.run.freeze < 4096) (g : a ≡ one_more u.run.entries) (o : Option ℕ) (l : o ≡ link_of (held u.context.now) x) (f n : ℕ) (s : o ≡ Some f) (t : n ≡ field Layout.functions u.context.now.functions.now f 1)
     (w : Lent) (k : ℕ) (r : Runs reason (counted u (u.run.freeze + 1) a) w f n k) where
   -- no place is left
   pub walk_ends : n ≤ k → (d : ℕ) → 4096 - u.run.freeze ≤ d → freeze_function_captures_transitive d reason x (seen u) ≡ ok tt (seen w)
-  walk_ends z = enters_runs u a reason x h g o l f n s t _ (goes_end _ _ _ _ _ _ r (places_none Layout.contexts u.context.now f 0 k n z))
+  walk_ends z = enters_runs u a reason x h g o l f n s t _ (goes_end _ _ _ _ _ _ r (places_none Layout.contexts u.context.now.contexts.now f 0 k n z))
 
   -- a value of a place was refused
-  pub walk_fails : (i : ℕ) (b : Bool) → k < n → i ≡ field Layout.contexts w.context.now f (k * 5) → b ≡ freezes w.values.now w.sets.now i → b ≡ true → (z : World lent) (q : ℕ)
+  pub walk_fails : (i : ℕ) (b : Bool) → k < n → i ≡ field Layout.contexts w.context.now.contexts.now f (k * 5) → b ≡ freezes w.values.now w.sets.now i → b ≡ true → (z : World lent) (q : ℕ)
       → ((d : ℕ) → 4096 - w.run.freeze ≤ d → each (values_of (set_at w.sets.now i)) (freeze_and_enter (freeze_function_captures_transitive d reason) reason) (seen w) ≡ refused q z)
       → (d : ℕ) → 4096 - u.run.freeze ≤ d → freeze_function_captures_transitive d reason x (seen u) ≡ refused q z
   walk_fails i b y e m p z q c = enters_runs u a reason x h g o l f n s t _ (runs_refused reason _ w f n k i b r y e m p z q c)
