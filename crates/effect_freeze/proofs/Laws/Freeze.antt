@@ -15,6 +15,7 @@ use Rattle.def_transfer.specs.Step.{freezing}
 use Rattle.lent_sets.specs.Rows.{set_at}
 use Rattle.state_ops.specs.Lists.{freezes, frozen_values}
 use Rattle.state_ops.proofs.Laws.Text.{freeze_lists}
+use Rattle.lent_layout.specs.Context.{ContextWords}
 use Rattle.lent_context.specs.Lent.{is_transitive}
 use Rattle.lent_work.specs.declared.Run.{Run}
 use Rattle.lent_effects.specs.declared.AliasingEffect.TheVariants as Head
@@ -56,7 +57,7 @@ module _ (u : Lent) (i reason : ℕ) where
 
 -- ---- the three ways through a Freeze
 
-module _ (vs us ss cs os : List ℕ) (r : Run) (p : Place) (reason : ℕ) (b : Bool) (e : b ≡ freezes vs ss p.identifier) (g : us ≡ frozen_values vs ss p.identifier reason) (again : AliasingEffect → M (World lent) Done) where
+module _ (vs us ss : List ℕ) (cs : ContextWords) (os : List ℕ) (r : Run) (p : Place) (reason : ℕ) (b : Bool) (e : b ≡ freezes vs ss p.identifier) (g : us ≡ frozen_values vs ss p.identifier reason) (again : AliasingEffect → M (World lent) Done) where
   frozen_to : State.freeze p.identifier reason (world vs ss cs os r) ≡ ok b (world us ss cs os r)
   frozen_to = freeze_lists lent r.flag (world vs ss cs os r).rest vs ss p.identifier reason ∙ ap₂ (λ (x : Bool) (l : List ℕ). ok x (world l ss cs os r)) (sym e) (sym g)
 

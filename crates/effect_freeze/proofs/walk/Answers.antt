@@ -1,13 +1,12 @@
 use native.Mathlib.Omega.{arith}
-use mathlib.Core.Path.{refl}
 use Rattle.laws_monad.proofs.Laws.Answers.{passes}
 use Rattle.effect_walk.proofs.Laws.Walk.{values_some, row_start, row_next}
-use Rattle.lent_world.proofs.Laws.Promise.{kept_then}
+use Rattle.lent_world.proofs.Laws.Promise.{kept_start, kept_then}
 use Rattle.effect_freeze.proofs.Laws.Freeze.{walk_fails, walk_ends}
 use Rattle.effect_freeze.proofs.walk.Goals as goal
 
 pub loop-m-init : goal.loop-m-init
-loop-m-init c = (((refl, refl), (refl, refl), (refl, refl), (refl, refl)), row_start _ _ _ _)
+loop-m-init c = (kept_start c.args.world.now, row_start _ _ _ _)
 
 pub returns-in_err-freeze_function_captures_transitive-clause-does : goal.returns-in_err-freeze_function_captures_transitive-clause-does
 returns-in_err-freeze_function_captures_transitive-clause-does c =
