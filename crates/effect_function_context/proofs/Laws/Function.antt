@@ -26,6 +26,7 @@ use Rattle.lent_effects.specs.Records.{captures_of, counted_places}
 use Rattle.lent_effects.proofs.Laws.Capture.{places_copied}
 use Rattle.lent_work.specs.declared.Run.{Run}
 use Rattle.lent_layout.specs.Layout as Layout
+use Rattle.lent_layout.specs.Context.{ContextWords}
 use Rattle.lent_context.specs.Lent as Lent
 use Rattle.laws_monad.proofs.Laws.Answers.{if_true, if_false}
 use Rattle.laws_monad.proofs.Laws.Each.{each_ok, each_done}
@@ -39,28 +40,28 @@ use Rattle.lent_layout.specs.Layout.{one_run}
 module _ (w : World lent) (f : ℕ) where
   -- whether the place of a number is one
   abbrev pub ref_at : ℕ → Bool
-  ref_at k = Lent.is_ref w.rest.context (field Layout.contexts w.rest.context f (k * 5))
+  ref_at k = Lent.is_ref w.rest.context (field Layout.contexts w.rest.context.contexts f (k * 5))
 
   -- a search of the places from one on finds what the definition does
-  ref_from : (n a : ℕ) → list_any ref_at (range_with_len a n) ≡ Step.any_ref (places_in Layout.contexts w.rest.context f 0 a n) w.rest
+  ref_from : (n a : ℕ) → list_any ref_at (range_with_len a n) ≡ Step.any_ref (places_in Layout.contexts w.rest.context.contexts f 0 a n) w.rest
   unfolding Step.any_ref place_in places_in
   ref_from zero a = refl
   ref_from (suc n) a =
       let z : a * 5 ≡ 0 + a * 5 = omega arith in
-      ap₂ (λ (x : ℕ) (b : Bool). Lent.is_ref w.rest.context (field Layout.contexts w.rest.context f x) || b) z
+      ap₂ (λ (x : ℕ) (b : Bool). Lent.is_ref w.rest.context (field Layout.contexts w.rest.context.contexts f x) || b) z
       (ap (λ (y : ℕ). list_any ref_at (range_with_len y n)) (add-one a) ∙ ref_from n (suc a))
 
   -- all places of a function are its context
-  pub ref_found : (n : ℕ) (r : Bool) → n ≡ field Layout.functions w.rest.context f 1 → r ≡ list_any ref_at (range_with_len 0 n) → Step.any_ref (Lent.context_of w.rest.context f) w.rest ≡ r
+  pub ref_found : (n : ℕ) (r : Bool) → n ≡ field Layout.functions w.rest.context.functions f 1 → r ≡ list_any ref_at (range_with_len 0 n) → Step.any_ref (Lent.context_of w.rest.context f) w.rest ≡ r
   unfolding Lent.context_of
-  ref_found n r e h = ap (λ (m : ℕ). Step.any_ref (places_in Layout.contexts w.rest.context f 0 0 m) w.rest) (sym e) ∙ sym (h ∙ ref_from n 0)
+  ref_found n r e h = ap (λ (m : ℕ). Step.any_ref (places_in Layout.contexts w.rest.context.contexts f 0 0 m) w.rest) (sym e) ∙ sym (h ∙ ref_from n 0)
 
 -- ---- context places that were copied are read
 
 -- the places of a slice that a function's context was copied to are that context
-context_copied : (c : List ℕ) (f : ℕ) (ws : List ℕ) → length ws ≡ 81 → captures_of (copied_context c f ws) ≡ Lent.context_of c f
+context_copied : (c : ContextWords) (f : ℕ) (ws : List ℕ) → length ws ≡ 81 → captures_of (copied_context c f ws) ≡ Lent.context_of c f
 unfolding Lent.context_of copied_context
-context_copied c f ws b = places_copied Layout.contexts c f 0 80 81 ws (field Layout.functions c f 1) refl b refl
+context_copied c f ws b = places_copied Layout.contexts c.contexts f 0 80 81 ws (field Layout.functions c.functions f 1) refl b refl
 
 -- ---- a Capture context place becomes Read
 
@@ -96,7 +97,7 @@ module _ (vs ss : List ℕ) (p : Place) where
       read_frozen t y q = tested y (q ∙ ap (λ (z : Bool). z || is_frozen a.kind) (sym t ∙ u))
 
 -- one place of a function
-module _ (vs ss c os : List ℕ) (r : Run) (f : ℕ) (p : Place) (b : Bool) (e : b ≡ becomes_read vs ss p) where
+module _ (vs ss : List ℕ) (c : ContextWords) (os : List ℕ) (r : Run) (f : ℕ) (p : Place) (b : Bool) (e : b ≡ becomes_read vs ss p) where
   -- the definition looks at the place and tests, and no more
   update_tests : Step.update_context f p (world vs ss c os r) ≡ (when b then Context.make_read f p.identifier else done) (world vs ss c os r)
   unfolding Step.update_context State.set_of State.peek becomes_read ◌>>=◌ and_then
@@ -108,9 +109,9 @@ module _ (vs ss c os : List ℕ) (r : Run) (f : ℕ) (p : Place) (b : Bool) (e :
   update_stays h = update_tests ∙ if_false _ _ _ _ _ h refl
 
   -- all tests passed
-  pub update_reads : (d : List ℕ) → b ≡ true → d ≡ Lent.make_read c f p.identifier → Step.update_context f p (world vs ss c os r) ≡ ok tt (world vs ss d os r)
+  pub update_reads : (d : ContextWords) → b ≡ true → d ≡ Lent.make_read c f p.identifier → Step.update_context f p (world vs ss c os r) ≡ ok tt (world vs ss d os r)
   unfolding Context.make_read change
-  update_reads d h g = update_tests ∙ if_true _ _ _ _ _ h (ap (λ (x : List ℕ). ok tt (world vs ss x os r)) (sym g))
+  update_reads d h g = update_tests ∙ if_true _ _ _ _ _ h (ap (λ (x : ContextWords). ok tt (world vs ss x os r)) (sym g))
 
 -- ---- and so each of some places
 

@@ -1,10 +1,9 @@
-use mathlib.Core.Path.{refl}
-use Rattle.lent_world.proofs.Laws.Promise.{kept_then}
+use Rattle.lent_world.proofs.Laws.Promise.{kept_start, kept_then}
 use Rattle.effect_function_context.proofs.Laws.Function.{updates_start, updates_more, updates_end}
 use Rattle.effect_function_context.proofs.update_places.Goals as goal
 
 pub loop-k-init : goal.loop-k-init
-loop-k-init c = (((refl, refl), (refl, refl), (refl, refl), (refl, refl)), updates_start _ _ _ _)
+loop-k-init c = (kept_start c.args.world.now, updates_start _ _ _ _)
 
 pub loop-k-preserved : goal.loop-k-preserved
 loop-k-preserved c =
