@@ -4,12 +4,14 @@
 
 ghost use Rattle.std.specs.Prelude.{◌≡◌, List};
 ghost use Rattle.def_effects.specs.declared.Place.{Place as APlace};
-ghost use Rattle.def_transfer.specs.Context as Context;
+ghost use Rattle.def_transfer.specs.Context as Text;
 ghost use Rattle.def_transfer.specs.Context.{diagnostic_of, refreshed};
 ghost use Rattle.def_transfer.specs.Monad.{ok};
 ghost use Rattle.laws_monad.specs.Answers.{answers};
-ghost use Rattle.lent_effects.specs.Records.{effect_with, captures_of};
+ghost use Rattle.lent_effects.specs.Records.{effect_with, head_in, captures_of};
+ghost use Rattle.lent_layout.specs.Layout as Layout;
 ghost use Rattle.lent_layout.specs.Context.{held};
+ghost use Rattle.lent_order.specs.Order as Order;
 ghost use Rattle.lent_world.specs.Promise.{seen, Kept};
 ghost use Rattle.effect_intern.specs.Interning.{chosen};
 
@@ -20,7 +22,7 @@ use lent_effect_write::put_effect;
 use lent_effects::AliasingEffect;
 use lent_key_of::key_of;
 use lent_keys::WholeKey;
-use lent_layout::{EFFECT_ORDER, INTERNED};
+use lent_layout::{Context, EFFECT_ORDER, INTERNED};
 use lent_order::{insert, order_at};
 use lent_search::find_effect;
 use lent_world::World;
@@ -68,6 +70,20 @@ fn refresh(e: AliasingEffect, x: AliasingEffect) -> AliasingEffect
     }
 }
 
+// The record of the interned effect that comes j-th by its key.
+fn record_at(context: &Context, j: u32) -> u32
+    ensures { result ≡ Order.order_at Layout.effect_order context.now.effect_order.now j }
+{
+    order_at(EFFECT_ORDER, context.effect_order, j)
+}
+
+// The interned effect that stands in record k.
+fn interned_in(context: &Context, k: u32) -> AliasingEffect
+    ensures { result ≡ head_in Layout.interned context.now.effects.now k }
+{
+    effect_in(INTERNED, context.effects, k as usize)
+}
+
 // The first effect under the key of an effect is used ever after; a new one is appended and takes its place in the order, and 8 refuses the 2,049th.
 // This is intern_effect of the Rust.
 pub fn intern_effect(
@@ -76,7 +92,7 @@ pub fn intern_effect(
     captures: &[u32],
 ) -> Result<Interned, Refusal>
     ensures kept { Kept world.old world.new }
-    ensures does { Context.intern_effect (effect_with e (captures_of captures.now)) (seen world.old)
+    ensures does { Text.intern_effect (effect_with e (captures_of captures.now)) (seen world.old)
         ≡ answers result
         (λ a. ok (effect_with a.effect (chosen (held world.new.context.now) a.found (captures_of captures.now)))
         (seen world.new))
@@ -85,8 +101,8 @@ pub fn intern_effect(
     let context = &mut *world.context;
     match find_effect(context, WholeKey::new(key_of(e), captures)) {
         Ok(j) => {
-            let k = order_at(EFFECT_ORDER, context.effect_order, j);
-            let x = effect_in(INTERNED, context.effects, k as usize);
+            let k = record_at(context, j);
+            let x = interned_in(context, k);
             Ok(Interned {
                 found: Some(k),
                 effect: refresh(e, x),

@@ -10,4 +10,4 @@ returns-then-next-ge512-clause-does c = number_none _ _ _ _ _ _ _ (number_asked 
 
 pub returns-clause-does : goal.returns-clause-does
 returns-clause-does c =
-    number_new _ _ _ _ _ _ _ (number_asked _ _ _ c.number_at.result c.find_key-spot.ensures c.number_at.ensures) _ _ c.in_default.is c.if-next-ge512.false (number_put _ _ _ _ _ _ c.find_key-spot.ensures c.place_of.ensures c.put_key.ensures) refl
+    number_new _ _ _ _ _ _ _ (number_asked _ _ _ c.number_at.result c.find_key-spot.ensures c.number_at.ensures) _ _ c.in_default.is c.if-next-ge512.false (number_put _ _ _ _ _ _ c.find_key-spot.ensures c.place_of.ensures c.put_key.ensures.does) refl
