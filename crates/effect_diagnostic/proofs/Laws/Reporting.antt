@@ -1,6 +1,6 @@
 -- Laws by which the code meets the definition. Assumes nothing.
 use Rattle.std.specs.Prelude.{ℕ, ◌+◌, ◌≤◌, ◌<◌, ◌≡◌, Option, None, Some}
-use Rattle.std.proofs.Math.Path.{refl, ap, ap₂}
+use Rattle.std.proofs.Math.Path.{refl, ap}
 use Rattle.std.proofs.Common.{sym, ◌∙◌}
 use mathlib.Core.List.{List}
 use Rattle.std.proofs.Math.Dec.{leb}
@@ -11,6 +11,8 @@ use Rattle.def_transfer.specs.Monad.{Res, ok, refused, and_then, ◌>>=◌, ◌>
 use Rattle.def_transfer.specs.Tables.{World}
 use Rattle.def_transfer.specs.State.{ask, change}
 use Rattle.def_transfer.specs.Context as Context
+use Rattle.lent_layout.specs.declared.Numbered.{Numbered}
+use Rattle.lent_layout.specs.Context.{ContextWords, with_diagnostics}
 use Rattle.lent_context.specs.Lent as Lent
 use Rattle.lent_work.specs.declared.Run.{Run}
 use Rattle.laws_monad.proofs.Laws.Answers.{bind_ok, bind_fails, if_le, if_gt}
@@ -48,36 +50,34 @@ module _ (w : World lent) (d : Diagnostic) (x : Option ℕ) (e : x ≡ Lent.find
 -- ---- the instance
 
 -- the same of records: their place is the instance
-module _ (vs ss c os : List ℕ) (r : Run) (i : ℕ) (d : Diagnostic) (x : Option ℕ) (e : x ≡ Lent.find_instance c i d) where
+module _ (vs ss : List ℕ) (c : ContextWords) (os : List ℕ) (r : Run) (i : ℕ) (d : Diagnostic) (x : Option ℕ) (e : x ≡ Lent.find_instance c i d) where
   -- an equal record has its place
   -- nothing else is asked
   pub instance_found : (n : ℕ) → x ≡ Some n → Context.new_instance i d (Lent.find_instance c i d) (world vs ss c os r) ≡ ok n (world vs ss c os r)
   unfolding Context.new_instance return
   instance_found n h = ap (λ (o : Option ℕ). Context.new_instance i d o (world vs ss c os r)) (sym e ∙ h)
 
-  module _ (h : x ≡ None) (m : ℕ) (g : m ≡ Lent.instance_count c) where
+  module _ (h : x ≡ None) where
     -- without one the number of records decides
-    instance_new : Context.new_instance i d (Lent.find_instance c i d) (world vs ss c os r) ≡ (when leb 256 m then refuse 10 else (Context.put_diagnostic i d >> return m)) (world vs ss c os r)
+    instance_new : Context.new_instance i d (Lent.find_instance c i d) (world vs ss c os r)
+        ≡ (when leb 256 c.diagnostic_count then refuse 10 else (Context.put_diagnostic i d >> return c.diagnostic_count)) (world vs ss c os r)
     unfolding Context.new_instance ask ◌>>=◌ and_then
-    instance_new =
-        ap (λ (o : Option ℕ). Context.new_instance i d o (world vs ss c os r)) (sym e ∙ h)
-        ∙ ap (λ (k : ℕ). (when leb 256 k then refuse 10 else (Context.put_diagnostic i d >> return k)) (world vs ss c os r)) (sym g)
+    instance_new = ap (λ (o : Option ℕ). Context.new_instance i d o (world vs ss c os r)) (sym e ∙ h)
 
     -- there are 256 records
     -- the 257th is refused
-    pub instance_full : 256 ≤ m → Context.new_instance i d (Lent.find_instance c i d) (world vs ss c os r) ≡ refused 10 (world vs ss c os r)
+    pub instance_full : 256 ≤ c.diagnostic_count → Context.new_instance i d (Lent.find_instance c i d) (world vs ss c os r) ≡ refused 10 (world vs ss c os r)
     unfolding refuse
-    instance_full l = instance_new ∙ if_le 256 m _ _ _ _ l refl
+    instance_full l = instance_new ∙ if_le 256 c.diagnostic_count _ _ _ _ l refl
 
     -- there are fewer
     -- the record is written after the last, and the count counts it
-    pub instance_next : (c1 c2 : List ℕ) → m < 256 → c1 ≡ Lent.put_diagnostic c m i d → c2 ≡ set c1 12484 (m + 1)
-        → Context.new_instance i d (Lent.find_instance c i d) (world vs ss c os r) ≡ ok m (world vs ss c2 os r)
+    pub instance_next : (ds : List Numbered) → c.diagnostic_count < 256 → ds ≡ set c.diagnostics c.diagnostic_count (record { identity = i; diagnostic = d })
+        → Context.new_instance i d (Lent.find_instance c i d) (world vs ss c os r) ≡ ok c.diagnostic_count (world vs ss (with_diagnostics ds (c.diagnostic_count + 1) c) os r)
     unfolding Context.put_diagnostic change Lent.add_diagnostic return ◌>>◌ ◌>>=◌ and_then
-    instance_next c1 c2 l p q =
+    instance_next ds l p =
         instance_new
-        ∙ if_gt 256 m _ _ _ _ l (ap (λ (u : List ℕ). ok m (world vs ss u os r))
-        (sym (q ∙ ap₂ (λ (u : List ℕ) (k : ℕ). set u 12484 (k + 1)) (p ∙ ap (λ (k : ℕ). Lent.put_diagnostic c k i d) g) g)))
+        ∙ if_gt 256 c.diagnostic_count _ _ _ _ l (ap (λ (u : List Numbered). ok c.diagnostic_count (world vs ss (with_diagnostics u (c.diagnostic_count + 1) c) os r)) (sym p))
 
 -- ---- both numbers
 
