@@ -19,6 +19,7 @@ use Rattle.lent_effects.specs.declared.AliasingEffect.TheVariants as Head
 use Rattle.lent_effects.specs.Records.{effect_with, captures_of, counted_places, copied_captures}
 use Rattle.lent_effects.proofs.Laws.Capture.{captures_copied}
 use Rattle.lent_layout.specs.Layout as Layout
+use Rattle.lent_layout.specs.Context.{ContextWords}
 use Rattle.lent_context.specs.Lent as Lent
 use Rattle.lent_work.specs.declared.Run.{Run}
 use Rattle.laws_monad.proofs.Laws.Answers.{bind_ok, bind_fails, then_ok, then_fails}
@@ -45,11 +46,11 @@ module _ (f : ℕ) (into : Place) (k : ValueKind) (key : EffectKey) (ps : List P
   linked_full w u n g = bind_fails _ _ _ _ _ (function_number _ ∙ g)
 
   -- the number is linked to the function
-  pub linked_done : (w u : World lent) (vs ss ds es os : List ℕ) (r : Run) (v : ℕ) → get_or_create_value_id key w ≡ ok v (world vs ss ds os r)
+  pub linked_done : (w u : World lent) (vs ss : List ℕ) (ds es : ContextWords) (os : List ℕ) (r : Run) (v : ℕ) → get_or_create_value_id key w ≡ ok v (world vs ss ds os r)
       → es ≡ Lent.put_link ds v f → create into v (mk k 0) (world vs ss es os r) ≡ ok tt u → linked ps f into k w ≡ ok tt u
   unfolding linked link_to change
   linked_done w u vs ss ds es os r v g l c =
-      bind_ok _ _ _ _ _ _ (function_number _ ∙ g) (then_ok _ _ _ _ _ _ (ap (λ (i : List ℕ). ok tt (world vs ss i os r)) (sym l)) c)
+      bind_ok _ _ _ _ _ _ (function_number _ ∙ g) (then_ok _ _ _ _ _ _ (ap (λ (i : ContextWords). ok tt (world vs ss i os r)) (sym l)) c)
 
 -- what comes after a link comes after the whole half
 links_then : (ps : List Place) (f : ℕ) (into : Place) (k : ValueKind) (m : M (World lent) Done) (w : World lent)
@@ -99,10 +100,10 @@ module _ (ps : List Place) (f : ℕ) (into : Place) (again : AliasingEffect → 
 
 -- the effect was interned before
 -- its captures are the record's
-pub chosen_found : (c ws us : List ℕ) (ps : List Place) (f : Option ℕ) (j i : ℕ) → f ≡ Some j → i ≡ j → us ≡ copied_captures Layout.interned c i ws → length ws ≡ 81 → captures_of us ≡ chosen c f ps
+pub chosen_found : (c : ContextWords) (ws us : List ℕ) (ps : List Place) (f : Option ℕ) (j i : ℕ) → f ≡ Some j → i ≡ j → us ≡ copied_captures Layout.interned c.effects i ws → length ws ≡ 81 → captures_of us ≡ chosen c f ps
 chosen_found c ws us ps f j i h e g b =
-    ap captures_of g ∙ captures_copied Layout.interned c i ws refl b ∙ ap (λ (n : ℕ). counted_places Layout.interned c n 17) e ∙ sym (ap (λ (o : Option ℕ). chosen c o ps) h)
+    ap captures_of g ∙ captures_copied Layout.interned c.effects i ws refl b ∙ ap (λ (n : ℕ). counted_places Layout.interned c.effects n 17) e ∙ sym (ap (λ (o : Option ℕ). chosen c o ps) h)
 
 -- a new key
-pub chosen_given : (c us : List ℕ) (ps : List Place) (f : Option ℕ) → f ≡ None → captures_of us ≡ ps → captures_of us ≡ chosen c f ps
+pub chosen_given : (c : ContextWords) (us : List ℕ) (ps : List Place) (f : Option ℕ) → f ≡ None → captures_of us ≡ ps → captures_of us ≡ chosen c f ps
 chosen_given c us ps f h e = e ∙ sym (ap (λ (o : Option ℕ). chosen c o ps) h)
