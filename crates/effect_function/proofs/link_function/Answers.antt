@@ -9,4 +9,4 @@ returns-in_err-number-clause-does c = rw (passes _ _ c.from_residual.ensures.1) 
 
 pub returns-clause-does : goal.returns-clause-does
 returns-clause-does c =
-    linked_done _ _ _ _ _ (c.new.ensures ∙ c.key_of-key.ensures _) _ _ _ _ _ _ _ _ _ c.in_ok-number.ensures.does c.put_link.ensures c.create.ensures.does
+    linked_done _ _ _ _ _ (c.new.ensures ∙ c.key_of-key.ensures _) _ _ _ _ _ _ _ _ _ c.in_ok-number.ensures.does c.put_link.ensures.does c.create.ensures.does
