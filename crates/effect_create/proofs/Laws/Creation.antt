@@ -20,6 +20,7 @@ use Rattle.def_transfer.specs.Step as Step
 use Rattle.def_transfer.specs.Step.{create}
 use Rattle.lent_effects.specs.declared.AliasingEffect.TheVariants as Head
 use Rattle.lent_effects.specs.Records.{effect_with}
+use Rattle.lent_layout.specs.Context.{ContextWords}
 use Rattle.lent_work.specs.declared.Run.{Run}
 use Rattle.state_ops.specs.Lists.{assigned_values, assigned_sets}
 use Rattle.state_ops.proofs.Laws.Text.{assign_lists}
@@ -155,7 +156,7 @@ module _ (w : World lent) (from into : Place) (a : AbstractValue) (b : Bool) (e 
   assigned_listed x t hs h k l = if_false _ _ _ _ _ (sym e ∙ h) (then_ok _ _ _ _ _ _ k l)
 
 -- the lists of an assignment are the definition's
-pub assign_is : (vs ss cs os : List ℕ) (r : Run) (into from : ℕ) (us ts : List ℕ) → us ≡ assigned_values vs ss from → ts ≡ assigned_sets ss into from → State.assign into from (world vs ss cs os r) ≡ ok tt (world us ts cs os r)
+pub assign_is : (vs ss : List ℕ) (cs : ContextWords) (os : List ℕ) (r : Run) (into from : ℕ) (us ts : List ℕ) → us ≡ assigned_values vs ss from → ts ≡ assigned_sets ss into from → State.assign into from (world vs ss cs os r) ≡ ok tt (world us ts cs os r)
 assign_is vs ss cs os r into from us ts g k =
     assign_lists lent r.flag (world vs ss cs os r).rest vs ss into from ∙ ap₂ (λ (m o : List ℕ). ok tt (world m o cs os r)) (sym g) (sym k)
 
