@@ -1,7 +1,7 @@
 -- An instruction that the call accepts has the document's sizes, so that nothing of it is lost. Assumes nothing.
 use Prim.Native.Nat.{ℕ, zero, suc, ◌+◌, ◌≤◌, ◌<◌}
 use native.Mathlib.Omega.{arith}
-use Rattle.std.specs.Prelude.{◌≡◌, refl, Bool, true, false, List, leb, ltb, get_or}
+use Rattle.std.specs.Prelude.{◌≡◌, refl, Bool, true, false, List, leb, ltb}
 use Rattle.std.proofs.Common.{sym, ap, ◌∙◌, ⊎_elim}
 use Rattle.std.proofs.Math.ListN.{length}
 use borrow.Author.Tests.{ltb-false, leb-true}
@@ -16,11 +16,11 @@ use Rattle.def_effects.specs.Keys.{effect_key}
 use Rattle.lent_tables.specs.declared.Table.{Table}
 use Rattle.lent_tables.specs.Words.{field, places_in}
 use Rattle.lent_effects.specs.declared.AliasingEffect.{AliasingEffect as Head}
-use Rattle.lent_effects.specs.declared.AliasingEffect.TheVariants as Head
 use Rattle.lent_effects.specs.Records.{counted_places, effect_with, head_in, effect_in}
 use Rattle.lent_effects.proofs.Laws.Head.{code_past, code_apply, code_known}
 use Rattle.lent_keys.proofs.Laws.Number.{numbers_count, places_numbers}
 use Rattle.lent_layout.specs.Layout as Layout
+use Rattle.lent_layout.specs.Context.{ContextWords}
 use Rattle.lent_context.specs.Lent.{effects_in, mutated_inside}
 use Rattle.def_transfer.specs.Instruction.{own_of}
 use Rattle.lent_world.specs.World.{lent}
@@ -106,7 +106,7 @@ module _ (t : Table) (xs : List ℕ) (i : ℕ) where
 
   -- a record that earns no class has at most sixteen captures in its effect's key
   -- its count is tested where its code is that of a CreateFunction
-  record_captures : (n f : ℕ) (c : List ℕ) (apply : ℕ) → effect_class n f c apply t xs i ≡ 0 → length (effect_key (effect_in t xs i)).captures ≤ 16
+  record_captures : (n f : ℕ) (c : ContextWords) (apply : ℕ) → effect_class n f c apply t xs i ≡ 0 → length (effect_key (effect_in t xs i)).captures ≤ 16
   unfolding effect_class effect_in counted_places
   record_captures n f c apply e = captures_of_is (head_in t xs i) (places_in t xs i 18 0 (field t xs i 17)) few
     where
@@ -122,30 +122,30 @@ module _ (t : Table) (xs : List ℕ) (i : ℕ) where
 
 -- a function that earns no class mutates at most 32 places inside
 -- "count of places mutated inside (32)"
-function_inside : (n : ℕ) (c : List ℕ) (f : ℕ) → function_class n c f ≡ 0 → length (mutated_inside c f) ≤ 32
+function_inside : (n : ℕ) (c : ContextWords) (f : ℕ) → function_class n c.functions c.contexts f ≡ 0 → length (mutated_inside c f) ≤ 32
 unfolding function_class places_class mutated_inside
 function_inside n c f e =
-    let a : places_class (field Layout.functions c f 1) (field Layout.functions c f 2) ≡ 0 = (lower_0 _ _ e).0 in
-    let b = ltb-false 32 (field Layout.functions c f 2) (or_no_second (ltb 16 (field Layout.functions c f 1)) _ (earns_none 1 _ a)) in
-    let l = places_count Layout.functions c f 3 0 (field Layout.functions c f 2) in
+    let a : places_class (field Layout.functions c.functions f 1) (field Layout.functions c.functions f 2) ≡ 0 = (lower_0 _ _ e).0 in
+    let b = ltb-false 32 (field Layout.functions c.functions f 2) (or_no_second (ltb 16 (field Layout.functions c.functions f 1)) _ (earns_none 1 _ a)) in
+    let l = places_count Layout.functions c.functions f 3 0 (field Layout.functions c.functions f 2) in
     omega arith
 
 -- no function of a context that earns no class earns one
-context_function : (n functions : ℕ) (c : List ℕ) (next : ℕ) → context_class n functions c next ≡ 0 → (f : ℕ) → f < functions → function_class n c f ≡ 0
+context_function : (n : ℕ) (c : ContextWords) (next : ℕ) → context_class n c next ≡ 0 → (f : ℕ) → f < c.function_count → function_class n c.functions c.contexts f ≡ 0
 unfolding context_class tables_class functions_class
-context_function n functions c next e f l = go (counts_wrong n functions c) refl
+context_function n c next e f l = go (counts_wrong c) refl
   where
-    go : (b : Bool) → counts_wrong n functions c ≡ b → function_class n c f ≡ 0
-    go true h = absurd (let z : 2 ≡ 0 = sym (ite_yes (counts_wrong n functions c) 2 (tables_class n functions c next) h) ∙ e in omega arith)
+    go : (b : Bool) → counts_wrong c ≡ b → function_class n c.functions c.contexts f ≡ 0
+    go true h = absurd (let z : 2 ≡ 0 = sym (ite_yes (counts_wrong c) 2 (tables_class n c next) h) ∙ e in omega arith)
     go false h =
-        lowest_0 functions (function_class n c)
-        (lower_0 _ _ (lower_0 _ _ (lower_0 _ _ (lower_0 _ _ (sym (ite_no (counts_wrong n functions c) 2 (tables_class n functions c next) h) ∙ e)).1).1).0).0 f l
+        lowest_0 c.function_count (function_class n c.functions c.contexts)
+        (lower_0 _ _ (lower_0 _ _ (lower_0 _ _ (lower_0 _ _ (sym (ite_no (counts_wrong c) 2 (tables_class n c next) h) ∙ e)).1).1).0).0 f l
 
 -- ---- an instruction that no class refuses
 
 -- the instruction, by its parts
--- in a context of so many identifiers and functions
-module _ (n functions : ℕ) (c xs : List ℕ) (count : ℕ) (p : Place) (own : ℕ) (e : instruction_class n functions c xs count p own ≡ 0) where
+-- in a context of so many identifiers
+module _ (n : ℕ) (c : ContextWords) (xs : List ℕ) (count : ℕ) (p : Place) (own : ℕ) (e : instruction_class n c.function_count c xs count p own ≡ 0) where
   -- it has at most 64 candidates
   -- "candidates (64)"
   few : count ≤ 64
@@ -153,29 +153,29 @@ module _ (n functions : ℕ) (c xs : List ℕ) (count : ℕ) (p : Place) (own : 
   few = ltb-false 64 count (earns_none 1 (ltb 64 count) (lower_0 _ _ e).0)
 
   -- none of its candidates earns a class
-  candidate_0 : (k : ℕ) → k < count → effect_class n functions c 5 candidate_table xs k ≡ 0
+  candidate_0 : (k : ℕ) → k < count → effect_class n c.function_count c 5 candidate_table xs k ≡ 0
   unfolding instruction_class
-  candidate_0 = lowest_0 count (effect_class n functions c 5 candidate_table xs) (lower_0 _ _ (lower_0 _ _ e).1).0
+  candidate_0 = lowest_0 count (effect_class n c.function_count c 5 candidate_table xs) (lower_0 _ _ (lower_0 _ _ e).1).0
 
   -- its own function is one of the context's
   -- "own function + 1 or 0"
-  own_most : own ≤ functions
+  own_most : own ≤ c.function_count
   unfolding instruction_class
-  own_most = leb-true own functions (not-false (leb own functions) (earns_none 2 _ (lower_0 _ _ (lower_0 _ _ (lower_0 _ _ e).1).1).1))
+  own_most = leb-true own c.function_count (not-false (leb own c.function_count) (earns_none 2 _ (lower_0 _ _ (lower_0 _ _ (lower_0 _ _ e).1).1).1))
 
   -- the sizes that document 01 allows, in a context that earns no class either
   -- candidates, their captures, and what the own function mutates inside
-  instruction_fits : (next : ℕ) → context_class n functions c next ≡ 0 → Fits lent (instruction_of xs count p own) c
+  instruction_fits : (next : ℕ) → context_class n c next ≡ 0 → Fits lent (instruction_of xs count p own) c
   unfolding instruction_of mutated
   instruction_fits next h = record {
     few = let l = effects_count candidate_table xs 0 count in let m = few in omega arith;
-    captures = effects_all (λ x. length (effect_key x).captures ≤ 16) candidate_table xs 0 count (λ j l. record_captures candidate_table xs j n functions c 5 (candidate_0 j (omega arith)));
+    captures = effects_all (λ x. length (effect_key x).captures ≤ 16) candidate_table xs 0 count (λ j l. record_captures candidate_table xs j n c.function_count c 5 (candidate_0 j (omega arith)));
     inside = inside own own_most;
   }
     where
-      inside : (o : ℕ) → o ≤ functions → mutated lent (own_of o) c ≤ 32
+      inside : (o : ℕ) → o ≤ c.function_count → mutated lent (own_of o) c ≤ 32
       inside zero l = omega arith
-      inside (suc f) l = function_inside n c f (context_function n functions c next h f (omega arith))
+      inside (suc f) l = function_inside n c f (context_function n c next h f (omega arith))
 
 -- ---- the call
 
@@ -183,5 +183,5 @@ module _ (n functions : ℕ) (c xs : List ℕ) (count : ℕ) (p : Place) (own : 
 -- so the bounds of `laws_counts` hold of it
 pub accepted_fits : (c : Call) → call_class c ≡ 0 → Fits lent (lent_instruction c) c.context
 accepted_fits c e =
-    let a = class_0 c.values c.sets c.flag c.context c.session c.candidates c.lvalue c.own c.output c.scratch64 c.scratch32 e in
-    instruction_fits (identifiers c.sets) (get_or c.context Layout.function_count 0) c.context c.candidates (candidate_count c.candidates) c.lvalue c.own a.3 c.session.next a.2
+    let a = class_0 c e in
+    instruction_fits (identifiers c.sets) c.context c.candidates (candidate_count c.candidates) c.lvalue c.own a.3 c.session.next a.2
