@@ -16,6 +16,7 @@ use Rattle.lent_tables.specs.Words.{field, place_in, places_in}
 use Rattle.lent_effects.specs.declared.AliasingEffect.{AliasingEffect as Head}
 use Rattle.lent_effects.specs.declared.AliasingEffect.TheVariants as Head
 use Rattle.lent_effects.specs.Records.{counted_places, effect_with, heads, head_in, effect_in}
+use Rattle.lent_layout.specs.Context.{ContextWords}
 use Rattle.lent_context.specs.Lent.{effects_in, instance_count}
 use Rattle.base_tests.proofs.Laws.Bool.{or_no_first}
 use Rattle.refuse_class.proofs.Laws.Class.{lower_0}
@@ -90,7 +91,7 @@ unfolding count_class
 few code m e u = ltb-false 16 m (earns_none 1 (ltb 16 m) (sym (ap (λ (x : ℕ). earns 2 (eqb x 1 && ltb 16 m)) u) ∙ e))
 
 -- a candidate that earns no class names identifiers of the list
-record_named : (n f : ℕ) (c xs : List ℕ) (i : ℕ) → effect_class n f c 5 candidate_table xs i ≡ 0 → All (λ x. x < n) (names (effect_in candidate_table xs i))
+record_named : (n f : ℕ) (c : ContextWords) (xs : List ℕ) (i : ℕ) → effect_class n f c 5 candidate_table xs i ≡ 0 → All (λ x. x < n) (names (effect_in candidate_table xs i))
 unfolding effect_class effect_in head_in counted_places
 record_named n f c xs i e =
     let z : field candidate_table xs i 0 ≡ 12 → ⊥ = λ q. let y : ◌≡◌ {A = ℕ} 5 0 = sym (ite_eq (field candidate_table xs i 0) 12 5 _ q) ∙ e in omega arith in
@@ -115,7 +116,7 @@ all_fine : (n : ℕ) (l : List AliasingEffect) → All (λ e. All (λ x. x < n) 
 all_fine n [] a b = tt
 all_fine n (e ∷ l) a b = (record { named = a.0; short = le→leb (length (effect_key e).captures) 16 b.0 }, all_fine n l a.1 b.1)
 
-module _ (n functions : ℕ) (c xs : List ℕ) (count : ℕ) (p : Place) (own : ℕ) (e : instruction_class n functions c xs count p own ≡ 0) where
+module _ (n functions : ℕ) (c : ContextWords) (xs : List ℕ) (count : ℕ) (p : Place) (own : ℕ) (e : instruction_class n functions c xs count p own ≡ 0) where
   pub candidates_fine : All (λ e. length (effect_key e).captures ≤ 16) (effects_in candidate_table xs 0 count) → All (λ e. Fine n (effect_key e)) (effects_in candidate_table xs 0 count)
   unfolding instruction_class
   candidates_fine h =
