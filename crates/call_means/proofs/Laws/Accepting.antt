@@ -1,7 +1,7 @@
 -- What acceptance says of the candidates: each names identifiers of the list, and has at most 16 captures. Assumes nothing.
 use Prim.Native.Nat.{ℕ, zero, suc, ◌+◌, ◌-◌, ◌*◌, ◌%◌, ◌≤◌, ◌<◌}
 use native.Mathlib.Omega.{arith}
-use Rattle.std.specs.Prelude.{◌≡◌, ◌&&◌, List, [], ◌∷◌, eqb, leb, ltb, length, get_or, Option, None, Some}
+use Rattle.std.specs.Prelude.{◌≡◌, ◌&&◌, List, [], ◌∷◌, eqb, ltb, length, get_or, Option, None, Some}
 use Rattle.std.proofs.Math.Path.{refl, sym, ap}
 use Rattle.std.proofs.Common.{◌∙◌, le→leb}
 use borrow.Author.Tests.{ltb-true, ltb-false, not-false}
@@ -14,7 +14,6 @@ use Rattle.def_effects.specs.Keys.{effect_key, names}
 use Rattle.lent_tables.specs.declared.Table.{Table}
 use Rattle.lent_tables.specs.Words.{field, place_in, places_in}
 use Rattle.lent_effects.specs.declared.AliasingEffect.{AliasingEffect as Head}
-use Rattle.lent_effects.specs.declared.AliasingEffect.TheVariants as Head
 use Rattle.lent_effects.specs.Records.{counted_places, effect_with, heads, head_in, effect_in}
 use Rattle.lent_layout.specs.Context.{ContextWords}
 use Rattle.lent_context.specs.Lent.{effects_in, instance_count}

@@ -1,6 +1,6 @@
 -- An accepted call means the definition on plain tables: the same refusal, or the same effects in order, and tables that mean the same.
 -- Assumes nothing.
-use Rattle.std.specs.Prelude.{ℕ, ◌*◌, ◌≤◌, ◌<◌, ◌≡◌, refl, length, get_or, Option, None, Some}
+use Rattle.std.specs.Prelude.{ℕ, ◌*◌, ◌≤◌, ◌<◌, ◌≡◌, refl, length, Option, None, Some}
 use Rattle.std.proofs.Common.{le_trans, arith, sym, ap, ◌∙◌, subst}
 use Rattle.base_tests.specs.Tests.{All}
 use Rattle.base_tests.proofs.Laws.Choice.{ite_eq}
@@ -79,7 +79,7 @@ plain_fits ins c f = record { few = f.few; captures = f.captures; inside = go in
 pub call_fine : (c : Call) → call_class c ≡ 0 → All (λ e. Fine (identifiers c.sets) (effect_key e)) (lent_instruction c).candidates × ((lent_instruction c).lvalue.identifier < identifiers c.sets)
 unfolding instruction_of
 call_fine c e =
-    let a = class_0 c e in (
+    let a = class_0 c.values c.sets c.flag c.context c.session c.candidates c.lvalue c.own c.output c.scratch64 c.scratch32 e in (
       candidates_fine (identifiers c.sets) c.context.function_count c.context c.candidates (candidate_count c.candidates) c.lvalue c.own a.3 (accepted_fits c e).captures,
       lvalue_named (identifiers c.sets) c.context.function_count c.context c.candidates (candidate_count c.candidates) c.lvalue c.own a.3,
     )
@@ -89,7 +89,7 @@ pub call_related : (c : Call) (e : call_class c ≡ 0) (l : identifiers c.sets �
     → Rel (lent_faithful (identifiers c.sets) l) Any (apply_signature (lent_instruction c) (beside (whole c e) (lent_world c))) (apply_signature (lent_instruction c) (plain_world c))
 unfolding lent_faithful instruction_of Lent.key_at
 call_related c e l =
-    let a = class_0 c e in
+    let a = class_0 c.values c.sets c.flag c.context c.session c.candidates c.lvalue c.own c.output c.scratch64 c.scratch32 e in
     let b = accepted_lent c.values c.sets c.session.next c.session.access a.1 in
     call_means {F = lent_faithful (identifiers c.sets) l} (lent_instruction c) (call_fine c e).0 (call_fine c e).1
     (beside (whole c e) (lent_world c)) (plain_world c)
@@ -98,7 +98,7 @@ call_related c e l =
       session = record { low = b.next_low; next = refl; access = refl; span = refl; entries = λ h. refl };
       fit = whole_fit c e;
       context = pad_means (words_missing c e) (places_missing c e) c.context;
-      unused = unused (identifiers c.sets) c.context.function_count c.context c.session.next a.2;
+      unused = unused (identifiers c.sets) c.context c.session.next a.2;
     })
 
 -- the call itself ends so, but for the words that are missing
@@ -132,7 +132,7 @@ ends_mean c l m n (refused i w) (refused k u) h few rare told = ap (λ (x : ℕ)
 pub call_is : (c : Call) → MeansPlain c (outcome c)
 unfolding outcome
 call_is c e =
-    let a = class_0 c e in
+    let a = class_0 c.values c.sets c.flag c.context c.session c.candidates c.lvalue c.own c.output c.scratch64 c.scratch32 e in
     let l : identifiers c.sets ≤ 512 = (accepted_lent c.values c.sets c.session.next c.session.access a.1).most in
     let f : Fits pure (lent_instruction c) (abstract c.context) = plain_fits (lent_instruction c) c.context (accepted_fits c e) in
     let m = f.few in

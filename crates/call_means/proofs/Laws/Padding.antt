@@ -25,7 +25,9 @@ use Rattle.laws_room.proofs.Laws.Padded.{lent_short}
 use Rattle.call_parts.specs.Instructions.{instruction_of}
 use Rattle.call_outcome.specs.Calls.{Call, room_for, call_class, lent_instruction, lent_world}
 use Rattle.refuse_entries.specs.Words.{identifiers}
-use Rattle.call_outcome.proofs.Laws.Class.{class_0, RightContext, context_right}
+use Rattle.refuse_order.proofs.Laws.Accepted.{in_order_is}
+use Rattle.call_outcome.proofs.Laws.Class.{class_0, lengths_right, RightLength, right_length, order_right}
+use Rattle.call_outcome.proofs.Laws.Keys.{numbered}
 
 -- so many words and no more behind a list
 filled : (c : List ℕ) (n : ℕ) → length c ≤ n → length (c ++ zeros (n - length c)) ≡ n
@@ -54,22 +56,26 @@ module _ (c : Call) (e : call_class c ≡ 0) where
   whole = longer words_missing places_missing c.context
 
   -- what the lengths of an accepted call say
-  right : RightContext (identifiers c.sets) (room_for c.context c.candidates) c.context
-  right = context_right c e
+  right : RightLength (identifiers c.sets) (room_for c.context c.candidates) c.context
+  right =
+      let a = class_0 c.values c.sets c.flag c.context c.session c.candidates c.lvalue c.own c.output c.scratch64 c.scratch32 e in
+      right_length (identifiers c.sets) (room_for c.context c.candidates) c.context (lengths_right c a.0).0
 
   -- it fits
   pub whole_fit : FitContext whole
   whole_fit =
       let r = right in
+      let a = class_0 c.values c.sets c.flag c.context c.session c.candidates c.lvalue c.own c.output c.scratch64 c.scratch32 e in
       record {
-        links = let a = r.links.least in let b = r.links.most in omega arith;
-        keys = let a = r.keys.least in let b = r.keys.most in omega arith;
-        key_order = let a = r.key_order.least in let b = r.key_order.most in omega arith;
+        links = let a = r.links.room_there in let b = r.links.most in omega arith;
+        keys = let a = r.keys.room_there in let b = r.keys.most in omega arith;
+        key_order = let a = r.key_order.room_there in let b = r.key_order.most in omega arith;
         effects = filled c.context.effects 200704 r.effects.most;
         effect_order = filled c.context.effect_order 2048 (let b = r.effect_order.most in omega arith);
         diagnostics = r.diagnostics;
-        ordered = ordered_same c.context whole (field_behind c.context.effects words_missing Layout.interned) (field_behind c.context.effect_order places_missing Layout.effect_order) refl ?;
-        numbered = numbered_same c.context whole (λ j v. refl) (λ j v. refl) refl ?;
+        ordered = ordered_same c.context whole (field_behind c.context.effects words_missing Layout.interned) (field_behind c.context.effect_order places_missing Layout.effect_order) refl
+            (in_order_is c.context (order_right (identifiers c.sets) c.context c.session.next a.2));
+        numbered = numbered_same c.context whole (λ j v. refl) (λ j v. refl) refl (numbered (identifiers c.sets) c.context c.session.next a.2);
       }
 
   -- how the call's transfer ends, and how it ends with room for all effects
@@ -87,8 +93,8 @@ module _ (c : Call) (e : call_class c ≡ 0) where
       full : 2048 < need → apply_signature (lent_instruction c) (beside whole (lent_world c)) ≡ besides (longer words_missing places_missing (ended short_run)) short_run
       full l =
           let r = right in
-          let a : 2048 * 98 ≤ length c.context.effects = subst (λ (n : ℕ). n * 98 ≤ length c.context.effects) (ite_lt 2048 need 2048 need l) r.effects.least in
-          let b : 2048 * 1 ≤ length c.context.effect_order = subst (λ (n : ℕ). n * 1 ≤ length c.context.effect_order) (ite_lt 2048 need 2048 need l) r.effect_order.least in
+          let a : 2048 * 98 ≤ length c.context.effects = subst (λ (n : ℕ). n * 98 ≤ length c.context.effects) (ite_lt 2048 need 2048 need l) r.effects.room_there in
+          let b : 2048 * 1 ≤ length c.context.effect_order = subst (λ (n : ℕ). n * 1 ≤ length c.context.effect_order) (ite_lt 2048 need 2048 need l) r.effect_order.room_there in
           let y : words_missing ≡ 0 = omega arith in
           let z : places_missing ≡ 0 = omega arith in
           subst (λ (m : ℕ). apply_signature (lent_instruction c) (beside (longer m places_missing c.context) (lent_world c)) ≡ besides (longer m places_missing (ended short_run)) short_run) (sym y)
@@ -103,6 +109,6 @@ module _ (c : Call) (e : call_class c ≡ 0) where
       some_room : need ≤ 2048 → apply_signature (lent_instruction c) (beside whole (lent_world c)) ≡ besides (longer words_missing places_missing (ended short_run)) short_run
       some_room l =
           let r = right in
-          let a : need * 98 ≤ length c.context.effects = subst (λ (n : ℕ). n * 98 ≤ length c.context.effects) (ite_ge 2048 need 2048 need l) r.effects.least in
-          let b : need * 1 ≤ length c.context.effect_order = subst (λ (n : ℕ). n * 1 ≤ length c.context.effect_order) (ite_ge 2048 need 2048 need l) r.effect_order.least in
+          let a : need * 98 ≤ length c.context.effects = subst (λ (n : ℕ). n * 98 ≤ length c.context.effects) (ite_ge 2048 need 2048 need l) r.effects.room_there in
+          let b : need * 1 ≤ length c.context.effect_order = subst (λ (n : ℕ). n * 1 ≤ length c.context.effect_order) (ite_ge 2048 need 2048 need l) r.effect_order.room_there in
           lent_short need words_missing places_missing (lent_instruction c) (lent_world c) a (omega arith) (omega arith)

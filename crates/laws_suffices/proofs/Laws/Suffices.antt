@@ -183,5 +183,5 @@ module _ (n : ℕ) (c : ContextWords) (xs : List ℕ) (count : ℕ) (p : Place) 
 -- so the bounds of `laws_counts` hold of it
 pub accepted_fits : (c : Call) → call_class c ≡ 0 → Fits lent (lent_instruction c) c.context
 accepted_fits c e =
-    let a = class_0 c e in
+    let a = class_0 c.values c.sets c.flag c.context c.session c.candidates c.lvalue c.own c.output c.scratch64 c.scratch32 e in
     instruction_fits (identifiers c.sets) c.context c.candidates (candidate_count c.candidates) c.lvalue c.own a.3 c.session.next a.2
