@@ -31,7 +31,7 @@ HEAD = """use Rattle.std.specs.Prelude.{ℕ, zero, suc, ◌+◌, ◌*◌, List, 
 use Rattle.def_effects.specs.Keys.{eq_list}
 use Rattle.def_image.specs.Listing.{ascii}
 use Rattle.def_image.specs.Infer.{infer}
-use Rattle.def_image.specs.Laws.Computing.{computing}
+use Rattle.def_image.proofs.Laws.Computing.{computing}
 """
 
 SHOW = """
@@ -88,10 +88,12 @@ def prepare():
     with open(os.path.join(PLACE, "crates.txt"), "w", encoding="utf-8") as f:
         f.writelines(line.rstrip("\n") + "\n" for line in lines)
         f.write("compare: %s\n" % " ".join(NEEDED))
-    for name in NEEDED + ["compare"]:
-        shutil.rmtree(os.path.join(PLACE, "crates", name), ignore_errors=True)
+    shutil.rmtree(os.path.join(PLACE, "crates", "compare"), ignore_errors=True)
     for name in NEEDED:
-        shutil.copytree(os.path.join(ROOT, "crates", name), os.path.join(PLACE, "crates", name), ignore=shutil.ignore_patterns("out", "must-fail"))
+        target = os.path.join(PLACE, "crates", name)
+        for part in ("src", "specs", "proofs"):
+            shutil.rmtree(os.path.join(target, part), ignore_errors=True)
+        shutil.copytree(os.path.join(ROOT, "crates", name), target, ignore=shutil.ignore_patterns("out", "must-fail"), dirs_exist_ok=True)
 
 
 # A list of bytes as antt writes it.
