@@ -1,6 +1,8 @@
 #!/usr/bin/env bash
 # Builds the oracle from the six given files and the stand-ins.
 # Usage: oracle/build.sh [--no-counter | --cover] [SRC_FOLDER]
+# SRC_FOLDER is the folder with the customer's Rust sources, which has src/diagnostics.rs and the five others in it. Without it ORACLE_SRC of
+# the environment says which, else it is ../shared/docs/src beside the repository, if that is there.
 #   plain         target/oracle/oracle, changes in target/oracle/difference.diff
 #   --no-counter  the same without the walk counter (oracle-no-counter)
 #   --cover       with a call in every arm, for coverage.sh (oracle-cover)
@@ -17,7 +19,14 @@ for arg in "$@"; do
         *) given="$arg" ;;
     esac
 done
-given="${given:-$root/../shared/docs/src}"
+given="${given:-${ORACLE_SRC:-}}"
+if [ -z "$given" ] && [ -d "$root/../shared/docs/src" ]; then
+    given="$root/../shared/docs/src"
+fi
+if [ -z "$given" ]; then
+    echo "build.sh: say where the customer's Rust sources are: oracle/build.sh SRC_FOLDER, or ORACLE_SRC=SRC_FOLDER" >&2
+    exit 2
+fi
 out="$root/target/oracle"
 tree="$out/tree$form"
 

@@ -194,11 +194,11 @@ def settled(term):
 
 # ---- statements
 
-# Where the bracket that opens at a place closes.
+# Where the bracket that opens at a place closes; the `>` of an arrow `->` closes none.
 def closing(text, at):
     depth, open_, close = 0, text[at], {"(": ")", "{": "}", "<": ">"}[text[at]]
     while True:
-        depth += (text[at] == open_) - (text[at] == close)
+        depth += (text[at] == open_) - (text[at] == close and text[at - 1 : at + 1] != "->")
         at += 1
         if depth == 0:
             return at

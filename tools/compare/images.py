@@ -8,7 +8,7 @@ M smallest records, then others at random by the seed, N in all, none above BYTE
 For each a test `T (eq_list (infer bytes) (ascii "listing"))` is written into a throw-away
 repository, a folder compare-images among the temporary ones (`rt ci` refuses one inside this checkout), and
 checked there: the prover computes the definition and nothing is run. A record is `equal`, or DIFFERENT with what the definition computes, or `not computed`
-where the prover's step limit was met (no option raises it; all that were tried below 20,000 bytes stay under it).
+where the prover met its limit of steps or of memory (all that were tried below 20,000 bytes stay below it).
 Exit status 0 if none is different.
 """
 
@@ -31,7 +31,7 @@ HEAD = """use Rattle.std.specs.Prelude.{ℕ, zero, suc, ◌+◌, ◌*◌, List, 
 use Rattle.def_effects.specs.Keys.{eq_list}
 use Rattle.def_image.specs.Listing.{ascii}
 use Rattle.def_image.specs.Infer.{infer}
-use Rattle.def_image.specs.Laws.Computing.{computing}
+use Rattle.def_image.proofs.Laws.Computing.{computing}
 """
 
 SHOW = """
@@ -88,10 +88,12 @@ def prepare():
     with open(os.path.join(PLACE, "crates.txt"), "w", encoding="utf-8") as f:
         f.writelines(line.rstrip("\n") + "\n" for line in lines)
         f.write("compare: %s\n" % " ".join(NEEDED))
-    for name in NEEDED + ["compare"]:
-        shutil.rmtree(os.path.join(PLACE, "crates", name), ignore_errors=True)
+    shutil.rmtree(os.path.join(PLACE, "crates", "compare"), ignore_errors=True)
     for name in NEEDED:
-        shutil.copytree(os.path.join(ROOT, "crates", name), os.path.join(PLACE, "crates", name), ignore=shutil.ignore_patterns("out", "must-fail"))
+        target = os.path.join(PLACE, "crates", name)
+        for part in ("src", "specs", "proofs"):
+            shutil.rmtree(os.path.join(target, part), ignore_errors=True)
+        shutil.copytree(os.path.join(ROOT, "crates", name), target, ignore=shutil.ignore_patterns("out", "must-fail"), dirs_exist_ok=True)
 
 
 # A list of bytes as antt writes it.
@@ -184,7 +186,12 @@ def main():
     refused, stopped = set(), set()
     for part in re.split(r"error: (?:in )?`test-", out)[1:]:
         k = int(part.split("`")[0])
-        (stopped if "stopped at the step limit" in part else refused).add(k)
+        if "step limit" in part or "memory limit" in part:
+            stopped.add(k)
+        elif "expected type `⊥`" in part or "are `⊥` (expected)" in part:
+            refused.add(k)
+        else:
+            raise SystemExit(out)
     if code not in (0, 1, 3) or (code == 0) != (not refused and not stopped):
         raise SystemExit(out)
     answers = computed(records, sorted(refused)) if refused else {}

@@ -24,8 +24,7 @@ import parse  # noqa: E402
 from words import read_list  # noqa: E402
 
 ABSENT = 0xFFFFFFFF
-USES = """use Rattle.std.specs.Prelude.{ℕ, Bool, true, false, List, [], ◌∷◌, T}
-use Rattle.std.proofs.Math.Option.{Option, none, some}
+USES = """use Rattle.std.specs.Prelude.{ℕ, Bool, true, false, List, [], ◌∷◌, T, None, Some}
 use Rattle.def_kinds.specs.Kinds as Kinds
 use Rattle.def_effects.specs.Effects.{AliasingEffect, Freeze, Mutate, MutateConditionally, MutateTransitive, MutateTransitiveConditionally, Capture, Alias, MaybeAlias, Assign, Create, CreateFrom, ImmutableCapture, CreateFunction, MutateFrozen, MutateGlobal, Impure, Render}
 use Rattle.def_effects.specs.declared.MutateVariant.TheVariants as Variant
@@ -36,7 +35,7 @@ use Rattle.def_transfer.specs.State as State
 use Rattle.def_transfer.specs.Step as Step
 use Rattle.def_transfer.specs.Merge.{Entries, merge, merge_from}
 use Rattle.def_transfer.specs.Pure.{pure, at}
-use Rattle.def_transfer.specs.Laws.Computing.{computing}
+use Rattle.def_transfer.proofs.Laws.Computing.{computing}
 use Rattle.compare.specs.Harness.{place, span, abs, func, ident, diag, key, diag_at, job_words, check_job, op_words, silent, abs_words, flag_words, members_words, result_words, merge_words, merge_from_words}
 use Rattle.compare.specs.Harness as H
 """
@@ -55,7 +54,7 @@ def lst(items):
 # An optional number as a term: none where it is absent.
 # Keys have them.
 def opt(n):
-    return "none" if n is None else "(some %d)" % n
+    return "None" if n is None else "(Some %d)" % n
 
 
 # A place's five words as a term.
@@ -106,8 +105,8 @@ def sets_of(pairs):
 # The state part of a world as a term.
 # Flag, values and sets.
 def state(flag, values, pairs):
-    vals = table("none", [(v, "(some (abs %d %d))" % (k, r)) for v, k, r in values])
-    sets = table("none", [(i, "(some %d)" % s) for i, s in sorted(sets_of(pairs).items())])
+    vals = table("None", [(v, "(Some (abs %d %d))" % (k, r)) for v, k, r in values])
+    sets = table("None", [(i, "(Some %d)" % s) for i, s in sorted(sets_of(pairs).items())])
     return "record { values = %s; sets = %s; is_function_expression = %s }" % (vals, sets, bool_of(flag))
 
 
@@ -142,14 +141,14 @@ def world(j):
     for c in j["cached"]:
         code, f, i, k, r, g, run, count, n = c
         caps = [p[0] for p in places[run:run + count]] if code == 13 else []
-        cached.append((n, "(some (key %d %s (some %d) %d %d %s %s))" % (
+        cached.append((n, "(Some (key %d %s (Some %d) %d %d %s %s))" % (
             code, opt(None if code in (9, 13) else f), i, k, r, opt(g if code == 13 else None), lst(caps))))
     interned = lst(effect(c, places, fixed) for c in j["interned"])
     return ("(record { state = %s; rest = record { session = record { next = %d; access = %d; span = span %d %d; entries = %d }; "
             "context = record { interned = %s; cached = %s; links = %s; functions = %s; identifiers = %s; transitive = %s; diagnostics = %s }; "
             "work = record { initialized = []; listed = []; freeze_entries = 0; entries = 0 } } })") % (
-        state(h[2], j["values"], j["pairs"]), h[3], h[4], h[5], h[6], h[7], interned, table("none", cached),
-        table("none", [(v, "(some %d)" % f) for v, f in j["links"]]), functions, idents, bool_of(h[1]), diags)
+        state(h[2], j["values"], j["pairs"]), h[3], h[4], h[5], h[6], h[7], interned, table("None", cached),
+        table("None", [(v, "(Some %d)" % f) for v, f in j["links"]]), functions, idents, bool_of(h[1]), diags)
 
 
 # The instructions of a job as terms over the world.
@@ -226,7 +225,7 @@ def op_terms(words, answer, chooser=None):
     first = state(h[5], *o["first"])
     session = "record { next = 512; access = %d; span = span %d %d; entries = 0 }" % (h[2], h[3], h[4])
     idents = table("(ident false false 0 0 0)", [(k, "(ident true false 0 0 0)") for k, f in enumerate(o["flags"]) if f & 1])
-    w = ("(record { state = %s; rest = record { session = %s; context = record { interned = []; cached = λ n. none; links = λ n. none; functions = λ n. func [] [] false; "
+    w = ("(record { state = %s; rest = record { session = %s; context = record { interned = []; cached = λ n. None; links = λ n. None; functions = λ n. func [] [] false; "
          "identifiers = %s; transitive = false; diagnostics = [] }; work = record { initialized = []; listed = []; freeze_entries = 0; entries = 0 } } })") % (first, session, idents)
     variants = ["Mutate", "MutateConditionally", "MutateTransitive", "MutateTransitiveConditionally"]
     calls = {
@@ -249,8 +248,8 @@ def op_terms(words, answer, chooser=None):
     else:
         def entries(part):
             return "(record { value = %s; set = %s })" % (
-                table("none", [(v, "(some (abs %d %d))" % (k, r)) for v, k, r in part[0]]),
-                table("none", [(i, "(some %d)" % s) for i, s in sorted(sets_of(part[1]).items())]))
+                table("None", [(v, "(Some (abs %d %d))" % (k, r)) for v, k, r in part[0]]),
+                table("None", [(i, "(Some %d)" % s) for i, s in sorted(sets_of(part[1]).items())]))
         name = "merge" if o["op"] == 12 else "merge_from"
         term = "%s_words %s (%s) %s (%s %s %s)" % (name, where, session, bool_of(h[5]), name, entries(o["first"]), entries(o["second"]))
     if chooser:
@@ -265,7 +264,7 @@ def spoiled(words, k):
 
 
 # The throw-away repository: the crates of this one, and a crate of tests.
-# Nothing of it is committed.
+# Nothing of it is committed. What was proved of the crates stays in their folders `out`.
 def repository(path):
     shutil.rmtree(os.path.join(path, "crates", "compare"), ignore_errors=True)
     os.makedirs(os.path.join(path, "crates", "compare", "src"))
@@ -273,8 +272,9 @@ def repository(path):
     needed = ["base_tests", "base_orders", "base_sets", "def_kinds", "def_effects", "def_transfer"]
     for name in needed:
         target = os.path.join(path, "crates", name)
-        shutil.rmtree(target, ignore_errors=True)
-        shutil.copytree(os.path.join(ROOT, "crates", name), target, ignore=shutil.ignore_patterns("out", "must-fail"))
+        for part in ("src", "specs", "proofs"):
+            shutil.rmtree(os.path.join(target, part), ignore_errors=True)
+        shutil.copytree(os.path.join(ROOT, "crates", name), target, ignore=shutil.ignore_patterns("out", "must-fail"), dirs_exist_ok=True)
     with open(os.path.join(ROOT, "crates.txt"), encoding="utf-8") as f:
         lines = [line for line in f if line.split(":")[0] in needed]
     with open(os.path.join(path, "crates.txt"), "w", encoding="utf-8") as f:
@@ -336,7 +336,7 @@ def main():
         print(out)
         return
     failed = re.findall(r"error: `((?:job|op)-\d+)`: (.*(?:\n  .*)*)", out)
-    bad = sorted({name for name, text in failed if "are `Prim.⊥` (expected)" in text})
+    bad = sorted({name for name, text in failed if "expected type `⊥`" in text or "are `⊥` (expected)" in text})
     for name in bad:
         print("DIFFERENT", name)
     others = [e for e in re.findall(r"error: .*", out) if not any(e.startswith("error: `%s`" % name) for name in bad)]

@@ -1,6 +1,6 @@
 // The program `infer`: a job image on standard input, its listing on standard output (document 01, 'The job image and its program').
-// All work is in `image_infer::infer_image` and `image_listing::put_piece`. No contract says what is read or written: that it is standard input until its end,
-// and the pieces of the listing in their order and nothing else, is these lines.
+// All work is in `image_infer::infer_image` and `image_listing::put_piece`. No contract says what is read or written: that standard input is read until
+// its end is `test_bytes::read_full`, whose contract bounds only the count; that the pieces of the listing are written in their order and nothing else, these lines.
 #![tactic(auto)]
 
 use std::io;
