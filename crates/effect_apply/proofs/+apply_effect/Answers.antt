@@ -2,7 +2,7 @@ use mathlib.Core.Path.{refl, ◌∙◌}
 use mathlib.Core.List.{[]}
 use Rattle.def_transfer.specs.Step as Text
 use Rattle.laws_monad.proofs.Laws.Answers.{passes}
-use Rattle.lent_world.proofs.Laws.Promise.{kept_then}
+use Rattle.lent_world.proofs.Laws.Promise.{kept_start, kept_then}
 use Rattle.effect_apply.proofs.Laws.Step.{step_none, step_refused, step_acts, arm_plain, plain_is, arm_mutating, arm_flowing, arm_assigning, arm_from, arm_function, follow_nothing, follow_itself, follow_derived, created_follows, assign_plain, assign_stops, assign_goes, captures_start, captures_next, captures_stop, captures_end, chosen_copied}
 use Rattle.effect_apply.proofs.+apply_effect.Goals as goal
 
@@ -22,7 +22,7 @@ assigning-returns-clause-does t c =
     c.in_ok-a.ensures.does (Text.apply_effect _) ∙ assign_plain _ _ _ _ [] _ _ c.is_frozen.ensures _ c.if-is_frozen.false c.assign_rest.ensures.does
 
 pub capture_all-loop-k-init : goal.capture_all-loop-k-init
-capture_all-loop-k-init t c = (((refl, refl), (refl, refl), (refl, refl), (refl, refl)), refl)
+capture_all-loop-k-init t c = (kept_start c.args.world.now, refl)
 
 pub capture_all-returns-in_err-apply_effect-clause-does : goal.capture_all-returns-in_err-apply_effect-clause-does
 capture_all-returns-in_err-apply_effect-clause-does t c =

@@ -7,16 +7,15 @@ use Rattle.def_kinds.specs.declared.AbstractValue.{AbstractValue}
 use Rattle.def_kinds.specs.Kinds.{is_frozen}
 use Rattle.def_effects.specs.declared.Place.{Place}
 use Rattle.def_effects.specs.declared.MutateVariant.{MutateVariant}
-use Rattle.def_effects.specs.Effects.{AliasingEffect, Capture, CreateFrom, ImmutableCapture}
+use Rattle.def_effects.specs.Effects.{AliasingEffect, Capture, CreateFrom}
 use Rattle.def_effects.specs.Keys.{AssignFrozen}
-use Rattle.def_transfer.specs.Monad.{Res, ok, refused, M, Done, ◌>>=◌, ◌>>◌, refuse, each}
+use Rattle.def_transfer.specs.Monad.{Res, ok, refused, M, Done, ◌>>=◌, refuse, each}
 use Rattle.def_transfer.specs.Tables.{World}
 use Rattle.def_transfer.specs.Context.{intern_effect, emit}
 use Rattle.def_transfer.specs.Step.{act, apply_effect, mutating, assigning, creating_from, creating_function}
 use Rattle.lent_tables.specs.Words.{field, place_in, places_in}
 use Rattle.lent_tables.proofs.Laws.Word.{places_more, places_none}
 use Rattle.lent_effects.specs.declared.AliasingEffect.{AliasingEffect as Head}
-use Rattle.lent_effects.specs.declared.AliasingEffect.TheVariants as Head
 use Rattle.lent_effects.specs.Records.{effect_with, captures_of, counted_places}
 use Rattle.laws_monad.proofs.Laws.Answers.{bind_ok, bind_fails, then_ok, then_fails, if_true, if_false, done_ok}
 use Rattle.laws_monad.proofs.Laws.Each.{each_ok, each_fails, each_done}
