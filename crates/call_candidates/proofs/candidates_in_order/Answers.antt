@@ -2,12 +2,12 @@
 use mathlib.Core.Path.{refl, ◌∙◌}
 use Rattle.def_transfer.specs.Step as Text
 use Rattle.laws_monad.proofs.Laws.Answers.{passes}
-use Rattle.lent_world.proofs.Laws.Promise.{kept_then}
+use Rattle.lent_world.proofs.Laws.Promise.{kept_start, kept_then}
 use Rattle.call_parts.proofs.Laws.Instruction.{candidates_start, candidates_next, candidates_stop, candidates_end}
 use Rattle.call_candidates.proofs.candidates_in_order.Goals as goal
 
 pub loop-k-init : goal.loop-k-init
-loop-k-init c = (((refl, refl), (refl, refl), (refl, refl), (refl, refl)), refl)
+loop-k-init c = (kept_start c.args.world.now, refl)
 
 pub returns-in_err-candidate-clause-does : goal.returns-in_err-candidate-clause-does
 returns-in_err-candidate-clause-does c =

@@ -35,6 +35,7 @@ use Rattle.lent_effects.specs.Records.{effect_in, effect_with, head_in, captures
 use Rattle.lent_effects.proofs.Laws.Capture.{captures_copied, places_copied}
 use Rattle.lent_work.specs.declared.Run.{Run}
 use Rattle.lent_layout.specs.Layout as Layout
+use Rattle.lent_layout.specs.Context.{ContextWords}
 use Rattle.lent_context.specs.Lent as Lent
 use Rattle.lent_context.specs.Lent.{effects_in}
 use Rattle.lent_context.proofs.Laws.Search.{effects_more, effects_none}
@@ -47,20 +48,20 @@ use Rattle.lent_layout.specs.Layout.{candidate_table, inside_run}
 
 -- ---- an identifier among the context places of a function
 
-module _ (c : List ℕ) (f i : ℕ) where
+module _ (c : ContextWords) (f i : ℕ) where
   -- a search of the places from one on finds the identifier where it is among theirs
-  near_from : (n a : ℕ) → list_any (λ k. eqb i (field Layout.contexts c f (k * 5))) (range_with_len a n) ≡ Instruction.has i (identifiers (places_in Layout.contexts c f 0 a n))
+  near_from : (n a : ℕ) → list_any (λ k. eqb i (field Layout.contexts c.contexts f (k * 5))) (range_with_len a n) ≡ Instruction.has i (identifiers (places_in Layout.contexts c.contexts f 0 a n))
   unfolding Instruction.has places_in place_in
   near_from zero a = refl
   near_from (suc n) a =
       let z : a * 5 ≡ 0 + a * 5 = omega arith in
-      ap₂ (λ (x : ℕ) (b : Bool). eqb i (field Layout.contexts c f x) || b) z
-      (ap (λ (y : ℕ). list_any (λ k. eqb i (field Layout.contexts c f (k * 5))) (range_with_len y n)) (add-one a) ∙ near_from n (suc a))
+      ap₂ (λ (x : ℕ) (b : Bool). eqb i (field Layout.contexts c.contexts f x) || b) z
+      (ap (λ (y : ℕ). list_any (λ k. eqb i (field Layout.contexts c.contexts f (k * 5))) (range_with_len y n)) (add-one a) ∙ near_from n (suc a))
 
   -- all places of a function are its context
-  pub near_is : (n : ℕ) → n ≡ field Layout.functions c f 1 → list_any (λ k. eqb i (field Layout.contexts c f (k * 5))) (range_with_len 0 n) ≡ Instruction.has i (identifiers (Lent.context_of c f))
+  pub near_is : (n : ℕ) → n ≡ field Layout.functions c.functions f 1 → list_any (λ k. eqb i (field Layout.contexts c.contexts f (k * 5))) (range_with_len 0 n) ≡ Instruction.has i (identifiers (Lent.context_of c f))
   unfolding Lent.context_of
-  near_is n e = near_from n 0 ∙ ap (λ (m : ℕ). Instruction.has i (identifiers (places_in Layout.contexts c f 0 0 m))) e
+  near_is n e = near_from n 0 ∙ ap (λ (m : ℕ). Instruction.has i (identifiers (places_in Layout.contexts c.contexts f 0 0 m))) e
 
 -- ---- a place that the own function mutates inside
 
@@ -124,9 +125,9 @@ module _ (w : World lent) (p : Place) where
 -- ---- the places that a function mutates inside were copied
 
 -- the places of a slice that they were copied to are those that the function mutates inside
-inside_copied : (c : List ℕ) (f : ℕ) (ws : List ℕ) → length ws ≡ 161 → inside_places (copied_inside c f ws) ≡ Lent.mutated_inside c f
+inside_copied : (c : ContextWords) (f : ℕ) (ws : List ℕ) → length ws ≡ 161 → inside_places (copied_inside c f ws) ≡ Lent.mutated_inside c f
 unfolding Lent.mutated_inside copied_inside
-inside_copied c f ws b = places_copied Layout.functions c f 3 160 161 ws (field Layout.functions c f 2) refl b refl
+inside_copied c f ws b = places_copied Layout.functions c.functions f 3 160 161 ws (field Layout.functions c.functions f 2) refl b refl
 
 -- ---- each of these places
 
@@ -210,7 +211,7 @@ module _ (act : AliasingEffect → M (World lent) Done) (xs : List ℕ) where
 -- ---- the lvalue
 
 -- what the set of the lvalue says
-module _ (vs ss cs os : List ℕ) (r : Run) (i : ℕ) (b : Bool) (e : b ≡ is_some (set_at ss i)) where
+module _ (vs ss : List ℕ) (cs : ContextWords) (os : List ℕ) (r : Run) (i : ℕ) (b : Bool) (e : b ≡ is_some (set_at ss i)) where
   -- a defined lvalue
   pub lvalue_stays : b ≡ true → Instruction.define_lvalue i (world vs ss cs os r) ≡ ok tt (world vs ss cs os r)
   unfolding Instruction.define_lvalue State.set_of
