@@ -1,5 +1,5 @@
 -- Laws by which the code of the room meets the definition: a law for each way through a function. Assumes nothing.
-use Rattle.std.specs.Prelude.{ℕ, suc, ◌+◌, ◌*◌, ◌-◌, ◌≤◌, ◌<◌, ◌≡◌, refl, Bool, true, false, ◌⊎◌, eqb, ltb, length}
+use Rattle.std.specs.Prelude.{ℕ, suc, ◌+◌, ◌*◌, ◌-◌, ◌≤◌, ◌<◌, ◌≡◌, refl, Bool, true, false, ◌||◌, ◌⊎◌, eqb, ltb, min, not, length}
 use native.Mathlib.Omega.{arith}
 use Rattle.std.proofs.Math.Path.{sym, ap, ap₂}
 use Rattle.std.proofs.Common.{◌∙◌, ⊎_elim}
@@ -15,12 +15,14 @@ use Rattle.lent_tables.specs.Words.{field}
 use Rattle.lent_effects.specs.declared.AliasingEffect.{AliasingEffect as Head}
 use Rattle.lent_effects.specs.Records.{counted_places, effect_with, head_in, effect_in}
 use Rattle.lent_layout.specs.Layout as Layout
+use Rattle.lent_layout.specs.Context.{ContextWords}
 use Rattle.lent_context.specs.Lent.{effects_in, interned_count}
 use Rattle.lent_context.proofs.Laws.Search.{effects_more, effects_none}
 use Rattle.lent_keys.proofs.Laws.Number.{places_numbers, numbers_count}
 use Rattle.laws_room.specs.Room.{derives, need, needs}
 use Rattle.call_outcome.specs.Attempts.{at_most}
-use Rattle.call_outcome.specs.Calls.{candidate_count, room_for}
+use Rattle.call_outcome.proofs.Laws.Class as Class
+use Rattle.call_outcome.specs.Calls.{candidate_count, room_for, table_wrong, context_wrong}
 
 -- ---- what an effect of a code derives
 
@@ -105,16 +107,16 @@ capped_twice a b = ⊎_elim
 
 -- ---- the sum over the candidates
 
-module _ (cs xs : List ℕ) (n : ℕ) (e : n ≡ candidate_count xs) where
+module _ (cs : ContextWords) (xs : List ℕ) (n : ℕ) (e : n ≡ candidate_count xs) where
   -- what is left to count from candidate k on, with what was counted
   abbrev pub left : ℕ → ℕ → ℕ
   left total k = at_most 2048 (total + needs (effects_in Layout.candidate_table xs k (n - k)))
 
-  pub room_starts : (count total : ℕ) → count ≡ interned_count cs → total ≡ at_most 2048 (count + 0) → room_for cs xs ≡ left total 0
+  pub room_starts : (total : ℕ) → total ≡ at_most 2048 (interned_count cs + 0) → room_for cs xs ≡ left total 0
   unfolding room_for
-  room_starts count total hc ht =
-      ap₂ (λ (x y : ℕ). at_most 2048 (x + needs (effects_in Layout.candidate_table xs 0 y))) (sym hc ∙ (let z : count ≡ count + 0 = omega arith in z)) (sym e ∙ (let z : n ≡ n - 0 = omega arith in z))
-      ∙ sym (capped_twice (count + 0) (needs (effects_in Layout.candidate_table xs 0 (n - 0))))
+  room_starts total ht =
+      ap₂ (λ (x y : ℕ). at_most 2048 (x + needs (effects_in Layout.candidate_table xs 0 y))) (let z : interned_count cs ≡ interned_count cs + 0 = omega arith in z) (sym e ∙ (let z : n ≡ n - 0 = omega arith in z))
+      ∙ sym (capped_twice (interned_count cs + 0) (needs (effects_in Layout.candidate_table xs 0 (n - 0))))
       ∙ ap (λ (x : ℕ). at_most 2048 (x + needs (effects_in Layout.candidate_table xs 0 (n - 0)))) (sym ht)
 
   pub room_more : (total total' more k : ℕ) → k < n → more ≡ need (effect_key (effect_in Layout.candidate_table xs k)) → total' ≡ at_most 2048 (total + more) → room_for cs xs ≡ left total k → room_for cs xs ≡ left total' (k + 1)
@@ -134,7 +136,65 @@ module _ (cs xs : List ℕ) (n : ℕ) (e : n ≡ candidate_count xs) where
       ∙ ite_ge 2048 (total + 0) 2048 (total + 0) (omega arith) ∙ (let z : total + 0 ≡ total = omega arith in z))
 
 pub most_limit : (x n : ℕ) → x ≡ at_most 2048 n → x ≤ 2048
-most_limit x n e = ⊎_elim {C = x ≤ 2048}
-    (λ h. let z : x ≡ 2048 = e ∙ ite_lt 2048 n 2048 n h in omega arith)
-    (λ h. let z : x ≡ n = e ∙ ite_ge 2048 n 2048 n h in omega arith)
-    (lt_or_ge 2048 n)
+most_limit x n e = let z = Class.most_limit 2048 n in omega arith
+
+-- ---- a chain of tests
+
+-- a test, or else another
+pub or_then : (a b v : Bool) → a ≡ true → v ≡ a → v ≡ (a || b)
+or_then a b v h e = e ∙ h ∙ sym (ap (λ (x : Bool). x || b) h)
+
+pub or_else : (a b v r : Bool) → a ≡ false → r ≡ b → v ≡ r → v ≡ (a || b)
+or_else a b v r h g e = e ∙ g ∙ sym (ap (λ (x : Bool). x || b) h)
+
+or_assoc : (a b c : Bool) → ((a || b) || c) ≡ (a || (b || c))
+or_assoc true b c = refl
+or_assoc false b c = refl
+
+least_is : (n limit : ℕ) → min n limit ≡ at_most limit n
+least_is n limit = ⊎_elim
+    (λ h. (let z : min n limit ≡ limit = omega arith in z) ∙ Class.most_past limit n h)
+    (λ h. (let z : min n limit ≡ n = omega arith in z) ∙ Class.most_within limit n h)
+    (lt_or_ge limit n)
+
+-- the tests of a context's slices, of which one of the first eight holds
+-- the code makes them from the left
+pub context_wrong_is : (n room f : ℕ) (c : ContextWords) (v2 v3 v4 v5 v6 v7 v8 : Bool) → f ≡ min c.function_count 64
+    → v2 ≡ (table_wrong Layout.identifiers n (length c.identifiers) || table_wrong Layout.functions f (length c.functions))
+    → v3 ≡ (v2 || table_wrong Layout.contexts f (length c.contexts)) → v4 ≡ (v3 || table_wrong Layout.links 512 (length c.links))
+    → v5 ≡ (v4 || table_wrong Layout.cached 512 (length c.keys)) → v6 ≡ (v5 || table_wrong Layout.key_order 512 (length c.key_order))
+    → v7 ≡ (v6 || table_wrong Layout.interned room (length c.effects)) → v8 ≡ (v7 || table_wrong Layout.effect_order room (length c.effect_order)) → v8 ≡ true
+    → v8 ≡ context_wrong n room c
+unfolding context_wrong
+context_wrong_is n room f c v2 v3 v4 v5 v6 v7 v8 hf e2 e3 e4 e5 e6 e7 e8 h =
+    or_then v8 t9 v8 h refl
+    ∙ (let e : (v8 || t9) ≡ ((((((((t1 || t2 f) || t3 f) || t4) || t5) || t6) || t7) || t8) || t9) = cc in e)
+    ∙ ap (λ (x : ℕ). ((((((((t1 || t2 x) || t3 x) || t4) || t5) || t6) || t7) || t8) || t9)) (hf ∙ least_is c.function_count 64)
+    ∙ simp or_assoc
+  where
+    t1 : Bool
+    t1 = table_wrong Layout.identifiers n (length c.identifiers)
+
+    t2 : ℕ → Bool
+    t2 x = table_wrong Layout.functions x (length c.functions)
+
+    t3 : ℕ → Bool
+    t3 x = table_wrong Layout.contexts x (length c.contexts)
+
+    t4 : Bool
+    t4 = table_wrong Layout.links 512 (length c.links)
+
+    t5 : Bool
+    t5 = table_wrong Layout.cached 512 (length c.keys)
+
+    t6 : Bool
+    t6 = table_wrong Layout.key_order 512 (length c.key_order)
+
+    t7 : Bool
+    t7 = table_wrong Layout.interned room (length c.effects)
+
+    t8 : Bool
+    t8 = table_wrong Layout.effect_order room (length c.effect_order)
+
+    t9 : Bool
+    t9 = not (eqb (length c.diagnostics) 256)
