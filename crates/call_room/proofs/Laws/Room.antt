@@ -147,7 +147,7 @@ or_then a b v h e = e ∙ h ∙ sym (ap (λ (x : Bool). x || b) h)
 pub or_else : (a b v r : Bool) → a ≡ false → r ≡ b → v ≡ r → v ≡ (a || b)
 or_else a b v r h g e = e ∙ g ∙ sym (ap (λ (x : Bool). x || b) h)
 
-or_assoc : (a b c : Bool) → ((a || b) || c) ≡ (a || (b || c))
+pub or_assoc : (a b c : Bool) → ((a || b) || c) ≡ (a || (b || c))
 or_assoc true b c = refl
 or_assoc false b c = refl
 
