@@ -1,5 +1,5 @@
 -- The code's tests of lengths are the definition's. Assumes nothing.
-use Rattle.std.specs.Prelude.{ℕ, ◌+◌, ◌-◌, ◌*◌, ◌/◌, ◌%◌, ◌≤◌, ◌<◌, ◌≡◌, Bool, true, false, not, ◌||◌, List, eqb, ltb, min, length}
+use Rattle.std.specs.Prelude.{ℕ, ◌+◌, ◌-◌, ◌*◌, ◌/◌, ◌%◌, ◌<◌, ◌≡◌, Bool, true, not, ◌||◌, List, eqb, ltb, min, length}
 use Rattle.std.proofs.Common.{arith, sym, ap, ap₂, ◌∙◌, ⊎_elim}
 use borrow.Author.Tests.{lt-ltb, le-ltb, eq-eqb, ne_eqb}
 use Rattle.base_tests.proofs.Laws.Bool.{or_first, or_second}
@@ -42,9 +42,9 @@ scratch_is : (m n : ℕ) → (ltb m 1024 || not (eqb (m - 1024) n)) ≡ not (eqb
 scratch_is m n = ⊎_elim
     (λ l. or_first (ltb m 1024) _ (lt-ltb m 1024 l) ∙ sym (ap not (ne_eqb m (1024 + n) (λ e. omega arith))))
     (λ g. or_second (ltb m 1024) _ (le-ltb m 1024 g) ∙ ⊎_elim
-        (λ e. ap not (eq-eqb (m - 1024) n (omega arith) ∙ sym (eq-eqb m (1024 + n) e)))
-        (λ d. ap not (ne_eqb (m - 1024) n (λ e. d (omega arith)) ∙ sym (ne_eqb m (1024 + n) d)))
-        (same_or_not m (1024 + n)))
+    (λ e. ap not (eq-eqb (m - 1024) n (omega arith) ∙ sym (eq-eqb m (1024 + n) e)))
+    (λ d. ap not (ne_eqb (m - 1024) n (λ e. d (omega arith)) ∙ sym (ne_eqb m (1024 + n) d)))
+    (same_or_not m (1024 + n)))
     (lt_or_ge m 1024)
 
 -- ---- all lengths
