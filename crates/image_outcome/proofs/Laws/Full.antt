@@ -1,4 +1,4 @@
--- Contexts with room for all: whether a context is one goes by the lengths of its slices, and cleared they are all the same. Assumes nothing.
+-- Contexts with room for all: the lengths of their slices, and that they are all the same when cleared. Assumes nothing.
 use Rattle.std.specs.Prelude.{ℕ, ◌≡◌, refl, Bool, true, false, ◌&&◌, eqb, length, replicate}
 use Rattle.std.proofs.Common.{sym, eqb-true, eq-eqb}
 use Rattle.std.proofs.lemmas.List.{length-replicate}
@@ -93,15 +93,21 @@ emptied_full c f = λ i. record {
   diagnostics = replicate (f.diagnostics i) unused;
 }
 
--- slices that stay the same have room for all if they had
-pub full_kept : (c d : Context) → SameSlices c d → is_full (held d) ≡ is_full (held c)
-unfolding is_full
-full_kept c d s =
-    λ i. eqb (sym s.0.1 i) 2048
-    && (eqb (sym s.1.1 i) 10432
-    && (eqb (sym s.2.1 i) 5120
-    && (eqb (sym s.3.1 i) 1024
-    && (eqb (sym s.4.1 i) 14336
-    && (eqb (sym s.5.1 i) 512
-    && (eqb (sym s.6.1 i) 200704
-    && (eqb (sym s.7.1 i) 2048 && eqb (sym s.8.1 i) 256)))))))
+-- slices that stay the same are cleared to the same
+pub emptied_kept : (c d : Context) → SameSlices c d → emptied (held d) ≡ emptied (held c)
+emptied_kept c d s = λ i. record {
+  options = 0;
+  function_count = 0;
+  effect_count = 0;
+  key_count = 0;
+  diagnostic_count = 0;
+  identifiers = replicate (sym s.0.1 i) 0;
+  functions = replicate (sym s.1.1 i) 0;
+  contexts = replicate (sym s.2.1 i) 0;
+  links = replicate (sym s.3.1 i) 0;
+  keys = replicate (sym s.4.1 i) 0;
+  key_order = replicate (sym s.5.1 i) 0;
+  effects = replicate (sym s.6.1 i) 0;
+  effect_order = replicate (sym s.7.1 i) 0;
+  diagnostics = replicate (sym s.8.1 i) unused;
+}

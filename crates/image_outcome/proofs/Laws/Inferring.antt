@@ -385,11 +385,11 @@ module _ (bs : List ℕ) (w : ℕ) (vs ss : List ℕ) (cs : ContextWords) (xs : 
 
   -- an accepted image: its call, and what that leaves
   leaves_call : (r : Read) (os s64 s32 : List ℕ) (x : Left) → false ≡ memory_wrong o p q → o ≡ length os → p ≡ length s64 → q ≡ length s32 → r ≡ read_image bs w t → r.job.refusal ≡ 0
-      → length r.tables.sets ≡ length ss → is_full r.tables.context ≡ is_full cs → length r.tables.candidates ≡ length xs
-      → (Fits r.tables.sets r.tables.candidates s64 r.job → length os ≡ Layout.output_words → length s32 ≡ Layout.most_saved → is_full r.tables.context ≡ true → x ≡ keeps (length r.tables.sets) (outcome (job_call r.job r.tables)))
+      → length r.tables.sets ≡ length ss → length r.tables.candidates ≡ length xs
+      → (Fits r.tables.sets r.tables.candidates s64 r.job → length os ≡ Layout.output_words → length s32 ≡ Layout.most_saved → x ≡ keeps (length r.tables.sets) (outcome (job_call r.job r.tables)))
       → settled x ≡ end
   unfolding job_of
-  leaves_call r os s64 s32 x m ho hp hq h n ls lc lx f =
+  leaves_call r os s64 s32 x m ho hp hq h n ls lx f =
       let c = read_class_is r h n in
       let a = accepted c in
       let k = few bs a.1 in
@@ -399,7 +399,7 @@ module _ (bs : List ℕ) (w : ℕ) (vs ss : List ℕ) (cs : ContextWords) (xs : 
       let i = ap (λ (x : Read). x.job.identifiers) g in
       let j = ap (λ (x : Read). x.job.candidates) g in
       ap settled
-      (f (record { rows = omega (arith, l.1); records = omega (arith, l.3); scratch = omega (arith, u.1) }) (sym ho ∙ u.0) (sym hq ∙ u.2) (lc ∙ l.2)
+      (f (record { rows = omega (arith, l.1); records = omega (arith, l.3); scratch = omega (arith, u.1) }) (sym ho ∙ u.0) (sym hq ∙ u.2)
       ∙ ap (λ (k : ℕ). keeps k (outcome (job_call r.job r.tables))) ls
       ∙ ap (λ (x : Read). keeps (length ss) (outcome (job_call x.job x.tables))) g
       ∙ ap (λ (x : Tables). keeps (length ss) (outcome (job_call (job_of (words_of bs)) x))) (filled_empty (words_of bs) a.0))
@@ -407,9 +407,9 @@ module _ (bs : List ℕ) (w : ℕ) (vs ss : List ℕ) (cs : ContextWords) (xs : 
 
   -- the same of what the code answers
   pub leaves_job : (a : Result Job Refusal) (j : Job) (us ts : List ℕ) (ds : ContextWords) (ys os s64 s32 : List ℕ) (x : Left) → a ≡ Ok j → false ≡ memory_wrong o p q → o ≡ length os → p ≡ length s64 → q ≡ length s32
-      → given_read (said_of a) us ts ds ys ≡ read_image bs w t → length ts ≡ length ss → is_full ds ≡ is_full cs → length ys ≡ length xs
-      → (Fits ts ys s64 (said_of (Ok j)) → length os ≡ Layout.output_words → length s32 ≡ Layout.most_saved → is_full ds ≡ true → x ≡ keeps (length ts) (outcome (job_call (said_of (Ok j)) (tables us ts ds ys))))
+      → given_read (said_of a) us ts ds ys ≡ read_image bs w t → length ts ≡ length ss → length ys ≡ length xs
+      → (Fits ts ys s64 (said_of (Ok j)) → length os ≡ Layout.output_words → length s32 ≡ Layout.most_saved → x ≡ keeps (length ts) (outcome (job_call (said_of (Ok j)) (tables us ts ds ys))))
       → settled x ≡ end
-  leaves_job a j us ts ds ys os s64 s32 x e m ho hp hq h ls lc lx f =
+  leaves_job a j us ts ds ys os s64 s32 x e m ho hp hq h ls lx f =
       leaves_call (given_read (said_of (Ok j)) us ts ds ys) os s64 s32 x m ho hp hq
-      (ap (λ (y : Result Job Refusal). given_read (said_of y) us ts ds ys) (sym e) ∙ h) refl ls lc lx f
+      (ap (λ (y : Result Job Refusal). given_read (said_of y) us ts ds ys) (sym e) ∙ h) refl ls lx f
