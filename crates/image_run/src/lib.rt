@@ -2,7 +2,7 @@
 // What was lent is cleared here too.
 #![tactic(auto)]
 
-ghost use Rattle.std.specs.Prelude.{◌≡◌, ◌-◌, ◌≤◌, ◌++◌, Bool, true, length, take, Ok};
+ghost use Rattle.std.specs.Prelude.{◌≡◌, ◌-◌, ◌≤◌, ◌++◌, Bool, length, take, Ok};
 ghost use Rattle.call_outcome.specs.Calls.{outcome, told};
 ghost use Rattle.def_effects.specs.declared.Session.{Session as ASession};
 ghost use Rattle.image_job.specs.Reading.{said_of, tables};
@@ -12,7 +12,7 @@ ghost use Rattle.image_outcome.specs.Promise.{left_by};
 ghost use Rattle.lent_copies.specs.Copies.{zeros};
 ghost use Rattle.lent_copies.specs.Cleared.{Cleared};
 ghost use Rattle.lent_layout.specs.Layout as Layout;
-ghost use Rattle.lent_layout.specs.Context.{held, SameSlices, is_full, emptied};
+ghost use Rattle.lent_layout.specs.Context.{held, SameSlices, emptied};
 
 use call_apply::apply_signature;
 use call_outcome::Applied;
@@ -66,7 +66,6 @@ pub fn run_tables(
     ensures does { Fits sets.old candidates.now scratch64.old (said_of (Ok job))
         → length output.old ≡ Layout.output_words
         → length scratch32.old ≡ Layout.most_saved
-        → is_full (held context.old) ≡ true
         → left_by result values.new sets.new output.new
         ≡ keeps (length sets.old)
         (outcome

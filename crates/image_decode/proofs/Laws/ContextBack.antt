@@ -172,7 +172,7 @@ module _ (im : Image) (c : ContextWords) (held : 10432 ≤ length c.functions) (
       (λ k j d n. function_other im k j d n 0)
 
   -- and their counts of context places
-  counts_back : (f : ℕ) → f < count_of im functions → field Lent.functions (decoded_context im c).functions f 1 ≡ context_count im f
+  pub counts_back : (f : ℕ) → f < count_of im functions → field Lent.functions (decoded_context im c).functions f 1 ≡ context_count im f
   unfolding decoded_context decoded_functions
   counts_back =
       each_back (decoded_function im) (function_length im) c.functions (λ d k. field Lent.functions d k 1) (λ k. context_count im k) (count_of im functions)

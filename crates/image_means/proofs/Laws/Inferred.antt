@@ -29,11 +29,13 @@ use Rattle.lent_tables.proofs.Laws.Word.{field_cong, within_word}
 use Rattle.lent_effects.specs.Records.{effect_in, put_effect}
 use Rattle.lent_effects.proofs.Laws.EffectFrames.{effect_cong, effect_record, effect_length}
 use Rattle.lent_layout.specs.Layout as Layout
+use Rattle.lent_layout.specs.Context.{ContextWords, no_context}
+use Rattle.image_outcome.proofs.Laws.Full.{no_context_full}
 use Rattle.lent_context.specs.Lent.{effects_in, interned_count}
-use Rattle.def_image.specs.Layout.{Image, words_of, word, identifiers, values, pairs, functions, candidates, count_of, flag_two, captures_count, code, function_flags, identifier_flags, pair_identifier, pair_value}
+use Rattle.def_image.specs.Layout.{Image, words_of, word, identifiers, values, pairs, functions, candidates, count_of, options, flag_two, captures_count, code, function_flags, identifier_flags, pair_identifier, pair_value}
 use Rattle.def_image.specs.Refusals.{refusal_of_words, refusal_of}
 use Rattle.def_image.specs.Decode.{list_from, entry_of, place_at, places_from, value_table, set_table, world_of, makers, effect_at, instruction_of, no_function, no_identifier, function_at, identifier_at, with_pair, member_of, transitive}
-use Rattle.image_decode.specs.Decoded.{after, decoded_candidate, decoded_candidates, decoded_sets}
+use Rattle.image_decode.specs.Decoded.{after, decoded_context, decoded_candidate, decoded_candidates, decoded_sets}
 use Rattle.image_decode.proofs.Laws.StateBack.{no_value, values_back, no_set, sets_back, after_length}
 use Rattle.lent_effects.proofs.Laws.Back.{capture_count, effect_back}
 use Rattle.image_decode.proofs.Laws.Candidate.{run_length}
@@ -46,9 +48,9 @@ use Rattle.lent_world.specs.World.{lent}
 use Rattle.lent_world.proofs.Laws.LentIsolation.{InRange}
 use Rattle.lent_world.proofs.Laws.LentFaithful.{lent_faithful}
 use Rattle.laws_room.proofs.Laws.Near.{besides}
-use Rattle.laws_image_accepted.proofs.Laws.Context.{far_zero, none_interned, none_told, identifiers_after, functions_after}
+use Rattle.laws_image_accepted.proofs.Laws.Context.{none_interned, none_told, links_zero, keys_zero, identifiers_after, functions_after}
 use Rattle.image_decode.proofs.Laws.ContextBack.{contexts_back, insides_back, flags_back}
-use Rattle.image_decode.proofs.Laws.WordsBack.{options_back, identifiers_back}
+use Rattle.image_decode.proofs.Laws.WordsBack.{identifiers_back}
 use Rattle.refuse_entries.specs.Words as Words
 use Rattle.lent_keys.specs.KeyRecords.{key_in, key_head_in, numbers_in, option_in}
 use Rattle.lent_context.specs.Lent as Lent
@@ -214,25 +216,35 @@ flag_two_is x = ⊎_elim
     (lt_or_ge 1 (x % 4))
 
 module _ (im : Image) (small : (i : ℕ) → word im i < 4294967296) (good : refusal_of_words im ≡ 0) where
-  abbrev c : List ℕ
+  abbrev c : ContextWords
   c = lent_context im
 
-  long : length (zeros 238534) ≡ 238534
-  long = zeros_length 238534
+  functions_long : 10432 ≤ length no_context.functions
+  functions_long = let z = no_context_full.functions in omega arith
+
+  contexts_long : 5120 ≤ length no_context.contexts
+  contexts_long = let z = no_context_full.contexts in omega arith
+
+  identifiers_long : 2048 ≤ length no_context.identifiers
+  identifiers_long = let z = no_context_full.identifiers in omega arith
+
+  options_is : c.options ≡ options im
+  unfolding decoded_context
+  options_is = refl
 
   function_in_is : (f : ℕ) → f < count_of im functions → function_in c f ≡ function_at im f
   unfolding function_at Lent.context_of Lent.mutated_inside
   function_in_is f l = λ j. record {
-    context = contexts_back im (zeros 238534) (let z = long in omega arith) (few_functions im good) (few_context im good) f l j;
-    inside = insides_back im (zeros 238534) (let z = long in omega arith) (few_functions im good) (few_inside im good) f l j;
-    tracked = (ap (λ (x : ℕ). eqb (x / 2 % 2) 1) (flags_back im (zeros 238534) (let z = long in omega arith) (few_functions im good) f l) ∙ flag_two_is (function_flags im f)) j;
+    context = contexts_back im no_context functions_long (few_functions im good) contexts_long (few_context im good) f l j;
+    inside = insides_back im no_context functions_long (few_functions im good) (few_inside im good) f l j;
+    tracked = (ap (λ (x : ℕ). eqb (x / 2 % 2) 1) (flags_back im no_context functions_long (few_functions im good) f l) ∙ flag_two_is (function_flags im f)) j;
   }
 
   function_past : (f : ℕ) → count_of im functions ≤ f → function_in c f ≡ no_function
   unfolding places_in
   function_past f l =
       let z = functions_after im small good f l in
-      λ j. record { context = places_in Layout.contexts c f 0 0 (z.0 1 j); inside = places_in Layout.functions c f 3 0 (z.0 2 j); tracked = eqb (z.0 0 j / 2 % 2) 1 }
+      λ j. record { context = places_in Layout.contexts c.contexts f 0 0 (z 1 j); inside = places_in Layout.functions c.functions f 3 0 (z 2 j); tracked = eqb (z 0 j / 2 % 2) 1 }
 
   functions_is : function_in c ≡ entry_of no_function (list_from (count_of im functions) 0 (function_at im))
   unfolding entry_of
@@ -244,7 +256,7 @@ module _ (im : Image) (small : (i : ℕ) → word im i < 4294967296) (good : ref
   identifier_in_is : (i : ℕ) → i < count_of im identifiers → identifier_in c i ≡ identifier_at im i
   unfolding identifier_at
   identifier_in_is i l =
-      let w : (v : ℕ) → v < 4 → field Layout.identifiers c i v ≡ Rattle.def_image.specs.Layout.cell im identifiers i v = λ v q. identifiers_back im (zeros 238534) (let z = long in omega arith) (few_identifiers im good) i v l q in
+      let w : (v : ℕ) → v < 4 → field Layout.identifiers c.identifiers i v ≡ Rattle.def_image.specs.Layout.cell im identifiers i v = λ v q. identifiers_back im no_context identifiers_long (few_identifiers im good) i v l q in
       λ j. record {
         ref = ap (λ (x : ℕ). eqb (x % 2) 1) (w 0 (omega arith)) j;
         hoisted = (ap (λ (x : ℕ). eqb (x / 2 % 2) 1) (w 0 (omega arith)) ∙ flag_two_is (identifier_flags im i)) j;
@@ -263,15 +275,15 @@ module _ (im : Image) (small : (i : ℕ) → word im i < 4294967296) (good : ref
       (lt_or_ge i (count_of im identifiers)))
 
   context_is : abstract c ≡ clip (count_of im identifiers) (world_of im).rest.context
-  unfolding world_of transitive effects_in Lent.diagnostics_in key_in option_in Lent.interned_count Lent.instance_count
+  unfolding world_of transitive effects_in Lent.diagnostics_in key_in option_in
   context_is = λ j. record {
-    interned = effects_in Layout.interned c 0 (none_interned im j);
-    cached = fun_ext {f = key_in Layout.cached c} {g = λ v. None} (λ v. ap (λ (x : ℕ). ite (eqb x 0) None (Some (key_head_in Layout.cached c v (numbers_in Layout.cached c v 12 1 0 (field Layout.cached c v 11))))) (far_zero im Layout.cached (omega arith) v 0)) j;
-    links = fun_ext {f = λ v. option_in Layout.links c v 0} {g = λ v. None} (λ v. ap (λ (x : ℕ). ite (eqb x 0) None (Some (field Layout.links c v 1))) (far_zero im Layout.links (omega arith) v 0)) j;
+    interned = effects_in Layout.interned c.effects 0 (none_interned im j);
+    cached = fun_ext {f = key_in Layout.cached c.keys} {g = λ v. None} (λ v. ap (λ (x : ℕ). ite (eqb x 0) None (Some (key_head_in Layout.cached c.keys v (numbers_in Layout.cached c.keys v 12 1 0 (field Layout.cached c.keys v 11))))) (keys_zero im v 0)) j;
+    links = fun_ext {f = λ v. option_in Layout.links c.links v 0} {g = λ v. None} (λ v. ap (λ (x : ℕ). ite (eqb x 0) None (Some (field Layout.links c.links v 1))) (links_zero im v 0)) j;
     functions = functions_is j;
     identifiers = identifiers_is j;
-    transitive = not (eqb (options_back im (zeros 238534) (let z = long in omega arith) j) 0);
-    diagnostics = Lent.diagnostics_in c 0 (none_told im j);
+    transitive = not (eqb (options_is j) 0);
+    diagnostics = Lent.diagnostics_in c.diagnostics 0 (none_told im j);
   }
 
   -- an identifier that is not in the list is no ref, is not hoisted and has no name
@@ -319,7 +331,7 @@ module _ (im : Image) (small : (i : ℕ) → word im i < 4294967296) (good : ref
       ap shown m ∙ ite_ne k 0 _ (refusal_line k) (λ e. subst (λ (x : ℕ). lib.Dec.T (ltb 5 x && ltb x 12)) e q) ∙ ap refusal_line (sym h.0)
 
   -- it is refused with 6 to 11 or not at all, since the call over lent tables is
-  later_as : (l : Words.identifiers (lent_sets im) ≤ 512) (d : List ℕ) (r : Res (World lent) Done) (s : Res (World pure) Done) → Rel (lent_faithful (Words.identifiers (lent_sets im)) l) Any (besides d r) s → InRange r → Later s
+  later_as : (l : Words.identifiers (lent_sets im) ≤ 512) (d : ContextWords) (r : Res (World lent) Done) (s : Res (World pure) Done) → Rel (lent_faithful (Words.identifiers (lent_sets im)) l) Any (besides d r) s → InRange r → Later s
   later_as l d (ok a w) (ok b u) h q = tt
   later_as l d (ok a w) (refused k u) h q = absurd h
   later_as l d (refused i w) (ok b u) h q = absurd h

@@ -1,6 +1,6 @@
 -- What a program prints that writes the pieces one after the other, each out of a buffer that is long enough: the listing that the definition infers.
 -- Assumes nothing.
-use Rattle.std.specs.Prelude.{ℕ, ◌+◌, ◌≤◌, ◌<◌, ◌≡◌, refl, List, length, take, get_or}
+use Rattle.std.specs.Prelude.{ℕ, ◌+◌, ◌≤◌, ◌<◌, ◌≡◌, refl, true, List, length, take, get_or}
 use Rattle.std.proofs.Common.{arith, ◌∙◌}
 use Rattle.lent_layout.specs.Layout as Layout
 use Rattle.def_image.specs.Infer.{infer}
@@ -27,10 +27,10 @@ pub record Printed (x : Left) (k : ℕ) (text : List ℕ) : Type 0 where
 -- what the bytes of an image leave in lists of the right lengths
 -- by the promise of `image_infer::infer_image`, as the program `infer` calls it
 abbrev pub left_of : List ℕ → Left
-left_of bytes = leaves bytes 16384 1024 8192 Layout.long Layout.candidate_words Layout.output_words 9216 Layout.saved_words
+left_of bytes = leaves bytes 16384 1024 8192 true Layout.candidate_words Layout.output_words 9216 Layout.most_saved
 
 -- it comes to what is inferred
-right_lengths : (bytes : List ℕ) → written bytes 16384 1024 8192 Layout.long Layout.candidate_words Layout.output_words 9216 Layout.saved_words ≡ inferred bytes
+right_lengths : (bytes : List ℕ) → written bytes 16384 1024 8192 true Layout.candidate_words Layout.output_words 9216 Layout.most_saved ≡ inferred bytes
 unfolding written any_wrong memory_wrong lent_wrong
 right_lengths bytes = refl
 
@@ -41,6 +41,6 @@ prints bytes small texts h =
     lines_same texts (piece (left_of bytes).shown (left_of bytes).values (left_of bytes).sets (left_of bytes).output) piece_count 0 0 (λ i l.
     let p = h (0 + i) (omega arith) in
     p.written_out ∙ puts_shows _ p.before p.after p.answer p.enough p.called)
-    ∙ leaves_written bytes 16384 1024 8192 Layout.long Layout.candidate_words Layout.output_words 9216 Layout.saved_words
+    ∙ leaves_written bytes 16384 1024 8192 true Layout.candidate_words Layout.output_words 9216 Layout.most_saved
     ∙ right_lengths bytes
     ∙ inferred_is bytes small

@@ -1,5 +1,5 @@
 -- Laws by which the functions from the bytes of an image to what is shown of it meet their definitions, one for each way through. Assumes nothing.
-use Rattle.std.specs.Prelude.{ℕ, ◌+◌, ◌-◌, ◌≤◌, ◌≡◌, Bool, not, ◌||◌, eqb, ltb, length, take, drop, get_or, Result, Ok, Err}
+use Rattle.std.specs.Prelude.{ℕ, ◌+◌, ◌-◌, ◌%◌, ◌≤◌, ◌≡◌, Bool, not, ◌||◌, eqb, ltb, length, take, drop, Result, Ok, Err}
 use Rattle.std.specs.Result.{is_err}
 use Rattle.std.proofs.Common.{arith, ◌∙◌, length-drop, drop_of_length-le, length-take-le, take_at}
 use Rattle.std.proofs.Math.Path.{refl, sym, ap, ap₂}
@@ -11,6 +11,7 @@ use Rattle.std.proofs.Math.Logic.{⊎_elim}
 use Rattle.base_tests.proofs.Laws.Order.{same_or_not}
 use Rattle.base_tests.proofs.Laws.Bool.{or_no_first, or_no_second}
 use Rattle.lent_layout.specs.Layout as Layout
+use Rattle.lent_layout.specs.Context.{ContextWords, is_full, no_context}
 use Rattle.lent_copies.proofs.Laws.Copy.{zeros_length}
 use Rattle.base_tests.specs.Tests.{ite}
 use Rattle.base_tests.proofs.Laws.Choice.{ite_eq, ite_ne}
@@ -35,10 +36,13 @@ use Rattle.refuse_class.specs.Class.{lower}
 use Rattle.refuse_words.specs.Classes.{earns}
 use Rattle.refuse_instruction.specs.EffectClasses.{instruction_class}
 use Rattle.refuse_records.specs.Accepting.{context_class}
-use Rattle.call_outcome.specs.Calls.{Call, Outcome, call, given, wrong_context, lengths_wrong, candidate_count, call_class, lent_instruction, lent_world, concluded, outcome}
+use Rattle.call_undo.specs.Saves.{saved_words}
+use Rattle.call_outcome.specs.Attempts.{lengths_of}
+use Rattle.call_outcome.specs.Calls.{Call, Outcome, call, given, room_for, context_wrong, lengths_wrong, candidate_count, call_class, lent_instruction, lent_world, concluded, outcome}
 use Rattle.image_pieces.specs.declared.Shown.{Shown}
 use Rattle.image_pieces.specs.Pieces.{Answer, answer_of}
 use Rattle.image_job.specs.Reading.{Said, said_of, Tables, tables, Read, given as given_read, job_of, filled, no_job, lent_wrong, read_class, read_image}
+use Rattle.image_outcome.proofs.Laws.Full.{full_lengths, no_context_full, emptied_full}
 use Rattle.image_outcome.specs.Inferring.{empty, set_words, candidate_words, job_call, image_call, memory_wrong, any_wrong, Left, left, refused_as, answered, keeps, settled, nothing, leaves, Fits}
 
 -- ---- what is shown of a call
@@ -81,19 +85,26 @@ module _ (vs ss os : List ℕ) where
 
 -- what comes of a call does not depend on what its output list and its scratch hold, only on how long they are
 -- the one is cleared before the instruction runs, the others are only written before they are read
-module _ (vs ss : List ℕ) (flag : Bool) (cs : List ℕ) (s : Session) (xs : List ℕ) (p : Place) (own : ℕ) where
+module _ (vs ss : List ℕ) (flag : Bool) (cs : ContextWords) (s : Session) (xs : List ℕ) (p : Place) (own : ℕ) where
   -- the same call with memory that is empty
   -- by which the instruction and the beginning are named
   abbrev bare : Call
   bare = call vs ss flag cs s xs p own [] [] []
 
+  -- whether a lent list has the wrong length, with memory of given lengths
+  lengths : ℕ → ℕ → ℕ → Bool
+  lengths a b d =
+      context_wrong (States.identifiers ss) (room_for cs xs) cs
+      || (not (eqb (length xs % Layout.effect_words) 0)
+      || (not (eqb a Layout.output_words) || (not (eqb d (saved_words (lengths_of cs))) || not (eqb b (1024 + length ss)))))
+
   -- its class, with memory of given lengths
   class : ℕ → ℕ → ℕ → ℕ
   class a b d =
-      lower (earns 1 (lengths_wrong (length ss) (wrong_context cs xs) (length xs) a b d))
+      lower (earns 1 (lengths a b d))
       (lower (state_refusal vs ss s.next s.access)
-      (lower (context_class (States.identifiers ss) (get_or cs Layout.function_count 0) cs s.next)
-      (instruction_class (States.identifiers ss) (get_or cs Layout.function_count 0) cs xs (candidate_count xs) p own)))
+      (lower (context_class (States.identifiers ss) cs s.next)
+      (instruction_class (States.identifiers ss) cs.function_count cs xs (candidate_count xs) p own)))
 
   -- refused, with memory of given lengths
   refuses : ℕ → ℕ → ℕ → ℕ → Outcome
@@ -121,7 +132,7 @@ module _ (vs ss : List ℕ) (flag : Bool) (cs : List ℕ) (s : Session) (xs : Li
   -- so the outcome goes by the three lengths
   -- and nothing else of the memory
   by_lengths : (os s64 s32 : List ℕ) → outcome (call vs ss flag cs s xs p own os s64 s32) ≡ ite (eqb (class (length os) (length s64) (length s32)) 0) (ends (length os) (length s64) (length s32) (apply_signature (lent_instruction bare) (lent_world bare))) (refuses (class (length os) (length s64) (length s32)) (length os) (length s64) (length s32))
-  unfolding outcome call_class class refuses
+  unfolding outcome call_class class lengths_wrong lengths refuses
   by_lengths os s64 s32 =
       ap (λ (x : Outcome). ite (eqb (class (length os) (length s64) (length s32)) 0) x (refuses (class (length os) (length s64) (length s32)) (length os) (length s64) (length s32)))
       (ends_is os s64 s32 (apply_signature (lent_instruction bare) (lent_world (call vs ss flag cs s xs p own os s64 s32)))
@@ -143,15 +154,15 @@ module _ (vs ss : List ℕ) (flag : Bool) (cs : List ℕ) (s : Session) (xs : Li
 
 -- the rows, the records and the scratch that the call is lent are those of the job
 -- so it comes to what the job's call comes to
-job_call_is : (vs ss cs xs : List ℕ) (j : Said) (os s64 s32 : List ℕ) (m n e : ℕ) → m ≡ set_words j → n ≡ candidate_words j → e ≡ 1024 + m → e ≤ length s64 → length os ≡ Layout.output_words → length s32 ≡ Layout.saved_words
+job_call_is : (vs ss : List ℕ) (cs : ContextWords) (xs : List ℕ) (j : Said) (os s64 s32 : List ℕ) (m n e : ℕ) → m ≡ set_words j → n ≡ candidate_words j → e ≡ 1024 + m → e ≤ length s64 → length os ≡ Layout.output_words → length s32 ≡ Layout.most_saved
     → outcome (call vs (take m ss) false cs j.session (take n xs) j.lvalue j.own os (take e s64) s32) ≡ outcome (job_call j (tables vs ss cs xs))
 unfolding job_call
 job_call_is vs ss cs xs j os s64 s32 m n e hm hn he l ho hs =
     ap₂ (λ (a b : ℕ). outcome (call vs (take a ss) false cs j.session (take b xs) j.lvalue j.own os (take e s64) s32)) hm hn
-    ∙ memory_same vs (take (set_words j) ss) false cs j.session (take (candidate_words j) xs) j.lvalue j.own os (zeros Layout.output_words) (take e s64) (zeros (1024 + set_words j)) s32 (zeros Layout.saved_words)
+    ∙ memory_same vs (take (set_words j) ss) false cs j.session (take (candidate_words j) xs) j.lvalue j.own os (zeros Layout.output_words) (take e s64) (zeros (1024 + set_words j)) s32 (zeros Layout.most_saved)
     (ho ∙ sym (zeros_length Layout.output_words))
     (length-take-le e s64 l ∙ he ∙ ap (λ (a : ℕ). 1024 + a) hm ∙ sym (zeros_length (1024 + set_words j)))
-    (hs ∙ sym (zeros_length Layout.saved_words))
+    (hs ∙ sym (zeros_length Layout.most_saved))
 
 -- a part that reaches to the end of a list becomes zero
 -- the way through `clear_from`
@@ -174,7 +185,7 @@ rest_cleared ss us m k l =
 
 -- what is left after the call, and after the rest of the rows is cleared
 -- the way through `run_tables`
-pub runs_job : (vs ss cs xs : List ℕ) (j : Said) (os s64 s32 : List ℕ) (m n e : ℕ) (a : Answered) (r : Answer) (ws us ds ps t64 t32 ts : List ℕ) → m ≡ set_words j → n ≡ candidate_words j → e ≡ 1024 + m → m ≤ length ss → e ≤ length s64 → length os ≡ Layout.output_words → length s32 ≡ Layout.saved_words
+pub runs_job : (vs ss : List ℕ) (cs : ContextWords) (xs : List ℕ) (j : Said) (os s64 s32 : List ℕ) (m n e : ℕ) (a : Answered) (r : Answer) (ws us : List ℕ) (ds : ContextWords) (ps t64 t32 ts : List ℕ) → m ≡ set_words j → n ≡ candidate_words j → e ≡ 1024 + m → m ≤ length ss → e ≤ length s64 → length os ≡ Layout.output_words → length s32 ≡ Layout.most_saved
     → given a ws us ds ps t64 t32 ≡ outcome (call vs (take m ss) false cs j.session (take n xs) j.lvalue j.own os (take e s64) s32)
     → length us ≡ length (take m ss)
     → (m ≤ length (us ++ drop m ss) → ts ≡ take m (us ++ drop m ss) ++ zeros (length (us ++ drop m ss) - m))
@@ -191,17 +202,17 @@ runs_job vs ss cs xs j os s64 s32 m n e a r ws us ds ps t64 t32 ts hm hn he lm l
 -- the three lengths
 module _ (o p q : ℕ) where
   -- memory of the right lengths
-  pub memory_right : memory_wrong o p q ≡ false → (o ≡ Layout.output_words) × (p ≡ 9216) × (q ≡ Layout.saved_words)
+  pub memory_right : memory_wrong o p q ≡ false → (o ≡ Layout.output_words) × (p ≡ 9216) × (q ≡ Layout.most_saved)
   unfolding memory_wrong
   memory_right h =
       let g = or_no_second (not (eqb o Layout.output_words)) _ h in (
         eqb-true o Layout.output_words (not-false _ (or_no_first (not (eqb o Layout.output_words)) _ h)),
         eqb-true p 9216 (not-false _ (or_no_first (not (eqb p 9216)) _ g)),
-        eqb-true q Layout.saved_words (not-false _ (or_no_second (not (eqb p 9216)) _ g)),
+        eqb-true q Layout.most_saved (not-false _ (or_no_second (not (eqb p 9216)) _ g)),
       )
 
 -- tables of the right lengths
-pub lent_right : (w v s c x : ℕ) → lent_wrong w v s c x ≡ false → (v ≡ 1024) × (s ≡ 8192) × (c ≡ Layout.long) × (x ≡ 6272)
+pub lent_right : (w v s : ℕ) (c : Bool) (x : ℕ) → lent_wrong w v s c x ≡ false → (v ≡ 1024) × (s ≡ 8192) × (c ≡ true) × (x ≡ 6272)
 unfolding lent_wrong
 lent_right w v s c x h =
     let g = or_no_second (not (eqb w 16384)) _ h in
@@ -209,8 +220,8 @@ lent_right w v s c x h =
     let e = or_no_second (not (eqb s 8192)) _ f in (
       eqb-true v 1024 (not-false _ (or_no_first (not (eqb v 1024)) _ g)),
       eqb-true s 8192 (not-false _ (or_no_first (not (eqb s 8192)) _ f)),
-      eqb-true c Layout.long (not-false _ (or_no_first (not (eqb c Layout.long)) _ e)),
-      eqb-true x 6272 (not-false _ (or_no_second (not (eqb c Layout.long)) _ e)),
+      not-false _ (or_no_first (not c) _ e),
+      eqb-true x 6272 (not-false _ (or_no_second (not c) _ e)),
     )
 
 -- ---- an accepted image is not too large
@@ -245,14 +256,14 @@ few bs h =
 
 -- what was lent, what was read of it, and what is left
 -- one law for each way through `run_image`
-module _ (bs : List ℕ) (w : ℕ) (vs ss cs xs : List ℕ) (o p q : ℕ) where
+module _ (bs : List ℕ) (w : ℕ) (vs ss : List ℕ) (cs : ContextWords) (xs : List ℕ) (o p q : ℕ) where
   -- the tables as they are lent
   abbrev t : Tables
   t = tables vs ss cs xs
 
   -- what is to be left
   abbrev end : Left
-  end = leaves bs w (length vs) (length ss) (length cs) (length xs) o p q
+  end = leaves bs w (length vs) (length ss) (is_full cs) (length xs) o p q
 
   -- a refusal, in the tables as they are lent
   abbrev empties : ℕ → Left
@@ -260,7 +271,7 @@ module _ (bs : List ℕ) (w : ℕ) (vs ss cs xs : List ℕ) (o p q : ℕ) where
 
   -- whether a table has the wrong length
   abbrev wrong : Bool
-  wrong = lent_wrong w (length vs) (length ss) (length cs) (length xs)
+  wrong = lent_wrong w (length vs) (length ss) (is_full cs) (length xs)
 
   -- what is left where all lengths are right and the image is accepted
   abbrev ran : Left
@@ -334,7 +345,7 @@ module _ (bs : List ℕ) (w : ℕ) (vs ss cs xs : List ℕ) (o p q : ℕ) where
       ∙ end_read m
 
   -- the same of what the code answers
-  pub leaves_refused : (a : Result Job Refusal) (n : Refusal) (us ts ds ys os : List ℕ) → a ≡ Err n → o ≡ length os → false ≡ memory_wrong o p q → given_read (said_of a) us ts ds ys ≡ read_image bs w t → settled (left (answer_of (Err n)) us ts os) ≡ end
+  pub leaves_refused : (a : Result Job Refusal) (n : Refusal) (us ts : List ℕ) (ds : ContextWords) (ys os : List ℕ) → a ≡ Err n → o ≡ length os → false ≡ memory_wrong o p q → given_read (said_of a) us ts ds ys ≡ read_image bs w t → settled (left (answer_of (Err n)) us ts os) ≡ end
   unfolding no_job
   leaves_refused a n us ts ds ys os e ho m h =
       leaves_number (given_read (no_job (number_of n)) us ts ds ys) os (answer_of (Err n)) ho m
@@ -353,10 +364,10 @@ module _ (bs : List ℕ) (w : ℕ) (vs ss cs xs : List ℕ) (o p q : ℕ) where
   filled_empty : (im : Image) → wrong ≡ false → filled im t ≡ filled im empty
   unfolding filled
   filled_empty im h =
-      let l = lent_right w (length vs) (length ss) (length cs) (length xs) h in
+      let l = lent_right w (length vs) (length ss) (is_full cs) (length xs) h in
       let a = l.0 ∙ sym (zeros_length 1024) in
       let d = l.1 ∙ sym (zeros_length 8192) in
-      let e = l.2 ∙ sym (zeros_length Layout.long) in
+      let e = emptied_full cs (full_lengths cs l.2) ∙ sym (emptied_full no_context no_context_full) in
       let f = l.3 ∙ sym (zeros_length 6272) in
       rw (a, d, e, f)
 
@@ -375,14 +386,14 @@ module _ (bs : List ℕ) (w : ℕ) (vs ss cs xs : List ℕ) (o p q : ℕ) where
   -- an accepted image: its call, and what that leaves
   leaves_call : (r : Read) (os s64 s32 : List ℕ) (x : Left) → false ≡ memory_wrong o p q → o ≡ length os → p ≡ length s64 → q ≡ length s32 → r ≡ read_image bs w t → r.job.refusal ≡ 0
       → length r.tables.sets ≡ length ss → length r.tables.candidates ≡ length xs
-      → (Fits r.tables.sets r.tables.candidates s64 r.job → length os ≡ Layout.output_words → length s32 ≡ Layout.saved_words → x ≡ keeps (length r.tables.sets) (outcome (job_call r.job r.tables)))
+      → (Fits r.tables.sets r.tables.candidates s64 r.job → length os ≡ Layout.output_words → length s32 ≡ Layout.most_saved → x ≡ keeps (length r.tables.sets) (outcome (job_call r.job r.tables)))
       → settled x ≡ end
   unfolding job_of
   leaves_call r os s64 s32 x m ho hp hq h n ls lx f =
       let c = read_class_is r h n in
       let a = accepted c in
       let k = few bs a.1 in
-      let l = lent_right w (length vs) (length ss) (length cs) (length xs) a.0 in
+      let l = lent_right w (length vs) (length ss) (is_full cs) (length xs) a.0 in
       let u = memory_right o p q (sym m) in
       let g = read_whole r h c in
       let i = ap (λ (x : Read). x.job.identifiers) g in
@@ -395,9 +406,9 @@ module _ (bs : List ℕ) (w : ℕ) (vs ss cs xs : List ℕ) (o p q : ℕ) where
       ∙ end_job m a.0 a.1
 
   -- the same of what the code answers
-  pub leaves_job : (a : Result Job Refusal) (j : Job) (us ts ds ys os s64 s32 : List ℕ) (x : Left) → a ≡ Ok j → false ≡ memory_wrong o p q → o ≡ length os → p ≡ length s64 → q ≡ length s32
+  pub leaves_job : (a : Result Job Refusal) (j : Job) (us ts : List ℕ) (ds : ContextWords) (ys os s64 s32 : List ℕ) (x : Left) → a ≡ Ok j → false ≡ memory_wrong o p q → o ≡ length os → p ≡ length s64 → q ≡ length s32
       → given_read (said_of a) us ts ds ys ≡ read_image bs w t → length ts ≡ length ss → length ys ≡ length xs
-      → (Fits ts ys s64 (said_of (Ok j)) → length os ≡ Layout.output_words → length s32 ≡ Layout.saved_words → x ≡ keeps (length ts) (outcome (job_call (said_of (Ok j)) (tables us ts ds ys))))
+      → (Fits ts ys s64 (said_of (Ok j)) → length os ≡ Layout.output_words → length s32 ≡ Layout.most_saved → x ≡ keeps (length ts) (outcome (job_call (said_of (Ok j)) (tables us ts ds ys))))
       → settled x ≡ end
   leaves_job a j us ts ds ys os s64 s32 x e m ho hp hq h ls lx f =
       leaves_call (given_read (said_of (Ok j)) us ts ds ys) os s64 s32 x m ho hp hq

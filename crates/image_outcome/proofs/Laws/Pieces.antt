@@ -90,7 +90,7 @@ shown_pieces n c l = go (outcome c) (count_most c l)
 
 -- the pieces of what the bytes of an image leave, one after the other, are the text that they come to
 -- with all lengths, right or wrong
-pub leaves_written : (bs : List ℕ) (w v s c x o p q : ℕ) → pieces_of (leaves bs w v s c x o p q) ≡ written bs w v s c x o p q
+pub leaves_written : (bs : List ℕ) (w v s : ℕ) (c : Bool) (x o p q : ℕ) → pieces_of (leaves bs w v s c x o p q) ≡ written bs w v s c x o p q
 unfolding leaves written inferred job_call job_of
 leaves_written bs w v s c x o p q = by_length (any_wrong w v s c x o p q)
   where

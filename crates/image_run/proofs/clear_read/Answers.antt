@@ -2,5 +2,8 @@
 use Rattle.lent_copies.proofs.Laws.Copy.{cleared}
 use Rattle.image_run.proofs.clear_read.Goals as goal
 
-pub returns : goal.returns
-returns c = record { words = cleared _ _ (c.fill.ensures.after (λ y h. h)); context = cleared _ _ (c.fill-2.ensures.after (λ y h. h)); candidates = cleared _ _ (c.fill-3.ensures.after (λ y h. h)) }
+pub returns-clause-words : goal.returns-clause-words
+returns-clause-words c = cleared _ _ (c.fill.ensures.after (λ y h. h))
+
+pub returns-clause-candidates : goal.returns-clause-candidates
+returns-clause-candidates c = cleared _ _ (c.fill-2.ensures.after (λ y h. h))

@@ -20,6 +20,7 @@ use Rattle.lent_tables.proofs.Laws.Word.{put_length, place_length, field_cong, w
 use Rattle.lent_effects.specs.Records.{put_effect}
 use Rattle.lent_effects.proofs.Laws.EffectFrames.{effect_length, effect_record}
 use Rattle.def_transfer.specs.Instruction.{has}
+use Rattle.lent_layout.specs.Context.{ContextWords}
 use Rattle.lent_context.specs.Lent.{instance_count}
 use Rattle.base_tests.proofs.Laws.Bool.{or_first, or_neither}
 use Rattle.refuse_class.specs.Class.{lower}
@@ -77,7 +78,7 @@ pos_effect n f d c m v h p q =
 
 -- ---- the class of a record, by its words
 
-module _ (n f : ℕ) (c : List ℕ) where
+module _ (n f : ℕ) (c : ContextWords) where
   -- records with the same words earn the same class
   class_same : (xs ys : List ℕ) (i : ℕ) → ((v : ℕ) → field candidate_table xs i v ≡ field candidate_table ys i v) → effect_class n f c 5 candidate_table xs i ≡ effect_class n f c 5 candidate_table ys i
   unfolding effect_class record_class words_below
@@ -107,7 +108,7 @@ module _ (im : Image) (small : (i : ℕ) → word im i < 4294967296) (ok : refus
   -- ---- one candidate
 
   -- candidate k, put into a list that holds its record, which is zero
-  module _ (c : List ℕ) (k : ℕ) (here : k < count_of im candidates) (d : List ℕ) (long : length d ≡ 6272) (blank : Zero candidate_table k d) where
+  module _ (c : ContextWords) (k : ℕ) (here : k < count_of im candidates) (d : List ℕ) (long : length d ≡ 6272) (blank : Zero candidate_table k d) where
     -- how many identifiers there are
     abbrev n : ℕ
     n = count_of im identifiers
@@ -280,7 +281,7 @@ module _ (im : Image) (small : (i : ℕ) → word im i < 4294967296) (ok : refus
   others k j d e v = effect_record candidate_table d k (effect_at im k) j v e
 
   -- each candidate's record earns nothing, once all are written
-  written_right : (c : List ℕ) (j : ℕ) → j < count_of im candidates → effect_class (count_of im identifiers) (count_of im functions) c 5 candidate_table (decoded_candidates im (count_of im candidates) (zeros 6272)) j ≡ 0
+  written_right : (c : ContextWords) (j : ℕ) → j < count_of im candidates → effect_class (count_of im identifiers) (count_of im functions) c 5 candidate_table (decoded_candidates im (count_of im candidates) (zeros 6272)) j ≡ 0
   unfolding decoded_candidates
   written_right c =
       each_done (decoded_candidate im) (λ j d. Zero candidate_table j d) (λ k j d e z v. others k j d e v ∙ z v) (zeros 6272) (λ j. zero_record candidate_table j (zeros 6272) (zero_word 6272))
@@ -291,7 +292,7 @@ module _ (im : Image) (small : (i : ℕ) → word im i < 4294967296) (ok : refus
 
   -- so it does in the records that the call is lent
   -- those of the candidates are cut off, with all their words
-  lent_right : (c : List ℕ) (j : ℕ) → j < count_of im candidates → effect_class (count_of im identifiers) (count_of im functions) c 5 candidate_table (lent_candidates im) j ≡ 0
+  lent_right : (c : ContextWords) (j : ℕ) → j < count_of im candidates → effect_class (count_of im identifiers) (count_of im functions) c 5 candidate_table (lent_candidates im) j ≡ 0
   unfolding index
   lent_right c j l =
       class_same (count_of im identifiers) (count_of im functions) c (lent_candidates im) (decoded_candidates im (count_of im candidates) (zeros 6272)) j
@@ -309,7 +310,7 @@ module _ (im : Image) (small : (i : ℕ) → word im i < 4294967296) (ok : refus
 
   -- the instruction of an accepted image earns no class, whatever the context
   -- "An instruction is its candidates with their places and captures, its lvalue, and its own function if it has one."
-  pub instruction_right : (c : List ℕ) → instruction_class (count_of im identifiers) (count_of im functions) c (lent_candidates im) (count_of im candidates) (place_at im (lvalue im)) (own im) ≡ 0
+  pub instruction_right : (c : ContextWords) → instruction_class (count_of im identifiers) (count_of im functions) c (lent_candidates im) (count_of im candidates) (place_at im (lvalue im)) (own im) ≡ 0
   unfolding instruction_class
   instruction_right c =
       lower_both _ _ (earns_not 2 (ltb 64 (count_of im candidates)) (le-ltb 64 (count_of im candidates) (few_candidates im ok)))

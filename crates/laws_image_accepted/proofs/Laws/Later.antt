@@ -12,7 +12,7 @@ use Rattle.def_image.specs.Refusals.{refusal_of_words, refusal_of}
 use Rattle.call_outcome.specs.Calls.{Call, Outcome, call_class, lent_instruction, lent_world, concluded, outcome}
 use Rattle.call_outcome.proofs.Laws.Attempt.{applies}
 use Rattle.image_outcome.specs.Inferring.{image_call}
-use Rattle.laws_image_accepted.proofs.Laws.Lengths.{values_length, context_length, sets_length, lent_call, call_is}
+use Rattle.laws_image_accepted.proofs.Laws.Lengths.{values_length, context_full, sets_length, lent_call, call_is}
 use Rattle.laws_image_accepted.proofs.Laws.Accepted.{accepted_call}
 
 -- ---- how a call ends
@@ -55,7 +55,7 @@ module _ (im : Image) (small : (i : ℕ) → word im i < 4294967296) (ok : refus
       subst InRange (sym (applies (lent_instruction (lent_call im)) (lent_call im).values (lent_call im).sets (lent_call im).context (lent_call im).output (lent_call im).session (lent_call im).flag refl))
       (restored (lent_world (lent_call im)) (run (lent_instruction (lent_call im)) (lent_world (lent_call im)))
       (lent_ends (count_of im identifiers) (lent_instruction (lent_call im)) (lent_world (lent_call im))
-      (record { values = values_length im; sets = sets_length im ok; context = let z = context_length im in omega arith })).range)
+      (record { values = values_length im; sets = sets_length im ok; links = let z = (context_full im).links in omega arith })).range)
 
   -- an accepted image is refused with 6 to 11, or not at all
   -- 1 to 5 are the image's own

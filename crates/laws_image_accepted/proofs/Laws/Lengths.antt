@@ -9,18 +9,20 @@ use Rattle.std.proofs.Math.ListN.{length}
 use Rattle.std.proofs.Math.Seq.{length-take-le}
 use Rattle.lent_copies.specs.Copies.{zeros}
 use Rattle.lent_copies.proofs.Laws.Copy.{zeros_length}
+use Rattle.lent_layout.specs.Context.{ContextWords, no_context}
 use Rattle.lent_sets.proofs.Laws.Row.{fit_set}
 use Rattle.lent_effects.proofs.Laws.EffectFrames.{effect_length}
 use Rattle.refuse_entries.specs.Words as Words
 use Rattle.def_image.specs.Layout.{Image, identifiers, values, pairs, functions, candidates, count_of, lvalue, own}
 use Rattle.def_image.specs.Decode.{place_at}
 use Rattle.def_image.specs.Refusals.{refusal_of_words}
-use Rattle.image_decode.specs.Decoded.{after, decoded_value, decoded_values, decoded_pair, decoded_sets, decoded_identifier, decoded_identifiers, decoded_function, decoded_functions, decoded_context, decoded_candidate, decoded_candidates}
+use Rattle.image_decode.specs.Decoded.{after, decoded_value, decoded_values, decoded_pair, decoded_sets, decoded_identifier, decoded_identifiers, decoded_function, decoded_functions, decoded_places, decoded_contexts, decoded_context, decoded_candidate, decoded_candidates}
 use Rattle.image_decode.proofs.Laws.StateBack.{after_length, value_length}
-use Rattle.image_decode.proofs.Laws.ContextBack.{function_length, identifier_length, header_length}
+use Rattle.image_decode.proofs.Laws.ContextBack.{function_length, context_length, identifier_length}
 use Rattle.image_job.specs.Reading.{session_of, job_of, filled}
 use Rattle.call_outcome.specs.Calls.{Call, call}
 use Rattle.image_outcome.specs.Inferring.{job_call, image_call}
+use Rattle.image_outcome.proofs.Laws.Full.{Full, no_context_full, emptied_full}
 use Rattle.laws_image_accepted.proofs.Laws.Facts.{few_identifiers, few_candidates}
 
 -- ---- the tables of an image, each with its length
@@ -38,14 +40,20 @@ module _ (im : Image) where
   rows_length zero = zeros_length 8192
   rows_length (suc n) = fit_set 512 (after (decoded_pair im) n (zeros 8192)) _ _ (rows_length n)
 
-  -- the context
-  pub context_length : length (decoded_context im (zeros 238534)) ≡ 238534
-  unfolding decoded_context decoded_functions decoded_identifiers
-  context_length =
-      after_length (decoded_function im) (function_length im) (count_of im functions) _
-      ∙ after_length (decoded_identifier im) (identifier_length im) (count_of im identifiers) _
-      ∙ header_length im (zeros 238534)
-      ∙ zeros_length 238534
+  -- the context: each slice has as many records as its table can have
+  pub context_full : Full (decoded_context im no_context)
+  unfolding decoded_context decoded_functions decoded_identifiers decoded_contexts
+  context_full = record {
+    identifiers = after_length (decoded_identifier im) (identifier_length im) (count_of im identifiers) _ ∙ no_context_full.identifiers;
+    functions = after_length (decoded_function im) (function_length im) (count_of im functions) _ ∙ no_context_full.functions;
+    contexts = after_length (decoded_places im) (context_length im) (count_of im functions) _ ∙ no_context_full.contexts;
+    links = no_context_full.links;
+    keys = no_context_full.keys;
+    key_order = no_context_full.key_order;
+    effects = no_context_full.effects;
+    effect_order = no_context_full.effect_order;
+    diagnostics = no_context_full.diagnostics;
+  }
 
   -- the records of 64 candidates
   -- before those past the image's own are cut off
@@ -67,8 +75,8 @@ module _ (im : Image) where
 
   -- the context
   -- "The context is all but state and session"
-  abbrev pub lent_context : List ℕ
-  lent_context = decoded_context im (zeros 238534)
+  abbrev pub lent_context : ContextWords
+  lent_context = decoded_context im no_context
 
   -- the records of the image's own candidates
   -- 98 words each
@@ -79,7 +87,7 @@ module _ (im : Image) where
   -- "the function-expression flag as no", an output list and scratch that are zero
   abbrev pub lent_call : Call
   lent_call =
-      call lent_values lent_sets false lent_context (session_of im) lent_candidates (place_at im (lvalue im)) (own im) (zeros 109760) (zeros (1024 + 16 * count_of im identifiers)) (zeros 25347)
+      call lent_values lent_sets false lent_context (session_of im) lent_candidates (place_at im (lvalue im)) (own im) (zeros 109760) (zeros (1024 + 16 * count_of im identifiers)) (zeros 23040)
 
   -- it is the call that the image makes
   pub call_is : image_call im ≡ lent_call
@@ -88,14 +96,14 @@ module _ (im : Image) where
       call (decoded_values im (count_of im values) (zeros (zeros_length 1024 i)))
       (take (16 * count_of im identifiers) (decoded_sets im (count_of im pairs) (zeros (zeros_length 8192 i))))
       false
-      (decoded_context im (zeros (zeros_length 238534 i)))
+      (decoded_context im (emptied_full no_context no_context_full i))
       (session_of im)
       (take (98 * count_of im candidates) (decoded_candidates im (count_of im candidates) (zeros (zeros_length 6272 i))))
       (place_at im (lvalue im))
       (own im)
       (zeros 109760)
       (zeros (1024 + 16 * count_of im identifiers))
-      (zeros 25347)
+      (zeros 23040)
 
   -- ---- of an accepted image
 
