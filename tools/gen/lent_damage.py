@@ -176,6 +176,17 @@ def room(slices, n):
     return act
 
 
+# The scratch of a context stays as long as it was, while slices get other lengths; applies where it should follow.
+# Only its length is then wrong.
+def scratch_as_before(act):
+    def whole(lent, rng):
+        before = lent.lengths[SCRATCH32]
+        done = act(lent, rng)
+        right, lent.lengths[SCRATCH32] = lent.lengths[SCRATCH32], before
+        return done and right != before
+    return whole
+
+
 # Several damages, one after the other.
 # Each must apply.
 def together(*acts):
@@ -270,11 +281,10 @@ def field(slice, w, number, test=lambda r: True):
         k = some_record(lent, rng, slice, test)
         if k is None:
             return False
-        table = tables_of(lent, slice)[slice]
-        before = table.get(at(slice, k) + w, 0)
-        new = number(lent) if callable(number) else number
-        put(table, at(slice, k) + w, [new])
-        return new != before
+        words = record_of(tables_of(lent, slice), slice, k)
+        before, words[w] = words[w], number(lent) if callable(number) else number
+        put_record(tables_of(lent, slice), slice, k, words)
+        return words[w] != before
     return act
 
 
@@ -692,7 +702,8 @@ def applied(which, garbage):
         n = candidates(lent)
         if n == 0:
             return False
-        put_record(lent.instructions[0].tables, CANDIDATES, which(n, rng), anything(APPLY) if garbage else [APPLY])
+        k, tables = which(n, rng), lent.instructions[0].tables
+        put_record(tables, CANDIDATES, k, anything(APPLY) if garbage else [APPLY] + record_of(tables, CANDIDATES, k)[1:])
         return True
     return act
 
@@ -723,8 +734,9 @@ def unknown(number):
 # Every candidate becomes an Apply.
 # Nothing else of the list is then tested.
 def all_applied(lent, rng):
+    tables = lent.instructions[0].tables
     for k in range(candidates(lent)):
-        put(lent.instructions[0].tables[CANDIDATES], at(CANDIDATES, k), [APPLY])
+        put_record(tables, CANDIDATES, k, [APPLY] + record_of(tables, CANDIDATES, k)[1:])
     return candidates(lent) > 1
 
 
@@ -928,13 +940,16 @@ def of_rooms():
         ("a function more counted", functions_, count(FUNCTION_COUNT, lambda t: functions(t) + 1)),
     ] for slices, name in ((both, "as many"), (both[:1], both[0].name + " alone"), (both[1:], both[1].name + " alone"))]
     out += [("%d candidates, a record short" % n, 1, short_of_one(effects, candidates_length(lambda _, n=n: n * EFFECT))) for n in (65, 66)]
-    out += [(label + ", room for %s in " % format(n, ",") + " and ".join(s.name for s in slices), 1, together(*acts, largest(), room(slices, n))) for label, acts, both, n in [
+    for label, acts, both, n in [
         ("captures FFFFFFFF of a candidate", [captures(FULL)], effects, 2047),
         ("interned effects FFFFFFFF", [count(INTERNED_COUNT, FULL)], effects, 2047),
         ("2,047 interned effects", [count(INTERNED_COUNT, 2047), lambda t, r: candidates(t) > 0], effects, 2047),
         ("functions FFFFFFFF", [count(FUNCTION_COUNT, FULL)], functions_, 63),
         ("64 functions", [count(FUNCTION_COUNT, 64)], functions_, 63),
-    ] for slices in (both, both[:1], both[1:])]
+    ]:
+        for slices in (both, both[:1], both[1:]):
+            where = ", room for %s in %s" % (format(n, ","), " and ".join(s.name for s in slices))
+            out.append((label + where, 1, together(*acts, largest(), room(slices, n))))
     return out
 
 
@@ -961,9 +976,10 @@ DAMAGES = [
     ("scratch of the context one long", 1, length(SCRATCH32, lambda n: n + 1)),
     ("no scratch of the context", 1, length(SCRATCH32, lambda n: 0)),
     ("scratch of the context as of the largest", 1, length(SCRATCH32, lambda n: SCRATCH32.count)),
-    ("context places of a function more, scratch as before", 1, lambda t, r: t.lengths[CONTEXTS] < most(CONTEXTS) and length(CONTEXTS, lambda n: n + CONTEXTS.width)(t, r)),
-    ("a place more in the order of the effects, scratch as before", 1, lambda t, r: t.lengths[EFFECT_ORDER] < most(EFFECT_ORDER) and length(EFFECT_ORDER, lambda n: n + 1)(t, r)),
-    ("the largest slices, scratch as before", 1, lambda t, r: t.lengths[SCRATCH32] < SCRATCH32.count and all([length(s, lambda n: most(s))(t, r) or True for s in ROOMS])),
+    ("the largest context places, scratch as before", 1, scratch_as_before(room([CONTEXTS], CONTEXTS.count))),
+    ("the largest order of the effects, scratch as before", 1, scratch_as_before(room([EFFECT_ORDER], EFFECT_ORDER.count))),
+    ("the largest slices, scratch as before", 1, scratch_as_before(largest())),
+    ("just enough room, scratch as before", 1, scratch_as_before(narrow())),
     ("candidates one short", 1, candidates_length(lambda n: n - 1)),
     ("candidates one long", 1, candidates_length(lambda n: n + 1)),
     ("a row more than identifiers", 1, lambda t, r: N(t) < 512 and outgrown([IDENTIFIERS], rows(lambda n: 1))(t, r)),
