@@ -128,7 +128,8 @@ def stack(kind):
 # Kilobytes of the tables that the deep walk is lent, which stand on the stack.
 # What is left of the whole is too high by what the program itself needs.
 def tables():
-    return (8 * (1024 + 32 + 1056) + 4 * (238534 + 98 + 109760 + 25347)) // 1024
+    context = 8 + 10432 + 5120 + 1024 + 14336 + 512 + 200704 + 2048 + 9 * 256
+    return (8 * (1024 + 32 + 1056) + 4 * (context + 98 + 109760 + 23040)) // 1024
 
 
 def main():

@@ -40,7 +40,7 @@ def recorded_jobs():
         except lent.NotLent as error:
             sys.exit("job %d cannot be lent: %s" % (number, error))
         lent.lend_room(made, number, len(result["interned"]))
-        if lent.context_length(len(result["interned"])) > made.lengths[lent.CONTEXT_LENGTH]:
+        if len(result["interned"]) * lent.EFFECT > made.lengths[lent.INTERNED] or len(result["interned"]) > made.lengths[lent.EFFECT_ORDER]:
             sys.exit("job %d interns more effects than its instructions need" % number)
         if made.instructions and call_class(made):
             sys.exit("job %d earns %d" % (number, call_class(made)))

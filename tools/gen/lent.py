@@ -1,29 +1,55 @@
-"""A library job as lent words: the tables of `lent_layout/specs/Layout.antt`, `lent_values` and `lent_sets`, and effects as records of 98 words.
+"""A library job as lent words: the slices of `lent_layout/specs/Context.antt` and `Layout.antt`, of `lent_values` and of `lent_sets`.
 
-Tables are dictionaries from an index to the word there; what is missing is zero. A job made of them is written as runs of words.
+A table is a dictionary from an index to the word there; what is missing is zero. Tables are held by the slice that they stand in, and a job made
+of them is written as runs of words. What an effect is in words stands in one part of this module: nothing else here knows more of it than its width.
 """
+
+from collections import namedtuple
 
 from names import *
 
-LONG, OUTPUT, SCRATCH = 238534, 1120 * 98, 25347
-VALUES, ROW, EFFECT, KEY = 1024, 16, 98, 28
-# Which length is the context's.
-CONTEXT_LENGTH = 2
-# Words of their own, and tables as (first word, count of records, words of a record).
-OPTIONS, IDENTIFIER_COUNT, FUNCTION_COUNT, INTERNED_COUNT, DIAGNOSTIC_COUNT, KEY_COUNT = 0, 1, 2, 12483, 12484, 37317
-IDENTIFIERS, FUNCTIONS, CONTEXTS = (3, 512, 4), (2051, 64, 163), (12485, 64, 80)
-LINKS, CACHED, DIAGNOSTICS = (17605, 512, 2), (18629, 512, 28), (32965, 256, 9)
-EFFECT_ORDER, KEY_ORDER, INTERNED = (35269, 2048, 1), (37318, 512, 1), (37830, 2048, 98)
-# Words of an effect's record.
-FIRST, SECOND, KIND, REASON, MUTATION, FUNCTION, IDENTITY, INSTANCE, CAPTURES = 1, 6, 11, 12, 13, 14, 15, 16, 17
+# A slice that is lent: how many records it can have, and how many words a record has.
+Slice = namedtuple("Slice", "name count width")
+
+EFFECT, KEY = 98, 28
+# A state: words of 64 bits.
+VALUES, SETS = Slice("values", 1024, 1), Slice("sets", 512, 16)
+# A context, in the order in which a job has them.
+IDENTIFIERS, FUNCTIONS, CONTEXTS = Slice("identifiers", 512, 4), Slice("functions", 64, 163), Slice("contexts", 64, 80)
+LINKS, CACHED, KEY_ORDER = Slice("links", 512, 2), Slice("keys", 512, KEY), Slice("key order", 512, 1)
+INTERNED, EFFECT_ORDER, DIAGNOSTICS = Slice("effects", 2048, EFFECT), Slice("effect order", 2048, 1), Slice("diagnostics", 256, 9)
+CONTEXT_SLICES = (IDENTIFIERS, FUNCTIONS, CONTEXTS, LINKS, CACHED, KEY_ORDER, INTERNED, EFFECT_ORDER, DIAGNOSTICS)
+# What else is lent to a call.
+CANDIDATES, OUTPUT = Slice("candidates", 64, EFFECT), Slice("output", 1120, EFFECT)
+SCRATCH64, SCRATCH32 = Slice("scratch64", 9216, 1), Slice("scratch32", 23040, 1)
+# The slices whose lengths a job says, in that order.
+LENT_SLICES = (VALUES, SETS, *CONTEXT_SLICES, OUTPUT, SCRATCH64, SCRATCH32)
+# Those of a context whose length follows from what is in use and from what the instruction can need; all others of a context have one length.
+ROOMS = (INTERNED, EFFECT_ORDER, IDENTIFIERS, FUNCTIONS, CONTEXTS)
+# Those of a context that are saved to scratch.
+SAVED = (CONTEXTS, LINKS, CACHED, KEY_ORDER, EFFECT_ORDER)
+# The effects of a context with the order of their keys: at the end of a job these are recorded by their keys.
+NUMBERED = (INTERNED, EFFECT_ORDER)
+# The numbers of a context beside its slices, in the order in which a job has them.
+COUNTS = OPTIONS, FUNCTION_COUNT, INTERNED_COUNT, KEY_COUNT, DIAGNOSTIC_COUNT = ("options", "function count", "effect count", "key count", "diagnostic count")
 # Codes of keys that hold a source.
 WITH_SOURCE = (CREATE_FROM, KEY_ASSIGN_FROZEN, KEY_ASSIGN_COPY)
-# How many effects one of a code can derive, and they in turn, captures apart (`laws_room` `Room.antt`: `derives`).
-DERIVES = {**dict.fromkeys(MUTATIONS, 1), CAPTURE: 2, ALIAS: 2, MAYBE_ALIAS: 1, ASSIGN: 1, CREATE_FROM: 1}
 
 
 class NotLent(ValueError):
     """A recorded job that cannot be lent; it is reported, nothing is guessed."""
+
+
+# The numbers of an empty context.
+# Options and counts.
+def no_counts():
+    return dict.fromkeys(COUNTS, 0)
+
+
+# The tables of an empty state and context.
+# Each is zero.
+def no_tables():
+    return {s: {} for s in (VALUES, SETS, *CONTEXT_SLICES)}
 
 
 class Lent:
@@ -32,34 +58,34 @@ class Lent:
     # An empty job.
     # Filled by `of_job`, and by damages.
     def __init__(self):
-        self.lengths, self.flag, self.session = [], 0, []
-        self.values, self.sets, self.context = {}, {}, {}
+        self.lengths, self.flag, self.session = {}, 0, []
+        self.counts, self.tables = no_counts(), no_tables()
         self.instructions, self.end = [], None
 
     # How many identifiers the sets have rows for.
     # Their length counts them (DECISIONS 13).
     def identifiers(self):
-        return self.lengths[1] // ROW
+        return self.lengths[SETS] // SETS.width
 
 
 class Instruction:
     """An instruction as it is lent, and what the call must answer."""
 
-    # Place and own function by value, candidates as words.
-    # The length is a number of its own, so that it can be wrong.
-    def __init__(self, lvalue, own, length, candidates):
-        self.lvalue, self.own, self.length, self.candidates = lvalue, own, length, candidates
-        self.refusal, self.count, self.entries, self.output = 0, 0, 0, {}
+    # Place and own function by value; tables of the candidates and of the output list, zero at first.
+    # The length of the candidates is a number of its own, so that it can be wrong.
+    def __init__(self, lvalue, own, length):
+        self.lvalue, self.own, self.length = lvalue, own, length
+        self.refusal, self.count, self.entries, self.tables = 0, 0, 0, {CANDIDATES: {}, OUTPUT: {}}
 
 
 class End:
-    """What stands after the last instruction; the context is compared below `limit`, then the cached keys' count and order, then effects along their order."""
+    """What stands after the last instruction. Effects are given by their keys, or, where they are none, they stand in the tables with their order."""
 
-    # All parts at once.
-    # They are those of a job's beginning; the records of interned effects ascend by their keys.
-    def __init__(self, flag, session, values, sets, limit, context, records):
-        self.flag, self.session, self.values, self.sets = flag, session, values, sets
-        self.limit, self.context, self.records = limit, context, records
+    # Counts and tables are zero at first, as those of a job.
+    # Effects that are given ascend by their keys.
+    def __init__(self, flag, session, effects=None):
+        self.flag, self.session, self.effects = flag, session, effects
+        self.counts, self.tables = no_counts(), no_tables()
 
 
 # Puts words into a table from an index on.
@@ -71,46 +97,43 @@ def put(table, at, words):
             table[at + k] = x
 
 
-# The first word of a record.
-# Tables are (first word, count, width).
-def at(table, record):
-    return table[0] + record * table[2]
+# The first word of a record of a slice.
+# Records stand one after the other.
+def at(slice, record):
+    return record * slice.width
 
 
-# Words of a record of a table.
+# Puts a record into its slice.
+# Tables are held by their slices.
+def put_record(tables, slice, record, words):
+    put(tables[slice], at(slice, record), words)
+
+
+# Words of a record of a slice.
 # For tests and damages.
-def record_of(context, table, record):
-    start = at(table, record)
-    return [context.get(start + k, 0) for k in range(table[2])]
+def record_of(tables, slice, record):
+    table, start = tables[slice], at(slice, record)
+    return [table.get(start + k, 0) for k in range(slice.width)]
 
 
-# ------------------------------------------------------------ parts of a job
-
-# The values of a state: 1 + kind in the low bits, the reasons above.
-# `word_of` of Cells.antt.
-def values_of(values):
-    return {n: reasons * 8 + kind + 1 for n, kind, reasons in values}
+# How long a slice of so many words is.
+# Diagnostics are counted in records, all others in words.
+def length_of(slice, words):
+    return words // slice.width if slice is DIAGNOSTICS else words
 
 
-# The sets of a state as words: bit 0 says defined, bit v that v is in it.
-# Rows.antt; value 0 of a recorded pair is no value.
-def sets_of(sets):
-    out = {}
-    for i, numbers in sets:
-        row = 1
-        for n in numbers:
-            row |= 1 << n
-        put(out, i * ROW, [row >> (64 * w) & 0xFFFFFFFFFFFFFFFF for w in range(ROW)])
-    return out
+# How many words a slice of a length has.
+# The other way round.
+def words_of_length(slice, length):
+    return length * slice.width if slice is DIAGNOSTICS else length
 
 
-# Recorded pairs as sets.
-# An identifier with the pair 0 is defined and empty.
-def sets_of_pairs(pairs):
-    sets = {}
-    for i, n in pairs:
-        sets.setdefault(i, []).extend([n] if n else [])
-    return sorted(sets.items())
+# ------------------------------------------------------------ effects in words
+
+# Words of an effect's record: code, places, and so on; last the count of captures and the captures.
+FIRST, SECOND, KIND, REASON, MUTATION, FUNCTION, IDENTITY, INSTANCE, CAPTURES = 1, 6, 11, 12, 13, 14, 15, 16, 17
+# How many effects one of a code can derive, and they in turn, captures apart (`laws_room` `Room.antt`: `derives`).
+DERIVES = {**dict.fromkeys(MUTATIONS, 1), CAPTURE: 2, ALIAS: 2, MAYBE_ALIAS: 1, ASSIGN: 1, CREATE_FROM: 1}
 
 
 # The record of an effect of an answer.
@@ -159,6 +182,56 @@ def effect_key(words):
     return [code, source, into, words[KIND], words[REASON], function, identity, *captures]
 
 
+# The most effects that the step of a candidate interns, by its record.
+# Room.antt: `need`; what is no code, and an Apply, reads as a Render, which derives nothing.
+def need(words):
+    return 1 + DERIVES.get(words[0], 0) + 4 * (words[CAPTURES] if words[0] == CREATE_FUNCTION else 0)
+
+
+# A list of effects as a table of a slice.
+# One record after the other; candidates, interned effects and output lists.
+def put_effects(tables, slice, effects):
+    for k, words in enumerate(effects):
+        put_record(tables, slice, k, words)
+
+
+# The table of one effect alone.
+# As the end of a job has it.
+def effect_table(words):
+    out = {}
+    put(out, 0, words)
+    return out
+
+
+# ------------------------------------------------------------ parts of a job
+
+# The values of a state: 1 + kind in the low bits, the reasons above.
+# `word_of` of Cells.antt.
+def values_of(values):
+    return {n: reasons * 8 + kind + 1 for n, kind, reasons in values}
+
+
+# The sets of a state as words: bit 0 says defined, bit v that v is in it.
+# Rows.antt; value 0 of a recorded pair is no value.
+def sets_of(sets):
+    out = {}
+    for i, numbers in sets:
+        row = 1
+        for n in numbers:
+            row |= 1 << n
+        put(out, at(SETS, i), [row >> (64 * w) & 0xFFFFFFFFFFFFFFFF for w in range(SETS.width)])
+    return out
+
+
+# Recorded pairs as sets.
+# An identifier with the pair 0 is defined and empty.
+def sets_of_pairs(pairs):
+    sets = {}
+    for i, n in pairs:
+        sets.setdefault(i, []).extend([n] if n else [])
+    return sorted(sets.items())
+
+
 # The key of a number's record as numbers, in the same order.
 # Such lists are compared like those of effects; a count of captures above the limit is refused on its own.
 def cached_key(words):
@@ -184,68 +257,67 @@ def identities(diagnostics):
     return out
 
 
-# Puts the tables that no instruction changes.
+# Puts what no instruction changes.
 # Options, identifiers, functions but for their context places.
-def put_fixed(context, job):
+def put_fixed(lent, job):
     places = job["places"]
-    put(context, OPTIONS, [job["head"][1], len(job["identifiers"]), len(job["functions"])])
+    lent.counts[OPTIONS], lent.counts[FUNCTION_COUNT] = job["head"][1], len(job["functions"])
     for i, words in enumerate(job["identifiers"]):
-        put(context, at(IDENTIFIERS, i), words)
+        put_record(lent.tables, IDENTIFIERS, i, words)
     for f, (flags, _, count, inside, mutated) in enumerate(job["functions"]):
-        put(context, at(FUNCTIONS, f), [flags, count, mutated])
+        put_record(lent.tables, FUNCTIONS, f, [flags, count, mutated])
         for k, place in enumerate(places[inside:inside + mutated]):
-            put(context, at(FUNCTIONS, f) + 3 + 5 * k, place)
+            put(lent.tables[FUNCTIONS], at(FUNCTIONS, f) + 3 + 5 * k, place)
 
 
 # Puts the context places of the functions, with other Effects where some are given.
 # An answer says only those.
-def put_places(context, job, effects=None):
+def put_places(lent, job, effects=None):
     for f, (_, first, count, _, _) in enumerate(job["functions"]):
         for k, place in enumerate(job["places"][first:first + count]):
             words = list(place)
             if effects is not None:
                 words[1] = effects[f][k]
-            put(context, at(CONTEXTS, f) + 5 * k, words)
+            put(lent.tables[CONTEXTS], at(CONTEXTS, f) + 5 * k, words)
 
 
 # Puts the count of cached keys, given as (number, words), and their order.
 # Place j of the order holds the number whose key comes j-th.
-def put_key_order(context, keys):
-    put(context, KEY_COUNT, [len(keys)])
-    put(context, at(KEY_ORDER, 0), [n for n, _ in sorted(keys, key=lambda k: cached_key(k[1]))])
+def put_key_order(lent, keys):
+    lent.counts[KEY_COUNT] = len(keys)
+    put(lent.tables[KEY_ORDER], 0, [n for n, _ in sorted(keys, key=lambda k: cached_key(k[1]))])
 
 
 # Puts links, and cached keys with their order, of fresh numbers below next.
 # Others cannot be lent.
-def put_numbers(context, links, keys, next_number):
+def put_numbers(lent, links, keys, next_number):
     for n, function in links:
         if not 0 < n < min(next_number, OWN):
             raise NotLent("link of number %d, next is %d" % (n, next_number))
-        put(context, at(LINKS, n), [1, function])
+        put_record(lent.tables, LINKS, n, [1, function])
     for n, words in keys:
         if not 0 < n < min(next_number, OWN):
             raise NotLent("key of number %d, next is %d" % (n, next_number))
-        put(context, at(CACHED, n), words)
+        put_record(lent.tables, CACHED, n, words)
     if len({tuple(cached_key(words)) for _, words in keys}) < len(keys):
         raise NotLent("two cached numbers of one key")
-    put_key_order(context, keys)
+    put_key_order(lent, keys)
 
 
 # Puts the diagnostics with their identities.
 # Nine words each, and their count.
-def put_diagnostics(context, records):
-    put(context, DIAGNOSTIC_COUNT, [len(records)])
+def put_diagnostics(lent, records):
+    lent.counts[DIAGNOSTIC_COUNT] = len(records)
     for k, words in enumerate(records):
-        put(context, at(DIAGNOSTICS, k), words)
+        put_record(lent.tables, DIAGNOSTICS, k, words)
 
 
 # Puts interned effects in the order of their numbers, their count, and the order of their keys.
 # Place j of the order holds the number of the effect that comes j-th.
-def put_interned(context, effects):
-    put(context, INTERNED_COUNT, [len(effects)])
-    for k, words in enumerate(effects):
-        put(context, at(INTERNED, k), words)
-    put(context, at(EFFECT_ORDER, 0), sorted(range(len(effects)), key=lambda k: effect_key(effects[k])))
+def put_interned(lent, effects):
+    lent.counts[INTERNED_COUNT] = len(effects)
+    put_effects(lent.tables, INTERNED, effects)
+    put(lent.tables[EFFECT_ORDER], 0, sorted(range(len(effects)), key=lambda k: effect_key(effects[k])))
 
 
 # The recorded keys of a job, as (number, words).
@@ -258,38 +330,26 @@ def job_keys(job):
     return out
 
 
-# The context that a job begins with.
-# All tables of Layout.antt.
-def first_context(job):
-    context, ids = {}, identities(job["diagnostics"])
-    put_fixed(context, job)
-    put_places(context, job)
-    put_numbers(context, job["links"], job_keys(job), job["head"][3])
-    put_diagnostics(context, [[ids[k], *d] for k, d in enumerate(job["diagnostics"])])
-    put_interned(context, [candidate_words(c, job["places"], ids.__getitem__) for c in job["interned"]])
-    return context
+# Puts the context that a job begins with.
+# All its slices and counts.
+def put_first(lent, job):
+    ids = identities(job["diagnostics"])
+    put_fixed(lent, job)
+    put_places(lent, job)
+    put_numbers(lent, job["links"], job_keys(job), job["head"][3])
+    put_diagnostics(lent, [[ids[k], *d] for k, d in enumerate(job["diagnostics"])])
+    put_interned(lent, [candidate_words(c, job["places"], ids.__getitem__) for c in job["interned"]])
 
 
-# The context at a job's end, but for its interned effects and their order; their count stands.
+# Puts the context at a job's end, but for its interned effects and their order; their count stands.
 # They are recorded by their keys and not by their numbers.
-def last_context(job, answer):
-    context = {}
-    put_fixed(context, job)
-    put_places(context, job, answer["functions"])
+def put_last(end, job, answer):
+    put_fixed(end, job)
+    put_places(end, job, answer["functions"])
     keys = [(n, key_words(*fixed, captures)) for (n, *fixed), captures in answer["cached"]]
-    put_numbers(context, answer["links"], keys, answer["next"])
-    put_diagnostics(context, answer["diagnostics"])
-    put(context, INTERNED_COUNT, [len(answer["interned"])])
-    return context
-
-
-# Records of 98 words one after the other, as a table.
-# Candidates and output lists.
-def records(effects):
-    out = {}
-    for k, words in enumerate(effects):
-        put(out, k * EFFECT, words)
-    return out
+    put_numbers(end, answer["links"], keys, answer["next"])
+    put_diagnostics(end, answer["diagnostics"])
+    end.counts[INTERNED_COUNT] = len(answer["interned"])
 
 
 # The instructions of a job with their answers.
@@ -298,44 +358,52 @@ def instructions_of(job, answer):
     identity = lambda k: answer["diagnostics"][k][0]
     out = []
     for (lvalue, own, candidates), (result, entries, effects) in zip(job["instructions"], answer["results"]):
-        words = records(candidate_words(c, job["places"], identity) for c in candidates)
-        i = Instruction(job["places"][lvalue], own, len(candidates) * EFFECT, words)
+        i = Instruction(job["places"][lvalue], own, len(candidates) * EFFECT)
+        put_effects(i.tables, CANDIDATES, [candidate_words(c, job["places"], identity) for c in candidates])
         i.refusal, i.count, i.entries = result, len(effects), entries
-        i.output = records(effect_words(e) for e in effects)
+        put_effects(i.tables, OUTPUT, [effect_words(e) for e in effects])
         out.append(i)
     return out
 
 
-# Right lengths of values, sets, context, output list and both scratches, for n identifiers.
-# DECISIONS 13, `lent_context` `Layout.antt` and `call_undo`; that of the context is the largest, which is always right.
-def right_lengths(n):
-    return [VALUES, n * ROW, LONG, OUTPUT, VALUES + n * ROW, SCRATCH]
+# ------------------------------------------------------------ lengths
+
+# How many records each of the slices of ROOMS has to have for an instruction, by the counts as they stand, whatever they are.
+# `call_outcome` `Calls.antt`: `context_wrong`, `room_for`.
+def least_records(lent, effects):
+    functions = min(lent.counts[FUNCTION_COUNT], MAX_FUNCTIONS)
+    effects = min(effects, MAX_INTERNED)
+    return {IDENTIFIERS: lent.identifiers(), FUNCTIONS: functions, CONTEXTS: functions, INTERNED: effects, EFFECT_ORDER: effects}
 
 
-# The most effects that the step of a candidate interns, by its record.
-# Room.antt: `need`; what is no code, and an Apply, reads as a Render, which derives nothing.
-def need(words):
-    return 1 + DERIVES.get(words[0], 0) + 4 * (words[CAPTURES] if words[0] == CREATE_FUNCTION else 0)
+# The scratch of a context has as many words as all that is saved; no more of a slice than it can have.
+# `call_undo` `Saves.antt`: `saved_words`.
+def fit_scratch(lent):
+    lent.lengths[SCRATCH32] = sum(min(lent.lengths[s], s.count * s.width) for s in SAVED)
+
+
+# Right lengths for n identifiers and as many records of the slices of ROOMS as a function says, by the slice.
+# DECISIONS 13, 25 and 40; all other lengths are fixed, but for scratch, which follows.
+def put_lengths(lent, n, records):
+    lent.lengths = {s: length_of(s, s.count * s.width) for s in LENT_SLICES}
+    lent.lengths[SETS], lent.lengths[SCRATCH64] = n * SETS.width, VALUES.count + n * SETS.width
+    for s in ROOMS:
+        lent.lengths[s] = min(records(s), s.count) * s.width
+    fit_scratch(lent)
 
 
 # The most effects that an instruction interns.
 # Room.antt: `needs`; a candidate past the 64th reads as zeros.
 def needs(instruction):
     count = instruction.length // EFFECT
-    found = [[instruction.candidates.get(k * EFFECT + w, 0) for w in range(EFFECT)] for k in range(min(count, MAX_CANDIDATES))]
+    found = [record_of(instruction.tables, CANDIDATES, k) for k in range(min(count, MAX_CANDIDATES))]
     return sum(map(need, found)) + max(0, count - MAX_CANDIDATES) * need([0] * EFFECT)
 
 
-# The length of a context with room for as many interned effects, and no more than for 2,048.
-# Whole records after its other tables.
-def context_length(room):
-    return at(INTERNED, min(room, MAX_INTERNED))
-
-
-# Room that suffices for each instruction of a job when it comes; for a job of one just what it needs.
+# For how many effects there has to be room, for each instruction of a job when it comes; for a job of one just what it needs.
 # A refused one interns nothing, and none leaves more than stand at the end.
 def enough_room(lent, last):
-    count = room = lent.context.get(INTERNED_COUNT, 0)
+    count = room = lent.counts[INTERNED_COUNT]
     for i in lent.instructions:
         room = max(room, count + needs(i))
         if i.refusal == 0:
@@ -343,11 +411,12 @@ def enough_room(lent, last):
     return room
 
 
-# The context's length of a recorded job, by its number in the list: with just the room that suffices.
-# Of each seven one has room for an effect more, and one the largest length.
+# The lengths of a recorded job, by its number in the list: a digit of it to the base 4 for each slice of ROOMS, the lowest first.
+# 0 and 1: just as long as suffices; 2: a record more; 3: the largest.
 def lend_room(lent, number, last):
-    spare = {3: 1, 6: MAX_INTERNED}.get(number % 7, 0)
-    lent.lengths[CONTEXT_LENGTH] = context_length(enough_room(lent, last) + spare)
+    just = least_records(lent, enough_room(lent, last))
+    spare = {s: (0, 0, 1, s.count)[number // 4 ** k % 4] for k, s in enumerate(ROOMS)}
+    put_lengths(lent, lent.identifiers(), lambda s: just[s] + spare[s])
 
 
 # A recorded job with its answer as a lent one.
@@ -356,17 +425,17 @@ def of_job(job, answer):
     out, head = Lent(), job["head"]
     if [d[0] for d in answer["diagnostics"]][:len(job["diagnostics"])] != identities(job["diagnostics"]):
         raise NotLent("identities of diagnostics")
-    out.lengths = right_lengths(len(job["identifiers"]))
+    put_lengths(out, len(job["identifiers"]), lambda s: s.count)
     out.flag, out.session = head[2], head[3:8]
-    out.values, out.sets = values_of(job["values"]), sets_of(sets_of_pairs(job["pairs"]))
-    out.context = first_context(job)
+    out.tables[VALUES], out.tables[SETS] = values_of(job["values"]), sets_of(sets_of_pairs(job["pairs"]))
+    put_first(out, job)
     out.instructions = instructions_of(job, answer)
-    session = [answer["next"], *answer["access"], answer["walked"]]
     interned = sorted((effect_words(e) for e in answer["interned"]), key=effect_key)
     if any(effect_key(a) == effect_key(b) for a, b in zip(interned, interned[1:])):
         raise NotLent("two interned effects of one key")
-    values, sets = values_of(answer["values"]), sets_of(answer["sets"])
-    out.end = End(answer["flag"], session, values, sets, EFFECT_ORDER[0], last_context(job, answer), [records([words]) for words in interned])
+    out.end = end = End(answer["flag"], [answer["next"], *answer["access"], answer["walked"]], effects=interned)
+    end.tables[VALUES], end.tables[SETS] = values_of(answer["values"]), sets_of(answer["sets"])
+    put_last(end, job, answer)
     return out
 
 
@@ -390,36 +459,42 @@ def runs(table, wide=False):
     return out
 
 
+# Several tables, one after the other.
+# Those of a state are of 64 bits.
+def tables_words(tables, slices):
+    return sum((runs(tables[s], s in (VALUES, SETS)) for s in slices), [])
+
+
+# The numbers and the tables of a state and a context, of the slices given.
+# As at the beginning of a job, so at its end.
+def context_words(part, slices):
+    return tables_words(part.tables, (VALUES, SETS)) + [part.counts[k] for k in COUNTS] + tables_words(part.tables, slices)
+
+
 # The words of an instruction.
 # Lent first, then what it must answer.
 def instruction_words(i):
-    out = [*i.lvalue, i.own, i.length, *runs(i.candidates)]
-    return out + [i.refusal, i.count, i.entries, *runs(i.output)]
+    lent = [*i.lvalue, i.own, i.length, *tables_words(i.tables, (CANDIDATES,))]
+    return lent + [i.refusal, i.count, i.entries, *tables_words(i.tables, (OUTPUT,))]
 
 
-# The count of cached keys and their order, as one run up to the last word that is not zero.
-# They stand between the order of the effects and the effects.
-def key_run(context):
-    used = [k for k in range(KEY_COUNT, INTERNED[0]) if k in context]
-    words = [context.get(k, 0) for k in range(KEY_COUNT, used[-1] + 1)] if used else []
-    return [KEY_COUNT, len(words), *words]
-
-
-# The words of an end.
+# The words of an end; its interned effects along their order, each a table, or, after a 1, as they stand in their slices.
 # As in the head, then the tables.
 def end_words(e):
-    below = {k: x for k, x in e.context.items() if k < e.limit}
-    out = [e.flag, *e.session, *runs(e.values, True), *runs(e.sets, True), e.limit, *runs(below), *key_run(e.context), len(e.records)]
-    for record in e.records:
-        out += runs(record)
+    out = [e.flag, *e.session, *context_words(e, [s for s in CONTEXT_SLICES if s not in NUMBERED])]
+    if e.effects is None:
+        return out + [1, *tables_words(e.tables, NUMBERED)]
+    out += [0, len(e.effects)]
+    for words in e.effects:
+        out += runs(effect_table(words))
     return out
 
 
 # The words of a job.
 # Lengths, flag, session, count of instructions, tables, instructions, end.
 def job_words(lent):
-    out = [*lent.lengths, lent.flag, *lent.session, len(lent.instructions)]
-    out += runs(lent.values, True) + runs(lent.sets, True) + runs(lent.context)
+    out = [*(lent.lengths[s] for s in LENT_SLICES), lent.flag, *lent.session, len(lent.instructions)]
+    out += context_words(lent, CONTEXT_SLICES)
     for i in lent.instructions:
         out += instruction_words(i)
     return out + end_words(lent.end)

@@ -1,4 +1,4 @@
-"""Which class, 1 to 5, a lent call earns: a plain test of document 01, 'Refused calls', and of docs/DECISIONS.md 12 to 14, 18, 19 and 24.
+"""Which class, 1 to 5, a lent call earns: a plain test of document 01, 'Refused calls', and of docs/DECISIONS.md 12 to 14, 18, 19, 24, 25 and 40.
 
 It goes through everything that is lent, notes each class that is earned, and the lowest one wins. It follows those texts; whoever
 wrote it had read the port's tests before, so it is a second text and not an independent one.
@@ -50,20 +50,29 @@ class Classes:
             self.found.add(4)
 
 
-# The least length of a context: room for the interned effects that it counts, and for those that the instruction can intern.
-# By the count as it stands, whatever it is; past the end of a context all is zero.
-def least_context(lent):
-    counted = lent.context.get(INTERNED_COUNT, 0) if INTERNED_COUNT < lent.lengths[CONTEXT_LENGTH] else 0
-    return context_length(counted + needs(lent.instructions[0]))
+# How many records the slices of a context have to have, those that follow from what is in use and from what the instruction can need.
+# By the counts as they stand, whatever they are.
+def least(lent):
+    return least_records(lent, lent.counts[INTERNED_COUNT] + needs(lent.instructions[0]))
+
+
+# Whether a slice of a context has the wrong length.
+# The fixed ones are as long as they can be; the others have whole records, as many as are asked at the least.
+def slice_wrong(slice, length, least):
+    most = slice.count * slice.width
+    if slice not in least:
+        return length != length_of(slice, most)
+    return length < least[slice] * slice.width or length > most or length % slice.width != 0
 
 
 # Whether a length is wrong.
-# Only the context's count and its candidates are looked at for it; a context ends with a whole record.
+# Only the context's counts and its candidates are looked at for it.
 def lengths_wrong(lent):
-    values, sets, context, output, scratch64, scratch32 = lent.lengths
-    wrong = values != VALUES or sets % ROW or sets > 512 * ROW or lent.instructions[0].length % EFFECT
-    wrong = wrong or context < least_context(lent) or context > LONG or (context - INTERNED[0]) % EFFECT
-    return bool(wrong or output != OUTPUT or scratch64 != VALUES + sets or scratch32 != SCRATCH)
+    lengths, asked = lent.lengths, least(lent)
+    wrong = lengths[VALUES] != VALUES.count or lengths[SETS] % SETS.width or lengths[SETS] > SETS.count * SETS.width
+    wrong = wrong or any(slice_wrong(s, lengths[s], asked) for s in CONTEXT_SLICES) or lent.instructions[0].length % EFFECT
+    wrong = wrong or lengths[OUTPUT] != OUTPUT.count * OUTPUT.width or lengths[SCRATCH64] != VALUES.count + lengths[SETS]
+    return bool(wrong or lengths[SCRATCH32] != sum(lengths[s] for s in SAVED))
 
 
 # A state and its session.
@@ -73,7 +82,7 @@ def test_state(c, lent, n):
     c.needs(1 <= next_number <= MAX_NEXT)
     c.needs(access <= n)
     number = lambda v: (c.needs(0 < v < OWN + n), c.orderly(v >= OWN or v < next_number))
-    for v, word in lent.values.items():
+    for v, word in lent.tables[VALUES].items():
         if word % 8 == 0:
             c.unused([word])
             continue
@@ -81,11 +90,11 @@ def test_state(c, lent, n):
         c.below(word % 8 - 1, MAX_KIND + 1)
         c.below(word // 8, 1 << (MAX_REASON + 1))
     for i in range(n):
-        row = [lent.sets.get(i * ROW + w, 0) for w in range(ROW)]
+        row = record_of(lent.tables, SETS, i)
         if row[0] % 2 == 0:
             c.unused(row)
             continue
-        for v in range(1, VALUES):
+        for v in range(1, VALUES.count):
             if row[v // 64] >> (v % 64) & 1:
                 number(v)
 
@@ -125,40 +134,40 @@ def test_effect(c, words, lent, n, functions, apply):
     part(code == MUTATE, MUTATION, lambda x: c.below(x, 2))
     part(code == CREATE_FUNCTION, FUNCTION, lambda x: c.below(x, functions))
     part(code in DIAGNOSED, IDENTITY, lambda x: c.below(x, MAX_DIAGNOSTICS))
-    part(code in DIAGNOSED, INSTANCE, lambda x: c.below(x, lent.context.get(DIAGNOSTIC_COUNT, 0)))
+    part(code in DIAGNOSED, INSTANCE, lambda x: c.below(x, lent.counts[DIAGNOSTIC_COUNT]))
     part(code == CREATE_FUNCTION, CAPTURES, lambda x: c.count(x, MAX_CAPTURES))
     test_places(c, words[CAPTURES + 1:], words[CAPTURES] if code == CREATE_FUNCTION else 0, n)
     if code in DIAGNOSED and words[INSTANCE] < MAX_DIAGNOSTICS:
-        c.needs(words[IDENTITY] == lent.context.get(at(DIAGNOSTICS, words[INSTANCE]), 0))
+        c.needs(words[IDENTITY] == record_of(lent.tables, DIAGNOSTICS, words[INSTANCE])[0])
 
 
-# Identifiers and functions of a context.
-# An instruction only reads them.
-def test_fixed(c, context, n, functions):
-    c.below(context.get(OPTIONS, 0), 4)
+# Options, identifiers and functions of a context.
+# An instruction only reads them, but for the context places.
+def test_fixed(c, lent, n, functions):
+    c.below(lent.counts[OPTIONS], 4)
     for i in range(n):
-        flags, name, start, end = record_of(context, IDENTIFIERS, i)
+        flags, name, start, end = record_of(lent.tables, IDENTIFIERS, i)
         c.below(flags, 4)
         c.below(name, MAX_NAME + 1)
         if not flags & HOISTED:
             c.unused([start, end])
     for f in range(functions):
-        words = record_of(context, FUNCTIONS, f)
+        words = record_of(lent.tables, FUNCTIONS, f)
         flags, places, inside = words[:3]
         c.below(flags, 4)
         c.count(places, MAX_CONTEXT)
         c.count(inside, MAX_MUTATED)
         c.needs(flags & KNOWN or not (flags & TRACKED or inside))
         test_places(c, words[3:], inside, n)
-        test_places(c, record_of(context, CONTEXTS, f), places, n)
+        test_places(c, record_of(lent.tables, CONTEXTS, f), places, n)
 
 
 # Links and cached keys of a context, of the numbers that were handed out.
 # Those of other numbers have no use, and number 0 is none.
-def test_numbers(c, context, n, functions, handed_out):
+def test_numbers(c, tables, n, functions, handed_out):
     for v in range(handed_out):
-        flag, function = record_of(context, LINKS, v)
-        key = record_of(context, CACHED, v)
+        flag, function = record_of(tables, LINKS, v)
+        key = record_of(tables, CACHED, v)
         if v == 0:
             c.unused([flag, function, *key])
             continue
@@ -204,10 +213,10 @@ def test_key(c, key, n, functions):
 
 # The diagnostics of a context.
 # Identities are numbered as they come; equal records stand once.
-def test_diagnostics(c, context, n, count):
+def test_diagnostics(c, tables, n, count):
     messages, seen = {}, set()
     for k in range(count):
-        words = record_of(context, DIAGNOSTICS, k)
+        words = record_of(tables, DIAGNOSTICS, k)
         identity, identifier, case, sentence, name, start, end = words[:7]
         c.below(identity, MAX_DIAGNOSTICS)
         c.below(identifier, n)
@@ -226,66 +235,63 @@ def test_diagnostics(c, context, n, count):
 
 # The order of the interned effects: numbers of records in use, along which the keys ascend.
 # Two effects of one key cannot ascend, wherever they stand in it; n places that do name every one of n records.
-def test_order(c, context, count):
-    order = [context.get(at(EFFECT_ORDER, j), 0) for j in range(count)]
+def test_order(c, tables, count):
+    order = [tables[EFFECT_ORDER].get(j, 0) for j in range(count)]
     for k in order:
         c.below(k, count)
-    keys = [effect_key(record_of(context, INTERNED, k)) for k in order]
+    keys = [effect_key(record_of(tables, INTERNED, k)) for k in order]
     c.orderly(all(a < b for a, b in zip(keys, keys[1:])))
 
 
 # The order of the cached keys: numbers that were handed out and have a key, along which the keys ascend, and as many as have one.
 # Two numbers of one key cannot ascend; where the order has as many places as there are keys, none is left out.
-def test_key_order(c, context, handed_out, count):
-    keyed = [v for v in range(handed_out) if context.get(at(CACHED, v), 0)]
+def test_key_order(c, tables, handed_out, count):
+    keyed = [v for v in range(handed_out) if record_of(tables, CACHED, v)[0]]
     c.orderly(len(keyed) == count)
-    order = [context.get(at(KEY_ORDER, j), 0) for j in range(count)]
+    order = [tables[KEY_ORDER].get(j, 0) for j in range(count)]
     for v in order:
         c.below(v, handed_out)
         c.orderly(v in keyed)
-    keys = [cached_key(record_of(context, CACHED, v)) for v in order]
+    keys = [cached_key(record_of(tables, CACHED, v)) for v in order]
     c.orderly(all(a < b for a, b in zip(keys, keys[1:])))
 
 
-# What stands after the records in use of each table.
+# What stands after the records in use of each slice.
 # "also after the last record, and at a number that is not handed out yet"
-def test_rest(c, context, used):
-    for table, count in used:
-        start, end = at(table, count), at(table, table[1])
-        c.unused([x for k, x in context.items() if start <= k < end])
+def test_rest(c, tables, used):
+    for slice, count in used:
+        c.unused([x for k, x in tables[slice].items() if k >= at(slice, count)])
 
 
-# A context, by its counts and then all its tables.
+# A context, by its counts and then all its slices.
 # A count above its limit leaves nothing else to be looked at.
 def test_context(c, lent, n):
-    context, next_number = lent.context, lent.session[0]
-    functions, interned, count, keys = (context.get(k, 0) for k in (FUNCTION_COUNT, INTERNED_COUNT, DIAGNOSTIC_COUNT, KEY_COUNT))
-    few = functions <= MAX_FUNCTIONS and interned <= MAX_INTERNED and count <= MAX_DIAGNOSTICS and keys < OWN
-    if context.get(IDENTIFIER_COUNT, 0) != n or not few:
+    tables, next_number = lent.tables, lent.session[0]
+    functions, interned, count, keys = (lent.counts[k] for k in (FUNCTION_COUNT, INTERNED_COUNT, DIAGNOSTIC_COUNT, KEY_COUNT))
+    if functions > MAX_FUNCTIONS or interned > MAX_INTERNED or count > MAX_DIAGNOSTICS or keys >= OWN:
         c.found.add(2)
         return
     handed_out = min(next_number, MAX_NEXT)
-    test_fixed(c, context, n, functions)
-    test_numbers(c, context, n, functions, handed_out)
-    test_key_order(c, context, handed_out, keys)
-    test_diagnostics(c, context, n, count)
+    test_fixed(c, lent, n, functions)
+    test_numbers(c, tables, n, functions, handed_out)
+    test_key_order(c, tables, handed_out, keys)
+    test_diagnostics(c, tables, n, count)
     for k in range(interned):
-        test_effect(c, record_of(context, INTERNED, k), lent, n, functions, 3)
-    test_order(c, context, interned)
-    test_rest(c, context, [(IDENTIFIERS, n), (FUNCTIONS, functions), (CONTEXTS, functions), (LINKS, handed_out), (CACHED, handed_out),
-                           (DIAGNOSTICS, count), (EFFECT_ORDER, interned), (KEY_ORDER, keys), (INTERNED, interned)])
+        test_effect(c, record_of(tables, INTERNED, k), lent, n, functions, 3)
+    test_order(c, tables, interned)
+    test_rest(c, tables, [(IDENTIFIERS, n), (FUNCTIONS, functions), (CONTEXTS, functions), (LINKS, handed_out), (CACHED, handed_out),
+                          (KEY_ORDER, keys), (INTERNED, interned), (EFFECT_ORDER, interned), (DIAGNOSTICS, count)])
 
 
 # An instruction over a context.
 # At most 64 candidates, places of the list, an own function that there is.
 def test_instruction(c, lent, instruction, n):
-    functions, count = lent.context.get(FUNCTION_COUNT, 0), instruction.length // EFFECT
+    functions, count = lent.counts[FUNCTION_COUNT], instruction.length // EFFECT
     c.count(count, MAX_CANDIDATES)
     test_place(c, instruction.lvalue, n)
     c.needs(instruction.own <= functions)
     for k in range(min(count, MAX_CANDIDATES)):
-        words = [instruction.candidates.get(k * EFFECT + w, 0) for w in range(EFFECT)]
-        test_effect(c, words, lent, n, functions, 5)
+        test_effect(c, record_of(instruction.tables, CANDIDATES, k), lent, n, functions, 5)
 
 
 # The class of a call with the first instruction of a job, 0 where it is accepted.

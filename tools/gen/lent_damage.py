@@ -7,12 +7,10 @@ A damage gets a copy of a job with its first instruction alone, and says whether
 import random
 
 from lent import *
-from lent_class import call_class, least_context
+from lent_class import call_class, least
 from names import *
 
 FULL = 0xFFFFFFFF
-CANDIDATES = (0, 64, 98)
-VALUES_LENGTH, SETS_LENGTH, _, OUTPUT_LENGTH, SCRATCH64_LENGTH, SCRATCH32_LENGTH = range(6)
 
 
 # ------------------------------------------------------------ what a job has
@@ -20,31 +18,31 @@ VALUES_LENGTH, SETS_LENGTH, _, OUTPUT_LENGTH, SCRATCH64_LENGTH, SCRATCH32_LENGTH
 # How many functions a job has.
 # The bound of their numbers.
 def functions(lent):
-    return lent.context.get(FUNCTION_COUNT, 0)
+    return lent.counts[FUNCTION_COUNT]
 
 
 # How many interned effects a job has.
 # Those after them are unused.
 def interned(lent):
-    return lent.context.get(INTERNED_COUNT, 0)
+    return lent.counts[INTERNED_COUNT]
 
 
 # How many diagnostics a job has.
 # The bound of their instances.
 def diagnostics(lent):
-    return lent.context.get(DIAGNOSTIC_COUNT, 0)
+    return lent.counts[DIAGNOSTIC_COUNT]
 
 
 # How many cached keys a job has, by its count.
 # The places of their order.
 def cached(lent):
-    return lent.context.get(KEY_COUNT, 0)
+    return lent.counts[KEY_COUNT]
 
 
 # The cached keys of a job, as (number, words).
 # Of the numbers that are handed out.
 def keys_of(lent):
-    records = [(v, record_of(lent.context, CACHED, v)) for v in range(1, next_number(lent))]
+    records = [(v, record_of(lent.tables, CACHED, v)) for v in range(1, next_number(lent))]
     return [(v, words) for v, words in records if words[0]]
 
 
@@ -63,18 +61,18 @@ def candidates(lent):
 # Instances of diagnostics that effects name.
 # A damage of another one is seen in the table alone.
 def named(lent):
-    records = [record_of(lent.context, INTERNED, k) for k in range(interned(lent))]
-    records += [record_of(lent.instructions[0].candidates, CANDIDATES, k) for k in range(candidates(lent))]
+    records = [record_of(lent.tables, INTERNED, k) for k in range(interned(lent))]
+    records += [record_of(lent.instructions[0].tables, CANDIDATES, k) for k in range(candidates(lent))]
     return {r[INSTANCE] for r in records if r[0] in DIAGNOSED}
 
 
 # An order of a job, of its interned effects or of its cached keys, as the list of their numbers.
 # As long as their count says.
-def order_of(lent, table):
-    return [lent.context.get(at(table, j), 0) for j in range(IN_USE[table](lent)[1])]
+def order_of(lent, slice):
+    return [lent.tables[slice].get(j, 0) for j in range(IN_USE[slice](lent)[1])]
 
 
-# Of each table the first record in use and the one after the last.
+# Of each slice the first record in use and the one after the last.
 IN_USE = {
     IDENTIFIERS: lambda t: (0, t.identifiers()), FUNCTIONS: lambda t: (0, functions(t)), CONTEXTS: lambda t: (0, functions(t)),
     LINKS: lambda t: (1, next_number(t)), CACHED: lambda t: (1, next_number(t)), DIAGNOSTICS: lambda t: (0, diagnostics(t)),
@@ -83,72 +81,135 @@ IN_USE = {
 }
 
 
-# The words that a table stands in.
-# Candidates have a list of their own.
-def words_of(lent, table):
-    return lent.instructions[0].candidates if table is CANDIDATES else lent.context
+# The tables that a slice stands in.
+# Candidates stand with their instruction.
+def tables_of(lent, slice):
+    return lent.instructions[0].tables if slice is CANDIDATES else lent.tables
 
 
 # A record in use that passes a test, by chance, or none.
 # A test gets its words.
-def some_record(lent, rng, table, test):
-    first, end = IN_USE[table](lent)
-    fit = [k for k in range(first, end) if test(record_of(words_of(lent, table), table, k))]
+def some_record(lent, rng, slice, test):
+    first, end = IN_USE[slice](lent)
+    fit = [k for k in range(first, end) if test(record_of(tables_of(lent, slice), slice, k))]
     return rng.choice(fit) if fit else None
 
 
-# ------------------------------------------------------------ damages
+# How many words a slice has in all, where it has one length, or at the most.
+# Its whole table.
+def most(slice):
+    return slice.count * slice.width
 
-# The context gets room for what the instruction needs, where it has less.
+
+# ------------------------------------------------------------ damages of lengths
+
+# The slices get room for what is in use and what the instruction needs, where they have less, and scratch follows.
 # So that a damage that adds to the need is seen in what it damages.
 def widen(lent):
-    lent.lengths[CONTEXT_LENGTH] = max(lent.lengths[CONTEXT_LENGTH], least_context(lent))
+    for slice, n in least(lent).items():
+        lent.lengths[slice] = max(lent.lengths[slice], min(n, slice.count) * slice.width)
+    fit_scratch(lent)
 
 
-# The context has just the room that is needed, after other damages; does not apply where that is the largest.
+# Slices get just as many records as are needed, or so many more or less, and scratch follows.
+# None less than no record does not apply.
+def fit(lent, slices, more=0):
+    n = least(lent)
+    for slice in slices:
+        lent.lengths[slice] = (n[slice] + more) * slice.width
+    fit_scratch(lent)
+    return all(n[slice] + more >= 0 for slice in slices)
+
+
+# Every slice has just the room that is needed, after other damages; does not apply where that is the largest for effects.
 # Whoever needs more than the definition says refuses it with 1.
 def narrow(*acts):
     def act(lent, rng):
         done = all(part(lent, rng) for part in acts)
-        lent.lengths[CONTEXT_LENGTH] = least_context(lent)
-        return done and lent.lengths[CONTEXT_LENGTH] < LONG
+        return fit(lent, ROOMS) and done and lent.lengths[INTERNED] < most(INTERNED)
     return act
 
 
-# The context is one record shorter than needed, after other damages.
+# Slices are one record shorter than needed, after other damages; all others are long enough.
 # Whoever needs less than the definition says does not see it.
-def short_of_one(*acts):
+def short_of_one(slices, *acts):
     def act(lent, rng):
         done = all(part(lent, rng) for part in acts)
-        lent.lengths[CONTEXT_LENGTH] = least_context(lent) - EFFECT
-        return done
+        widen(lent)
+        return fit(lent, slices, -1) and done
     return act
 
 
-# The context has just the room that was needed before other damages; applies where they add to it.
-# A word of its own, or a candidate, then asks for more than is lent.
-def outgrown(*acts):
+# Slices have just the room that was needed before other damages, and all others are long enough; applies where these add to it.
+# A count, or a candidate, then asks for more than is lent.
+def outgrown(slices, *acts):
     def act(lent, rng):
-        least = lent.lengths[CONTEXT_LENGTH] = least_context(lent)
-        return all(part(lent, rng) for part in acts) and least_context(lent) > least
+        before = least(lent)
+        done = all(part(lent, rng) for part in acts)
+        widen(lent)
+        for slice in slices:
+            lent.lengths[slice] = before[slice] * slice.width
+        fit_scratch(lent)
+        return done and all(least(lent)[slice] > before[slice] for slice in slices)
     return act
 
 
-# The context has the largest length, with other damages.
+# Every slice has the largest length, with other damages.
 # It is always right.
 def largest(*acts):
     def act(lent, rng):
-        lent.lengths[CONTEXT_LENGTH] = LONG
+        for slice in ROOMS:
+            lent.lengths[slice] = most(slice)
+        fit_scratch(lent)
         return all(part(lent, rng) for part in acts)
     return act
 
 
-# A length becomes what is given from the old one.
-# The arrays of the program have room for a record more, and a few words.
-def length(which, change):
+# Slices have room for so many records.
+# No more is looked at.
+def room(slices, n):
     def act(lent, rng):
-        lent.lengths[which] = change(lent.lengths[which])
+        for slice in slices:
+            lent.lengths[slice] = n * slice.width
+        fit_scratch(lent)
         return True
+    return act
+
+
+# The scratch of a context stays as long as it was, while slices get other lengths; applies where it should follow.
+# Only its length is then wrong.
+def scratch_as_before(act):
+    def whole(lent, rng):
+        before = lent.lengths[SCRATCH32]
+        done = act(lent, rng)
+        right, lent.lengths[SCRATCH32] = lent.lengths[SCRATCH32], before
+        return done and right != before
+    return whole
+
+
+# Several damages, one after the other.
+# Each must apply.
+def together(*acts):
+    return lambda lent, rng: all(part(lent, rng) for part in acts)
+
+
+# A length becomes what is given from the old one; a length below zero, or the same, does not apply.
+# The arrays of the program have room for a record more than can be lent, and a few words.
+def length(slice, change):
+    def act(lent, rng):
+        before = lent.lengths[slice]
+        lent.lengths[slice] = change(before)
+        return lent.lengths[slice] >= 0 and lent.lengths[slice] != before
+    return act
+
+
+# The same of a slice of a context, where scratch follows.
+# So that scratch is right where its length is what is wrong.
+def resized(slice, change):
+    def act(lent, rng):
+        done = length(slice, change)(lent, rng)
+        fit_scratch(lent)
+        return done
     return act
 
 
@@ -166,10 +227,25 @@ def candidates_length(change):
 def rows(change):
     def act(lent, rng):
         n = lent.identifiers() + change(lent.identifiers())
-        lent.lengths[SETS_LENGTH], lent.lengths[SCRATCH64_LENGTH] = n * ROW, VALUES + n * ROW
+        lent.lengths[SETS], lent.lengths[SCRATCH64] = n * SETS.width, VALUES.count + n * SETS.width
         return 0 <= n <= 513
     return act
 
+
+# The last identifier has no row, and its record stays, where nothing else is wrong of it.
+# The words after the last record are unused.
+def row_gone(lent, rng):
+    n = lent.identifiers() - 1
+    if not rows(lambda _: -1)(lent, rng):
+        return False
+    words = record_of(lent.tables, IDENTIFIERS, n)
+    put_record(lent.tables, IDENTIFIERS, n, [0] * IDENTIFIERS.width)
+    accepted = call_class(lent) == 0
+    put_record(lent.tables, IDENTIFIERS, n, words)
+    return accepted and any(words)
+
+
+# ------------------------------------------------------------ damages of words
 
 # A word of the session becomes a number.
 # 0 next, 1 access.
@@ -200,37 +276,61 @@ def own(number):
 
 # A word of a record in use becomes a number, where the record passes a test.
 # The number may follow from the job; none does not apply.
-def field(table, w, number, test=lambda r: True):
+def field(slice, w, number, test=lambda r: True):
     def act(lent, rng):
-        k = some_record(lent, rng, table, test)
+        k = some_record(lent, rng, slice, test)
         if k is None:
             return False
-        words = words_of(lent, table)
-        before = words.get(at(table, k) + w, 0)
-        new = number(lent) if callable(number) else number
-        put(words, at(table, k) + w, [new])
-        return new != before
+        words = record_of(tables_of(lent, slice), slice, k)
+        before, words[w] = words[w], number(lent) if callable(number) else number
+        put_record(tables_of(lent, slice), slice, k, words)
+        return words[w] != before
     return act
 
 
-# A word of the context becomes a number.
-# Options and counts.
-def word(k, number):
+# The options, or a count, become a number.
+# The number may follow from the job.
+def count(which, number):
     def act(lent, rng):
-        put(lent.context, k, [number(lent) if callable(number) else number])
+        lent.counts[which] = number(lent) if callable(number) else number
         return True
     return act
 
 
-# A word after the last record of a table becomes 1.
-# Any of its unused words that are lent.
-def after(table):
+# A word of a slice becomes a number.
+# Of a record that no test reaches.
+def word(slice, k, number):
     def act(lent, rng):
-        start, end = at(table, IN_USE[table](lent)[1]), min(at(table, table[1]), lent.lengths[CONTEXT_LENGTH])
+        put(lent.tables[slice], k, [number])
+        return True
+    return act
+
+
+# Where the words after the last record of a slice begin and end.
+# Those that are lent.
+def unused_words(lent, slice):
+    return at(slice, IN_USE[slice](lent)[1]), words_of_length(slice, lent.lengths[slice])
+
+
+# A word after the last record of a slice becomes 1.
+# Any of its unused words that are lent.
+def after(slice):
+    def act(lent, rng):
+        start, end = unused_words(lent, slice)
         if start >= end:
             return False
-        put(lent.context, rng.randrange(start, end), [1])
+        put(lent.tables[slice], rng.randrange(start, end), [1])
         return True
+    return act
+
+
+# The last word that is lent of a slice becomes 1, where it stands after the last record.
+# No test of a record reaches it.
+def last_word(slice):
+    def act(lent, rng):
+        start, end = unused_words(lent, slice)
+        put(lent.tables[slice], end - 1, [1])
+        return start < end
     return act
 
 
@@ -239,9 +339,9 @@ def after(table):
 def value(number, new):
     def act(lent, rng):
         v = number(lent)
-        if not 0 <= v < VALUES or v in lent.values:
+        if not 0 <= v < VALUES.count or v in lent.tables[VALUES]:
             return False
-        put(lent.values, v, [new])
+        put(lent.tables[VALUES], v, [new])
         return True
     return act
 
@@ -250,10 +350,11 @@ def value(number, new):
 # By its old one.
 def entry(change):
     def act(lent, rng):
-        if not lent.values:
+        values = lent.tables[VALUES]
+        if not values:
             return False
-        v = rng.choice(sorted(lent.values))
-        put(lent.values, v, [change(lent.values[v])])
+        v = rng.choice(sorted(values))
+        put(values, v, [change(values[v])])
         return True
     return act
 
@@ -262,25 +363,25 @@ def entry(change):
 # The bit follows from the job.
 def member(defined, number):
     def act(lent, rng):
-        fit = [i for i in range(lent.identifiers()) if (lent.sets.get(i * ROW, 0) & 1) == defined]
-        v = number(lent)
-        if not fit or not 0 < v < VALUES:
+        sets, v = lent.tables[SETS], number(lent)
+        fit = [i for i in range(lent.identifiers()) if (sets.get(at(SETS, i), 0) & 1) == defined]
+        if not fit or not 0 < v < VALUES.count:
             return False
-        i = rng.choice(fit) * ROW + v // 64
-        put(lent.sets, i, [lent.sets.get(i, 0) | 1 << v % 64])
+        i = at(SETS, rng.choice(fit)) + v // 64
+        put(sets, i, [sets.get(i, 0) | 1 << v % 64])
         return True
     return act
 
 
-# A record of a table is repeated after its last one, and counted.
+# A record of a slice is repeated after its last one, and counted.
 # Diagnostics, and interned effects without a place in the order.
-def repeated(table, count):
+def repeated(slice, which):
     def act(lent, rng):
-        n = IN_USE[table](lent)[1]
-        if not 0 < n < table[1]:
+        n = IN_USE[slice](lent)[1]
+        if not 0 < n < slice.count:
             return False
-        put(lent.context, at(table, n), record_of(lent.context, table, rng.randrange(n)))
-        put(lent.context, count, [n + 1])
+        put_record(lent.tables, slice, n, record_of(lent.tables, slice, rng.randrange(n)))
+        lent.counts[which] = n + 1
         return True
     return act
 
@@ -290,14 +391,14 @@ def repeated(table, count):
 def doubled(change):
     def act(lent, rng):
         n, order = interned(lent), order_of(lent, EFFECT_ORDER)
-        copies = [(j, change(lent, record_of(lent.context, INTERNED, k))) for j, k in enumerate(order)]
+        copies = [(j, change(lent, record_of(lent.tables, INTERNED, k))) for j, k in enumerate(order)]
         fit = [(j, words) for j, words in copies if words is not None]
-        if not fit or n == INTERNED[1]:
+        if not fit or n == INTERNED.count:
             return False
         j, words = rng.choice(fit)
-        put(lent.context, at(INTERNED, n), words)
-        put(lent.context, INTERNED_COUNT, [n + 1])
-        put(lent.context, at(EFFECT_ORDER, 0), order[:j + 1] + [n] + order[j + 1:])
+        put_record(lent.tables, INTERNED, n, words)
+        lent.counts[INTERNED_COUNT] = n + 1
+        put(lent.tables[EFFECT_ORDER], 0, order[:j + 1] + [n] + order[j + 1:])
         return True
     return act
 
@@ -321,32 +422,32 @@ def with_reason(lent, words):
 # An Impure gets a diagnostic of a higher identity.
 # The first one of the table.
 def with_diagnostic(lent, words):
-    found = [(record_of(lent.context, DIAGNOSTICS, d)[0], d) for d in range(diagnostics(lent))]
+    found = [(record_of(lent.tables, DIAGNOSTICS, d)[0], d) for d in range(diagnostics(lent))]
     higher = [(identity, d) for identity, d in found if words[0] == IMPURE and identity > words[IDENTITY]]
     return words[:IDENTITY] + list(higher[0]) + words[INSTANCE + 1:] if higher else None
 
 
 # An order gets other places from the old ones, where there are two or more.
 # A change gets their list and chance.
-def reordered(table, change):
+def reordered(slice, change):
     def act(lent, rng):
-        order = order_of(lent, table)
+        order = order_of(lent, slice)
         if len(order) < 2:
             return False
-        put(lent.context, at(table, 0), change(order, rng))
+        put(lent.tables[slice], 0, change(order, rng))
         return True
     return act
 
 
 # A place of an order, counted from its first or from its last, becomes a number that follows from the job.
 # Where there is one.
-def placed(table, j, number):
+def placed(slice, j, number):
     def act(lent, rng):
-        order = order_of(lent, table)
+        order = order_of(lent, slice)
         if not order:
             return False
         order[j] = number(lent)
-        put(lent.context, at(table, 0), order)
+        put(lent.tables[slice], 0, order)
         return True
     return act
 
@@ -369,31 +470,31 @@ def named_again(order, rng):
 # Only where the call is accepted with the two in their order.
 def disordered(first, second):
     def act(lent, rng):
-        effects = [record_of(lent.context, INTERNED, k) for k in range(interned(lent))]
+        effects = [record_of(lent.tables, INTERNED, k) for k in range(interned(lent))]
         n = len(effects)
-        if n + 2 > INTERNED[1]:
+        if n + 2 > INTERNED.count:
             return False
-        put_interned(lent.context, effects + [[words.get(w, 0) for w in range(EFFECT)] for words in (first, second)])
+        put_interned(lent, effects + [[words.get(w, 0) for w in range(EFFECT)] for words in (first, second)])
         widen(lent)
         if call_class(lent):
             return False
-        put(lent.context, at(EFFECT_ORDER, 0), [{n: n + 1, n + 1: n}.get(k, k) for k in order_of(lent, EFFECT_ORDER)])
+        put(lent.tables[EFFECT_ORDER], 0, [{n: n + 1, n + 1: n}.get(k, k) for k in order_of(lent, EFFECT_ORDER)])
         return True
     return act
 
 
 # Two records that an order names exchanged, or one of them put in the place of both; the order stays.
 # Every record is right.
-def records_changed(order, table, both):
+def records_changed(order, slice, both):
     def act(lent, rng):
         numbers = order_of(lent, order)
         if len(numbers) < 2:
             return False
         a, b = rng.sample(sorted(numbers), 2)
-        first, second = (record_of(lent.context, table, k) for k in (a, b))
-        put(lent.context, at(table, a), second)
+        first, second = (record_of(lent.tables, slice, k) for k in (a, b))
+        put_record(lent.tables, slice, a, second)
         if both:
-            put(lent.context, at(table, b), first)
+            put_record(lent.tables, slice, b, first)
         return True
     return act
 
@@ -413,18 +514,18 @@ def uncounted_effect(last):
 # Its words alone are too many.
 def left_over(lent, rng):
     order = order_of(lent, EFFECT_ORDER)
-    put(lent.context, at(EFFECT_ORDER, 0), [k for k in order if k != len(order) - 1] + [0] * bool(order))
+    put(lent.tables[EFFECT_ORDER], 0, [k for k in order if k != len(order) - 1] + [0] * bool(order))
     return uncounted(INTERNED, INTERNED_COUNT)(lent, rng)
 
 
-# The count of a table falls by one.
+# The count of a slice falls by one.
 # The words of its last record then have no use.
-def uncounted(table, count):
+def uncounted(slice, which):
     def act(lent, rng):
-        n = IN_USE[table](lent)[1]
-        if n == 0 or not any(record_of(lent.context, table, n - 1)):
+        n = IN_USE[slice](lent)[1]
+        if n == 0 or not any(record_of(lent.tables, slice, n - 1)):
             return False
-        put(lent.context, count, [n - 1])
+        lent.counts[which] = n - 1
         return True
     return act
 
@@ -439,8 +540,8 @@ def two_numbers(lent, rng):
 # The order of the cached keys and their count become those given.
 # Words that the old order had more become zero.
 def put_order(lent, order):
-    put(lent.context, at(KEY_ORDER, 0), order + [0] * max(0, cached(lent) - len(order)))
-    put(lent.context, KEY_COUNT, [len(order)])
+    put(lent.tables[KEY_ORDER], 0, order + [0] * max(0, cached(lent) - len(order)))
+    lent.counts[KEY_COUNT] = len(order)
 
 
 # A number without a key gets the key of another; the order is made from the old one, the place of the key in it and the number, or stays.
@@ -451,7 +552,7 @@ def repeated_key(change=None):
         if found is None:
             return False
         number, other = found
-        put(lent.context, at(CACHED, other), record_of(lent.context, CACHED, number))
+        put_record(lent.tables, CACHED, other, record_of(lent.tables, CACHED, number))
         if change:
             order = order_of(lent, KEY_ORDER)
             put_order(lent, change(order, order.index(number), other))
@@ -468,8 +569,8 @@ def moved_key(first):
             return False
         number, other = found
         number = order_of(lent, KEY_ORDER)[0] if first else number
-        put(lent.context, at(CACHED, other), record_of(lent.context, CACHED, number))
-        put(lent.context, at(CACHED, number), [0] * KEY)
+        put_record(lent.tables, CACHED, other, record_of(lent.tables, CACHED, number))
+        put_record(lent.tables, CACHED, number, [0] * KEY)
         return True
     return act
 
@@ -480,7 +581,7 @@ def key_gone(lent, rng):
     number = some_record(lent, rng, CACHED, lambda r: r[0])
     if number is None:
         return False
-    put(lent.context, at(CACHED, number), [0] * KEY)
+    put_record(lent.tables, CACHED, number, [0] * KEY)
     return True
 
 
@@ -538,8 +639,8 @@ def key_at_next(lent, rng):
     if next_number(lent) >= OWN:
         return False
     keys = keys_of(lent) + [(next_number(lent), key_words(KEY_ASSIGN_COPY, 0, 0, 0, 0, 0, []))]
-    put(lent.context, at(CACHED, keys[-1][0]), keys[-1][1])
-    put_key_order(lent.context, keys)
+    put_record(lent.tables, CACHED, *keys[-1])
+    put_key_order(lent, keys)
     return N(lent) > 0
 
 
@@ -548,8 +649,8 @@ def key_at_next(lent, rng):
 def keys_added(lent, added, after):
     keys = keys_of(lent) + added
     for v, words in keys:
-        put(lent.context, at(CACHED, v), words)
-    put_key_order(lent.context, keys)
+        put_record(lent.tables, CACHED, v, words)
+    put_key_order(lent, keys)
     lent.session[0] = after
     return after <= MAX_NEXT and call_class(lent) == 0
 
@@ -561,7 +662,7 @@ def disordered_keys(first, second):
         n = next_number(lent)
         if not keys_added(lent, [(n, key_words(*second)), (n + 1, key_words(*first))], n + 2):
             return False
-        put(lent.context, at(KEY_ORDER, 0), [{n: n + 1, n + 1: n}.get(v, v) for v in order_of(lent, KEY_ORDER)])
+        put(lent.tables[KEY_ORDER], 0, [{n: n + 1, n + 1: n}.get(v, v) for v in order_of(lent, KEY_ORDER)])
         return True
     return act
 
@@ -583,9 +684,15 @@ def misnumbered(lent, rng):
     fit = sorted(set(range(diagnostics(lent))) - named(lent))
     if not fit:
         return False
-    k = at(DIAGNOSTICS, rng.choice(fit))
-    put(lent.context, k, [lent.context.get(k, 0) + 1])
+    k, table = at(DIAGNOSTICS, rng.choice(fit)), lent.tables[DIAGNOSTICS]
+    put(table, k, [table.get(k, 0) + 1])
     return True
+
+
+# An effect of a code with anything in it.
+# Every other word is FFFFFFFF.
+def anything(code):
+    return [code] + [FULL] * (EFFECT - 1)
 
 
 # A candidate becomes an Apply, and its other words anything.
@@ -595,19 +702,19 @@ def applied(which, garbage):
         n = candidates(lent)
         if n == 0:
             return False
-        k = at(CANDIDATES, which(n, rng))
-        put(lent.instructions[0].candidates, k, [APPLY] + [FULL] * (EFFECT - 1) if garbage else [APPLY])
+        k, tables = which(n, rng), lent.instructions[0].tables
+        put_record(tables, CANDIDATES, k, anything(APPLY) if garbage else [APPLY] + record_of(tables, CANDIDATES, k)[1:])
         return True
     return act
 
 
-# There are 66 candidates, and all after the 64th have the words given.
+# There are 66 candidates, and all after the 64th are one given.
 # "above its limit": they are not looked at.
 def too_many(words):
     def act(lent, rng):
         lent.instructions[0].length = 66 * EFFECT
         for k in (64, 65):
-            put(lent.instructions[0].candidates, k * EFFECT, words + [FULL] * (EFFECT - len(words)))
+            put_record(lent.instructions[0].tables, CANDIDATES, k, words)
         return True
     return act
 
@@ -619,23 +726,17 @@ def unknown(number):
         n = candidates(lent)
         if n == 0:
             return False
-        put(lent.instructions[0].candidates, at(CANDIDATES, rng.randrange(n)), [number] + [FULL] * (EFFECT - 1))
+        put_record(lent.instructions[0].tables, CANDIDATES, rng.randrange(n), anything(number))
         return True
     return act
-
-
-# The last word that is lent of a context becomes 1, where no interned effect can have it.
-# There is a candidate, so that there is room for another effect.
-def last_word(lent, rng):
-    put(lent.context, lent.lengths[CONTEXT_LENGTH] - 1, [1])
-    return candidates(lent) > 0
 
 
 # Every candidate becomes an Apply.
 # Nothing else of the list is then tested.
 def all_applied(lent, rng):
+    tables = lent.instructions[0].tables
     for k in range(candidates(lent)):
-        put(lent.instructions[0].candidates, at(CANDIDATES, k), [APPLY])
+        put_record(tables, CANDIDATES, k, [APPLY] + record_of(tables, CANDIDATES, k)[1:])
     return candidates(lent) > 1
 
 
@@ -662,8 +763,8 @@ NO_MORE = lambda r: r[0] == CREATE_FUNCTION and r[CAPTURES] < MAX_CAPTURES
 
 # Damages of the words of an effect, in the table of interned ones or among candidates.
 # The same words stand in both.
-def of_effects(name, table):
-    return [(name + ": " + label, expected, field(table, w, number, test)) for label, expected, w, number, test in [
+def of_effects(name, slice):
+    return [(name + ": " + label, expected, field(slice, w, number, test)) for label, expected, w, number, test in [
         ("17 captures", 2, CAPTURES, 17, code(CREATE_FUNCTION)),
         ("code 18", 3, 0, 18, lambda r: True),
         ("code FFFFFFFF", 3, 0, FULL, lambda r: True),
@@ -694,23 +795,23 @@ def of_effects(name, table):
 
 # Damages of an order: of the interned effects, or of the cached keys.
 # What a place may name lies below a bound.
-def of_order(name, table, records, bound):
+def of_order(name, slice, records, bound):
     return [(name + ": " + label, expected, act) for label, expected, act in [
-        ("a place not in the list", 3, field(table, 0, bound)),
-        ("a place FFFFFFFF", 3, field(table, 0, FULL)),
-        ("the first place not in the list", 3, placed(table, 0, bound)),
-        ("the last place not in the list", 3, placed(table, -1, bound)),
-        ("after the last place", 4, after(table)),
-        ("the last word", 4, lambda t, r: IN_USE[table](t)[1] < table[1] and word(at(table, table[1] - 1), 1)(t, r)),
-        ("two records equal, the order as before", 4, records_changed(table, records, False)),
-        ("two records exchanged, the order as before", 4, records_changed(table, records, True)),
-        ("two places exchanged", 4, reordered(table, exchanged)),
-        ("the first two places exchanged", 4, reordered(table, lambda order, rng: order[1::-1] + order[2:])),
-        ("the last two places exchanged", 4, reordered(table, lambda order, rng: order[:-2] + order[:-3:-1])),
-        ("backwards", 4, reordered(table, lambda order, rng: order[::-1])),
-        ("every place 0", 4, reordered(table, lambda order, rng: [0] * len(order))),
-        ("a place twice", 4, reordered(table, named_again)),
-        ("the last place as the first", 4, reordered(table, lambda order, rng: order[:-1] + order[:1])),
+        ("a place not in the list", 3, field(slice, 0, bound)),
+        ("a place FFFFFFFF", 3, field(slice, 0, FULL)),
+        ("the first place not in the list", 3, placed(slice, 0, bound)),
+        ("the last place not in the list", 3, placed(slice, -1, bound)),
+        ("after the last place", 4, after(slice)),
+        ("the last word", 4, last_word(slice)),
+        ("two records equal, the order as before", 4, records_changed(slice, records, False)),
+        ("two records exchanged, the order as before", 4, records_changed(slice, records, True)),
+        ("two places exchanged", 4, reordered(slice, exchanged)),
+        ("the first two places exchanged", 4, reordered(slice, lambda order, rng: order[1::-1] + order[2:])),
+        ("the last two places exchanged", 4, reordered(slice, lambda order, rng: order[:-2] + order[:-3:-1])),
+        ("backwards", 4, reordered(slice, lambda order, rng: order[::-1])),
+        ("every place 0", 4, reordered(slice, lambda order, rng: [0] * len(order))),
+        ("a place twice", 4, reordered(slice, named_again)),
+        ("the last place as the first", 4, reordered(slice, lambda order, rng: order[:-1] + order[:1])),
     ]]
 
 
@@ -718,16 +819,16 @@ def of_order(name, table, records, bound):
 # Each of the order's own tests alone, where one alone can fail.
 def of_keys():
     return [("keys: " + label, expected, act) for label, expected, act in [
-        ("512 counted", 2, word(KEY_COUNT, 512)),
-        ("600 counted", 2, word(KEY_COUNT, 600)),
-        ("FFFFFFFF counted", 2, word(KEY_COUNT, FULL)),
+        ("512 counted", 2, count(KEY_COUNT, 512)),
+        ("600 counted", 2, count(KEY_COUNT, 600)),
+        ("FFFFFFFF counted", 2, count(KEY_COUNT, FULL)),
         ("a place 512", 3, field(KEY_ORDER, 0, 512)),
         ("next at a number with a key", 3, next_at_key),
         ("one of the next number, counted and in its place", 3, key_at_next),
-        ("511 counted that are not there", 4, lambda t, r: cached(t) < 511 and word(KEY_COUNT, 511)(t, r)),
-        ("one more counted", 4, lambda t, r: cached(t) < 511 and word(KEY_COUNT, cached(t) + 1)(t, r)),
-        ("one less counted", 4, lambda t, r: cached(t) > 0 and word(KEY_COUNT, cached(t) - 1)(t, r)),
-        ("none counted", 4, lambda t, r: cached(t) > 0 and word(KEY_COUNT, 0)(t, r)),
+        ("511 counted that are not there", 4, lambda t, r: cached(t) < 511 and count(KEY_COUNT, 511)(t, r)),
+        ("one more counted", 4, lambda t, r: cached(t) < 511 and count(KEY_COUNT, cached(t) + 1)(t, r)),
+        ("one less counted", 4, lambda t, r: cached(t) > 0 and count(KEY_COUNT, cached(t) - 1)(t, r)),
+        ("none counted", 4, lambda t, r: cached(t) > 0 and count(KEY_COUNT, 0)(t, r)),
         ("none counted, no order", 4, lambda t, r: cached(t) > 0 and put_order(t, []) is None),
         ("one taken away", 4, key_gone),
         ("one moved to another number", 4, moved_key(False)),
@@ -795,75 +896,112 @@ def of_parts():
     ]]
 
 
+# Damages of the length of each slice of a context; scratch is as long as the slices ask.
+# Those that have one length, and those that follow from what is in use.
+def of_lengths():
+    out = []
+    for slice in CONTEXT_SLICES:
+        wide, changes = slice.width > 1 and slice is not DIAGNOSTICS, [("none", lambda n, s: 0)]
+        if slice not in ROOMS:
+            changes += [("one short", lambda n, s: n - 1), ("one long", lambda n, s: n + 1), ("half", lambda n, s: n // 2)]
+            changes += [("a record short", lambda n, s: n - s.width), ("a record long", lambda n, s: n + s.width)] * wide
+        else:
+            changes += [("the largest, one long", lambda n, s: most(s) + 1)]
+            changes += [("a word short", lambda n, s: n - 1), ("a word long", lambda n, s: n + 1), ("a word", lambda n, s: 1),
+                        ("half a record less", lambda n, s: n - s.width // 2), ("half a record more", lambda n, s: n + s.width // 2),
+                        ("the largest, a word short", lambda n, s: most(s) - 1), ("the largest, a record long", lambda n, s: most(s) + s.width)] * wide
+            out.append((slice.name + ": a record short", 1, short_of_one([slice])))
+        for label, change in changes:
+            act = resized(slice, lambda n, s=slice, change=change: change(n, s))
+            out.append((slice.name + ": " + label, 1, lambda t, r, s=slice, act=act: (s not in ROOMS or least(t)[s] > 0) and act(t, r)))
+    return out
+
+
+# Damages that ask for more records than are lent: of effects and their order, or of functions and their context places.
+# Of both slices, or of one of them while the other is long enough.
+def of_rooms():
+    effects, functions_ = (INTERNED, EFFECT_ORDER), (FUNCTIONS, CONTEXTS)
+    captures = lambda n: field(CANDIDATES, CAPTURES, n, code(CREATE_FUNCTION))
+    out = [(label + ", room for as many as before", 1, outgrown(slices, act)) for label, slices, act in [
+        ("17 captures of a candidate", effects, captures(17)),
+        ("captures FFFFFFFF of a candidate", effects, captures(FULL)),
+        ("captures 40000000 of a candidate", effects, captures(1 << 30)),
+        ("65 candidates", effects, candidates_length(lambda n: 65 * EFFECT)),
+        ("interned effects FFFFFFFF", effects, count(INTERNED_COUNT, FULL)),
+        ("2,048 interned effects", effects, count(INTERNED_COUNT, 2048)),
+        ("2,049 interned effects", effects, count(INTERNED_COUNT, 2049)),
+        ("64 functions", functions_, count(FUNCTION_COUNT, 64)),
+        ("65 functions", functions_, count(FUNCTION_COUNT, 65)),
+        ("functions FFFFFFFF", functions_, count(FUNCTION_COUNT, FULL)),
+    ]]
+    out += [(label + ", room for " + name + " as before", 1, outgrown(slices, act)) for label, both, act in [
+        ("a candidate that is a Freeze becomes a Capture", effects, field(CANDIDATES, 0, CAPTURE, code(FREEZE))),
+        ("an interned effect counted that is none", effects, count(INTERNED_COUNT, lambda t: interned(t) + 1)),
+        ("a function more counted", functions_, count(FUNCTION_COUNT, lambda t: functions(t) + 1)),
+    ] for slices, name in ((both, "as many"), (both[:1], both[0].name + " alone"), (both[1:], both[1].name + " alone"))]
+    out += [("%d candidates, a record short" % n, 1, short_of_one(effects, candidates_length(lambda _, n=n: n * EFFECT))) for n in (65, 66)]
+    for label, acts, both, n in [
+        ("captures FFFFFFFF of a candidate", [captures(FULL)], effects, 2047),
+        ("interned effects FFFFFFFF", [count(INTERNED_COUNT, FULL)], effects, 2047),
+        ("2,047 interned effects", [count(INTERNED_COUNT, 2047), lambda t, r: candidates(t) > 0], effects, 2047),
+        ("functions FFFFFFFF", [count(FUNCTION_COUNT, FULL)], functions_, 63),
+        ("64 functions", [count(FUNCTION_COUNT, 64)], functions_, 63),
+    ]:
+        for slices in (both, both[:1], both[1:]):
+            where = ", room for %s in %s" % (format(n, ","), " and ".join(s.name for s in slices))
+            out.append((label + where, 1, together(*acts, largest(), room(slices, n))))
+    return out
+
+
 # Name, class and damage of every way to spoil a call.
 # A class is what document 01 and DECISIONS 14 and 24 give it.
 DAMAGES = [
-    ("values one short", 1, length(VALUES_LENGTH, lambda n: n - 1)),
-    ("values one long", 1, length(VALUES_LENGTH, lambda n: n + 1)),
-    ("no values", 1, length(VALUES_LENGTH, lambda n: 0)),
-    ("sets one short", 1, lambda t, r: N(t) > 0 and length(SETS_LENGTH, lambda n: n - 1)(t, r)),
-    ("sets one long", 1, length(SETS_LENGTH, lambda n: n + 1)),
-    ("sets one row long", 1, length(SETS_LENGTH, lambda n: n + ROW)),
+    ("values one short", 1, length(VALUES, lambda n: n - 1)),
+    ("values one long", 1, length(VALUES, lambda n: n + 1)),
+    ("no values", 1, length(VALUES, lambda n: 0)),
+    ("sets one short", 1, length(SETS, lambda n: n - 1)),
+    ("sets one long", 1, length(SETS, lambda n: n + 1)),
+    ("sets one row long", 1, length(SETS, lambda n: n + SETS.width)),
     ("513 rows", 1, rows(lambda n: 513 - n)),
-    ("context one short", 1, length(CONTEXT_LENGTH, lambda n: n - 1)),
-    ("context one long", 1, length(CONTEXT_LENGTH, lambda n: n + 1)),
-    ("context without its last effect", 1, lambda t, r: least_context(t) == t.lengths[CONTEXT_LENGTH] and length(CONTEXT_LENGTH, lambda n: n - EFFECT)(t, r)),
-    ("no context", 1, length(CONTEXT_LENGTH, lambda n: 0)),
-    ("context one record short", 1, short_of_one()),
-    ("context one short of just enough room", 1, lambda t, r: narrow()(t, r) and length(CONTEXT_LENGTH, lambda n: n - 1)(t, r)),
-    ("the largest context, one short", 1, length(CONTEXT_LENGTH, lambda n: LONG - 1)),
-    ("the largest context, one long", 1, length(CONTEXT_LENGTH, lambda n: LONG + 1)),
-    ("the largest context, one record long", 1, length(CONTEXT_LENGTH, lambda n: LONG + EFFECT)),
-    ("context with half a record more", 1, length(CONTEXT_LENGTH, lambda n: n - EFFECT // 2 if n == LONG else n + EFFECT // 2)),
-    ("context without room for an effect", 1, lambda t, r: least_context(t) > INTERNED[0] and length(CONTEXT_LENGTH, lambda n: INTERNED[0])(t, r)),
-    ("context with a part of its order", 1, length(CONTEXT_LENGTH, lambda n: INTERNED[0] - 1)),
-    ("context whole records below its order's end", 1, length(CONTEXT_LENGTH, lambda n: INTERNED[0] - EFFECT)),
-    ("context up to its count of interned effects", 1, length(CONTEXT_LENGTH, lambda n: INTERNED_COUNT)),
-    ("context of one word", 1, length(CONTEXT_LENGTH, lambda n: 1)),
-    ("17 captures of a candidate, room for as many as before", 1, outgrown(field(CANDIDATES, CAPTURES, 17, code(CREATE_FUNCTION)))),
-    ("captures FFFFFFFF of a candidate, room for as many as before", 1, outgrown(field(CANDIDATES, CAPTURES, FULL, code(CREATE_FUNCTION)))),
-    ("captures 40000000 of a candidate, room for as many as before", 1, outgrown(field(CANDIDATES, CAPTURES, 1 << 30, code(CREATE_FUNCTION)))),
-    ("captures FFFFFFFF of a candidate, room for 2,047", 1, outgrown(field(CANDIDATES, CAPTURES, FULL, code(CREATE_FUNCTION)), length(CONTEXT_LENGTH, lambda n: LONG - EFFECT))),
-    ("a candidate that is a Freeze becomes a Capture, room for as many as before", 1, outgrown(field(CANDIDATES, 0, CAPTURE, code(FREEZE)))),
-    ("65 candidates, room for as many as before", 1, outgrown(candidates_length(lambda n: 65 * EFFECT))),
-    ("65 candidates, one record short", 1, short_of_one(candidates_length(lambda n: 65 * EFFECT))),
-    ("66 candidates, one record short", 1, short_of_one(candidates_length(lambda n: 66 * EFFECT))),
-    ("an interned effect counted that is none, room for as many as before", 1, outgrown(word(INTERNED_COUNT, lambda t: interned(t) + 1))),
-    ("interned effects FFFFFFFF, room for as many as before", 1, outgrown(word(INTERNED_COUNT, FULL))),
-    ("interned effects FFFFFFFF, room for 2,047", 1, outgrown(word(INTERNED_COUNT, FULL), length(CONTEXT_LENGTH, lambda n: LONG - EFFECT))),
-    ("2,047 interned effects, room for 2,047", 1, lambda t, r: candidates(t) > 0 and outgrown(word(INTERNED_COUNT, 2047), length(CONTEXT_LENGTH, lambda n: LONG - EFFECT))(t, r)),
-    ("2,048 interned effects, room for as many as before", 1, outgrown(word(INTERNED_COUNT, 2048))),
-    ("2,049 interned effects, room for as many as before", 1, outgrown(word(INTERNED_COUNT, 2049))),
-    ("output one short", 1, length(OUTPUT_LENGTH, lambda n: n - 1)),
-    ("output one long", 1, length(OUTPUT_LENGTH, lambda n: n + 1)),
-    ("output one effect short", 1, length(OUTPUT_LENGTH, lambda n: n - EFFECT)),
-    ("no output", 1, length(OUTPUT_LENGTH, lambda n: 0)),
-    ("scratch of the state one short", 1, length(SCRATCH64_LENGTH, lambda n: n - 1)),
-    ("scratch of the state one long", 1, length(SCRATCH64_LENGTH, lambda n: n + 1)),
-    ("no scratch of the state", 1, length(SCRATCH64_LENGTH, lambda n: 0)),
-    ("scratch of the context one short", 1, length(SCRATCH32_LENGTH, lambda n: n - 1)),
-    ("scratch of the context one long", 1, length(SCRATCH32_LENGTH, lambda n: n + 1)),
-    ("no scratch of the context", 1, length(SCRATCH32_LENGTH, lambda n: 0)),
+    ("513 rows, the largest slices", 1, largest(rows(lambda n: 513 - n))),
+    ("no slice of the context has a word", 1, lambda t, r: all([resized(s, lambda n: 0)(t, r) for s in CONTEXT_SLICES if t.lengths[s]])),
+    ("output one short", 1, length(OUTPUT, lambda n: n - 1)),
+    ("output one long", 1, length(OUTPUT, lambda n: n + 1)),
+    ("output one effect short", 1, length(OUTPUT, lambda n: n - EFFECT)),
+    ("no output", 1, length(OUTPUT, lambda n: 0)),
+    ("scratch of the state one short", 1, length(SCRATCH64, lambda n: n - 1)),
+    ("scratch of the state one long", 1, length(SCRATCH64, lambda n: n + 1)),
+    ("no scratch of the state", 1, length(SCRATCH64, lambda n: 0)),
+    ("scratch of the context one short", 1, length(SCRATCH32, lambda n: n - 1)),
+    ("scratch of the context one long", 1, length(SCRATCH32, lambda n: n + 1)),
+    ("no scratch of the context", 1, length(SCRATCH32, lambda n: 0)),
+    ("scratch of the context as of the largest", 1, length(SCRATCH32, lambda n: SCRATCH32.count)),
+    ("the largest context places, scratch as before", 1, scratch_as_before(room([CONTEXTS], CONTEXTS.count))),
+    ("the largest order of the effects, scratch as before", 1, scratch_as_before(room([EFFECT_ORDER], EFFECT_ORDER.count))),
+    ("the largest slices, scratch as before", 1, scratch_as_before(largest())),
+    ("just enough room, scratch as before", 1, scratch_as_before(narrow())),
     ("candidates one short", 1, candidates_length(lambda n: n - 1)),
     ("candidates one long", 1, candidates_length(lambda n: n + 1)),
-    ("a row more than identifiers", 2, lambda t, r: N(t) < 512 and rows(lambda n: 1)(t, r)),
-    ("a row less than identifiers", 2, rows(lambda n: -1)),
-    ("no rows", 2, lambda t, r: N(t) > 0 and rows(lambda n: -n)(t, r)),
-    ("an identifier more than rows", 2, word(IDENTIFIER_COUNT, lambda t: N(t) + 1)),
-    ("identifiers FFFFFFFF", 2, word(IDENTIFIER_COUNT, FULL)),
-    ("65 functions", 2, word(FUNCTION_COUNT, 65)),
-    ("functions FFFFFFFF", 2, word(FUNCTION_COUNT, FULL)),
-    ("2,049 interned effects", 2, word(INTERNED_COUNT, 2049)),
-    ("interned effects FFFFFFFF", 2, word(INTERNED_COUNT, FULL)),
-    ("2,049 interned effects, the largest context", 2, largest(word(INTERNED_COUNT, 2049))),
-    ("interned effects FFFFFFFF, the largest context", 2, largest(word(INTERNED_COUNT, FULL))),
-    ("captures FFFFFFFF of a candidate, the largest context", 2, largest(field(CANDIDATES, CAPTURES, FULL, code(CREATE_FUNCTION)))),
-    ("captures 40000000 of a candidate, the largest context", 2, largest(field(CANDIDATES, CAPTURES, 1 << 30, code(CREATE_FUNCTION)))),
+    ("a row more than identifiers", 1, lambda t, r: N(t) < 512 and outgrown([IDENTIFIERS], rows(lambda n: 1))(t, r)),
+    ("a row less, the last identifier the lvalue", 3, lambda t, r: rows(lambda n: -1)(t, r) and t.instructions[0].lvalue[0] == N(t)),
+    ("a row less, the last identifier's record not zero", 4, row_gone),
+    ("no rows", 3, lambda t, r: N(t) > 0 and rows(lambda n: -n)(t, r)),
+    ("65 functions", 2, count(FUNCTION_COUNT, 65)),
+    ("functions FFFFFFFF", 2, count(FUNCTION_COUNT, FULL)),
+    ("65 functions, the largest slices", 2, largest(count(FUNCTION_COUNT, 65))),
+    ("65 functions, just enough room", 2, narrow(count(FUNCTION_COUNT, 65))),
+    ("2,049 interned effects", 2, count(INTERNED_COUNT, 2049)),
+    ("interned effects FFFFFFFF", 2, count(INTERNED_COUNT, FULL)),
+    ("2,049 interned effects, the largest slices", 2, largest(count(INTERNED_COUNT, 2049))),
+    ("interned effects FFFFFFFF, the largest slices", 2, largest(count(INTERNED_COUNT, FULL))),
+    ("captures FFFFFFFF of a candidate, the largest slices", 2, largest(field(CANDIDATES, CAPTURES, FULL, code(CREATE_FUNCTION)))),
+    ("captures 40000000 of a candidate, the largest slices", 2, largest(field(CANDIDATES, CAPTURES, 1 << 30, code(CREATE_FUNCTION)))),
     ("17 captures of a candidate, just enough room", 2, narrow(field(CANDIDATES, CAPTURES, 17, code(CREATE_FUNCTION)))),
     ("65 candidates, just enough room", 2, narrow(candidates_length(lambda n: 65 * EFFECT))),
-    ("66 candidates, the last two with captures FFFFFFFF, just enough room", 2, narrow(too_many([CREATE_FUNCTION]))),
-    ("66 candidates, the last two Captures, just enough room", 2, narrow(too_many([CAPTURE]))),
-    ("257 diagnostics", 2, word(DIAGNOSTIC_COUNT, 257)),
+    ("66 candidates, the last two with captures FFFFFFFF, just enough room", 2, narrow(too_many(anything(CREATE_FUNCTION)))),
+    ("66 candidates, the last two Captures, just enough room", 2, narrow(too_many(anything(CAPTURE)))),
+    ("257 diagnostics", 2, count(DIAGNOSTIC_COUNT, 257)),
+    ("diagnostics FFFFFFFF", 2, count(DIAGNOSTIC_COUNT, FULL)),
     ("65 candidates", 2, candidates_length(lambda n: 65 * EFFECT)),
     ("17 context places", 2, field(FUNCTIONS, 1, 17)),
     ("33 places mutated inside", 2, field(FUNCTIONS, 2, 33)),
@@ -881,7 +1019,7 @@ DAMAGES = [
     ("reason bit 12 of an entry", 3, entry(lambda x: x | 1 << 15)),
     ("the highest bit of an entry", 3, entry(lambda x: x | 1 << 63)),
     ("a member past the last identifier's", 3, member(1, lambda t: OWN + N(t))),
-    ("options 4", 3, word(OPTIONS, 4)),
+    ("options 4", 3, count(OPTIONS, 4)),
     ("flags 4 of an identifier", 3, field(IDENTIFIERS, 0, 4)),
     ("name 513 of an identifier", 3, field(IDENTIFIERS, 1, 513)),
     ("flags 4 of a function", 3, field(FUNCTIONS, 0, 4)),
@@ -934,18 +1072,28 @@ DAMAGES = [
     ("after the last key", 4, after(CACHED)),
     ("after the last diagnostic", 4, after(DIAGNOSTICS)),
     ("after the last interned effect", 4, after(INTERNED)),
+    ("the last word of identifiers", 4, last_word(IDENTIFIERS)),
+    ("the last word of functions", 4, last_word(FUNCTIONS)),
+    ("the last word of context places", 4, last_word(CONTEXTS)),
+    ("the last word of the largest identifiers", 4, largest(last_word(IDENTIFIERS))),
+    ("the last word of the largest functions", 4, largest(last_word(FUNCTIONS))),
+    ("the last word of the largest context places", 4, largest(last_word(CONTEXTS))),
+    ("the last word of links", 4, last_word(LINKS)),
+    ("the last word of keys", 4, last_word(CACHED)),
+    ("the last word of diagnostics", 4, last_word(DIAGNOSTICS)),
+    ("the last word of effects", 4, last_word(INTERNED)),
+    ("the last word of the largest effects", 4, largest(last_word(INTERNED))),
+    ("the last word of their largest order", 4, largest(last_word(EFFECT_ORDER))),
+    ("the last word of effects, just enough room", 4, lambda t, r: narrow()(t, r) and last_word(INTERNED)(t, r)),
     ("an interned effect not counted, the last of the order", 4, uncounted_effect(True)),
     ("an interned effect not counted, not in the order", 4, left_over),
     ("a diagnostic not counted", 4, lambda t, r: diagnostics(t) - 1 not in named(t) and uncounted(DIAGNOSTICS, DIAGNOSTIC_COUNT)(t, r)),
-    ("a diagnostic counted that is none", 4, lambda t, r: N(t) > 0 and word(DIAGNOSTIC_COUNT, diagnostics(t) + 1)(t, r)),
-    ("the last word of the context", 4, last_word),
-    ("the last word of the largest context", 4, largest(last_word)),
-    ("the last word of the context, just enough room", 4, lambda t, r: narrow()(t, r) and last_word(t, r)),
+    ("a diagnostic counted that is none", 4, lambda t, r: N(t) > 0 and count(DIAGNOSTIC_COUNT, diagnostics(t) + 1)(t, r)),
     ("a word after the places mutated inside", 4, field(FUNCTIONS, 162, 1, lambda r: r[2] < MAX_MUTATED)),
     ("a word after the context places", 4, field(CONTEXTS, 79, 1, lambda r: not any(r[75:]))),
     ("a function of no link", 4, field(LINKS, 1, 1, lambda r: r[0] == 0)),
-    ("a link of number 0", 4, word(LINKS[0], 1)),
-    ("a key of number 0", 4, word(CACHED[0], 1)),
+    ("a link of number 0", 4, word(LINKS, 0, 1)),
+    ("a key of number 0", 4, word(CACHED, 0, 1)),
     ("a code of no key", 4, field(CACHED, 1, CREATE, lambda r: r[0] == 0)),
     ("kind of a key that has none", 4, field(CACHED, 6, 1, key(CREATE_FROM, CREATE_FUNCTION, KEY_ASSIGN_FROZEN, KEY_ASSIGN_COPY))),
     ("identity of a key", 4, field(CACHED, 10, 1, lambda r: r[0] == 1)),
@@ -969,22 +1117,22 @@ DAMAGES = [
     ("a candidate an Apply with anything in it, just enough room", 5, narrow(applied(lambda n, rng: rng.randrange(n), True))),
     ("every candidate an Apply, just enough room", 5, narrow(all_applied)),
 ] + of_order("order", EFFECT_ORDER, INTERNED, interned) + of_parts()
-DAMAGES += of_order("key order", KEY_ORDER, CACHED, next_number) + of_key_parts() + of_keys()
+DAMAGES += of_order("key order", KEY_ORDER, CACHED, next_number) + of_key_parts() + of_keys() + of_lengths() + of_rooms()
 DAMAGES += of_effects("interned", INTERNED) + of_effects("candidate", CANDIDATES)
 
 # Two damages in places that do not meet: the lower class wins.
 # Named by their names above.
 PAIRS = [
-    ("values one short", "65 functions"), ("candidates one long", "next 0"), ("output one short", "the last word of the context"),
+    ("values one short", "65 functions"), ("candidates one long", "next 0"), ("output one short", "the last word of effects"),
     ("scratch of the state one long", "the first candidate an Apply"), ("65 functions", "next 0"),
-    ("2,049 interned effects", "the last word of the context"), ("257 diagnostics", "the first candidate an Apply"),
-    ("options 4", "the last word of the context"), ("next 513", "the last word of the context"), ("options 4", "the first candidate an Apply"),
+    ("2,049 interned effects", "the last word of links"), ("257 diagnostics", "the first candidate an Apply"),
+    ("options 4", "the last word of effects"), ("next 513", "the last word of effects"), ("options 4", "the first candidate an Apply"),
     ("own function not in the list", "a candidate an Apply with anything in it"), ("lvalue's effect 8", "reasons without an entry"),
-    ("the last word of the context", "the first candidate an Apply"), ("after the last diagnostic", "the last candidate an Apply"),
+    ("the last word of effects", "the first candidate an Apply"), ("after the last diagnostic", "the last candidate an Apply"),
     ("reasons at number 0", "a candidate an Apply with anything in it"), ("65 functions", "order: a place not in the list"),
-    ("order: a place FFFFFFFF", "the last word of the context"), ("options 4", "order: two places exchanged"),
+    ("order: a place FFFFFFFF", "the last word of effects"), ("options 4", "order: two places exchanged"),
     ("order: a place not in the list", "the first candidate an Apply"), ("order: two places exchanged", "the first candidate an Apply"),
-    ("keys: 512 counted", "next 0"), ("65 functions", "key order: a place not in the list"), ("key order: a place FFFFFFFF", "the last word of the context"),
+    ("keys: 512 counted", "next 0"), ("65 functions", "key order: a place not in the list"), ("key order: a place FFFFFFFF", "the last word of effects"),
     ("options 4", "key order: two places exchanged"), ("key order: two places exchanged", "keys: 600 counted"), ("key order: two places exchanged", "the first candidate an Apply"),
     ("keys: one left out and not counted", "the first candidate an Apply"), ("keys: one left out and not counted", "order: a place not in the list"),
     ("17 captures of a key", "keys: one less counted"), ("keys: 512 counted", "output one short"),
@@ -998,9 +1146,11 @@ PAIRS = [
 def base(lent):
     out = Lent()
     first = lent.instructions[0]
-    out.lengths, out.flag, out.session = list(lent.lengths), lent.flag, list(lent.session)
-    out.values, out.sets, out.context = dict(lent.values), dict(lent.sets), dict(lent.context)
-    out.instructions = [Instruction(list(first.lvalue), first.own, first.length, dict(first.candidates))]
+    out.lengths, out.flag, out.session = dict(lent.lengths), lent.flag, list(lent.session)
+    out.counts, out.tables = dict(lent.counts), {s: dict(table) for s, table in lent.tables.items()}
+    instruction = Instruction(list(first.lvalue), first.own, first.length)
+    instruction.tables[CANDIDATES] = dict(first.tables[CANDIDATES])
+    out.instructions = [instruction]
     return out
 
 
@@ -1010,19 +1160,19 @@ def cut(table, n):
     return {k: x for k, x in table.items() if k < n}
 
 
-# A damaged job whole: nothing stands past the lengths, and at the end all is as before.
+# A damaged job whole: nothing stands past the lengths, and at the end all is as before, effects and their order by their places.
 # "After a refusal state, context and session are as before; output list and scratch are zero."
 def refused(lent, number):
-    lent.values, lent.sets, lent.context = (cut(t, lent.lengths[k]) for k, t in enumerate((lent.values, lent.sets, lent.context)))
+    lent.tables = {s: cut(table, words_of_length(s, lent.lengths[s])) for s, table in lent.tables.items()}
     instruction = lent.instructions[0]
-    instruction.candidates = cut(instruction.candidates, instruction.length)
+    instruction.tables[CANDIDATES] = cut(instruction.tables[CANDIDATES], instruction.length)
     instruction.refusal = number
-    limit = max(LONG, lent.lengths[CONTEXT_LENGTH])
-    lent.end = End(lent.flag, list(lent.session), dict(lent.values), dict(lent.sets), limit, dict(lent.context), [])
+    lent.end = End(lent.flag, lent.session)
+    lent.end.counts, lent.end.tables = lent.counts, lent.tables
     return lent
 
 
-# One damaged job, or none where a damage does not apply to it; a context has the room for it, unless its length is the damage.
+# One damaged job, or none where a damage does not apply to it; the slices have the room for it, unless their length is the damage.
 # The stated class must be the one that the plain test finds.
 def damaged(lent, acts, expected, name, rng):
     out = base(lent)

@@ -5,11 +5,12 @@
 ghost use Rattle.std.specs.Prelude.{◌≤◌, IfOk, length};
 
 use call_outcome::Applied;
-use def_effects::{Place, Session, Span};
+use def_effects::{Diagnostic, Place, Session, Span};
 use def_refusals::Refusal;
-use lent_slices::get_or;
+use lent_layout::{CANDIDATE_WORDS, Context, EFFECT_WORDS, INTERNED, MOST_SAVED, Numbered, OUTPUT_WORDS, UNUSED};
+use lent_slices::{get_or, set};
+use lent_tables::Table;
 use refuse_context::context_class;
-use refuse_instruction::Counts;
 use std::io::Read;
 use std::rt::Runtime;
 use std::{fs, io};
@@ -20,7 +21,7 @@ use test_bytes::{Reading, argument, read_full};
 struct Lent<'a> {
     values: &'a mut [u64],
     sets: &'a mut [u64],
-    context: &'a mut [u32],
+    context: Context<'a>,
     output: &'a mut [u32],
     scratch64: &'a mut [u64],
     scratch32: &'a mut [u32],
@@ -66,8 +67,8 @@ fn load<T: Word>(job: &mut Reading, list: &mut [T]) {
     }
 }
 
-// Whether the words of a list from one to before another are zero.
-// Lists that are shorter are zero past their end.
+// Whether the words of a list from one on and before another are zero.
+// Past the end of a list all is zero.
 fn is_zero<T: Word>(list: &[T], from: usize, to: usize) -> bool {
     let end = to.min(list.len());
     from >= end || list[from..end].iter().all(|x| *x == T::ZERO)
@@ -86,73 +87,174 @@ fn same_run<T: Word>(job: &mut Reading, list: &[T], done: usize) -> usize {
     first + n
 }
 
-// Compares the first `limit` words of a list with a table.
+// Compares a list with a table.
 // So nothing stands there but what is expected.
-fn same<T: Word>(job: &mut Reading, list: &[T], limit: usize) {
+fn same<T: Word>(job: &mut Reading, list: &[T]) {
     let mut done = 0;
     for _ in 0..job.word() {
         done = same_run(job, list, done);
     }
-    job.check(is_zero(list, done, limit));
+    job.check(is_zero(list, done, list.len()));
+}
+
+// ---- diagnostics, which a job writes as records of nine words
+
+// The records of a slice that is longer than can be lent.
+const RECORDS: Table = Table {
+    base: 0,
+    count: 258,
+    width: 9,
+};
+
+// The span of record k that begins at a word.
+fn span_of(words: &[u32], k: usize, w: u32) -> Span {
+    let w = w as usize;
+    Span {
+        start: RECORDS.field(words, k, w),
+        end: RECORDS.field(words, k, w + 1),
+    }
+}
+
+// Record k.
+fn numbered(words: &[u32], k: usize) -> Numbered {
+    Numbered {
+        identity: RECORDS.field(words, k, 0),
+        diagnostic: Diagnostic {
+            identifier: RECORDS.field(words, k, 1),
+            case: RECORDS.field(words, k, 2),
+            sentence: RECORDS.field(words, k, 3),
+            name: RECORDS.field(words, k, 4),
+            access: span_of(words, k, 5),
+            own: span_of(words, k, 7),
+        },
+    }
+}
+
+// The words of a record.
+fn numbers(x: Numbered) -> [u32; 9] {
+    let d = x.diagnostic;
+    [
+        x.identity,
+        d.identifier,
+        d.case,
+        d.sentence,
+        d.name,
+        d.access.start,
+        d.access.end,
+        d.own.start,
+        d.own.end,
+    ]
+}
+
+// Loads diagnostics.
+// Each record of the slice, also one that is zero.
+fn load_diagnostics(job: &mut Reading, diagnostics: &mut [Numbered]) {
+    let mut words = [0u32; 2322];
+    load(job, &mut words);
+    for k in 0..258 {
+        set(diagnostics, k, numbered(&words, k));
+    }
+}
+
+// Compares diagnostics with a table.
+fn same_diagnostics(job: &mut Reading, diagnostics: &[Numbered]) {
+    let mut words = [0u32; 2322];
+    for k in 0..258 {
+        let record = numbers(get_or(diagnostics, k, UNUSED));
+        for w in 0..9 {
+            RECORDS.put_field(&mut words, k, w, record[w]);
+        }
+    }
+    same(job, &words);
 }
 
 // ---- interned effects, which are recorded by their keys and not by their numbers
 
 // Whether record k of the interned effects is a given one.
-// They stand from word 37,830 of a context on.
-fn is_record(context: &[u32], k: u32, record: &[u32; 98]) -> bool {
-    let base = 37830 + k as usize * 98;
+fn is_record(effects: &[u32], k: u32, record: &[u32; EFFECT_WORDS]) -> bool {
     record
         .iter()
         .enumerate()
-        .all(|(w, x)| get_or(context, base + w, 0) == *x)
+        .all(|(w, x)| INTERNED.field(effects, k as usize, w) == *x)
 }
 
 // Whether a given record is the interned effect that comes j-th by its key, and its number one of the first n.
-// The order of their numbers stands from word 35,269 of a context on.
-fn comes(context: &[u32], n: u32, j: u32, record: &[u32; 98]) -> bool {
-    let k = get_or(context, 35269 + j as usize, 0);
-    k < n && is_record(context, k, record)
-}
-
-// Whether a context is zero after n places of the order and after n interned effects.
-// The limit is where the order begins; or no word that can be lent lies past it, and nothing is left. Past the end of a context all is zero.
-fn rest_zero(context: &[u32], limit: u32, n: u32) -> bool {
-    if limit >= 238534 {
-        return n == 0;
-    }
-    n <= 2048
-        && is_zero(context, limit as usize + n as usize, 37317)
-        && is_zero(context, 37830 + n as usize * 98, 238534)
+fn comes(context: &Context, n: u32, j: u32, record: &[u32; EFFECT_WORDS]) -> bool {
+    let k = get_or(context.effect_order, j as usize, 0);
+    k < n && is_record(context.effects, k, record)
 }
 
 // Compares as many records of a job as it says along the order, and nothing stands after as many places and effects.
 // Recorded effects ascend by their keys and differ from each other, so these are all of them, and the order is the one of their keys.
-fn same_records(job: &mut Reading, context: &[u32], limit: u32) {
+fn same_records(job: &mut Reading, context: &Context) {
     let n = job.word();
     for j in 0..n {
-        let mut record = [0u32; 98];
+        let mut record = [0u32; EFFECT_WORDS];
         load(job, &mut record);
         job.check(comes(context, n, j, &record));
     }
-    job.check(rest_zero(context, limit, n));
+    let n = n as usize;
+    job.check(is_zero(context.effects, n * EFFECT_WORDS, context.effects.len()));
+    job.check(is_zero(context.effect_order, n, context.effect_order.len()));
 }
 
-// Compares the count of cached keys and their order with the next run of a job, which begins with the count; after it all is zero.
-// They stand from word 37,317 of a context on, up to the interned effects. Numbers are recorded, so that each place is known.
-fn same_keys(job: &mut Reading, context: &[u32]) {
-    let done = same_run(job, context, 37317);
-    job.check(is_zero(context, done, 37830));
+// Compares the interned effects and their order: word by word after a 1, else by their keys; then another call has to accept the context.
+// What a refused call leaves may be as wrong as it was lent.
+fn same_effects(job: &mut Reading, context: &Context, identifiers: u32, next: u32) {
+    if job.word() == 1 {
+        same(job, context.effects);
+        same(job, context.effect_order);
+        return;
+    }
+    same_records(job, context);
+    job.check(context_class(context, identifiers, next).is_ok());
 }
 
-// Whether a context that is left after a job would be accepted by another call.
-// Not asked where it was compared whole: that of a refused call may be as wrong as it was lent.
-fn left_accepted(context: &[u32], limit: u32, next: u32) -> bool {
-    let counts = Counts {
-        identifiers: get_or(context, 1, 0),
-        functions: get_or(context, 2, 0),
-    };
-    limit >= 238534 || context_class(context, counts, next).is_ok()
+// ---- a context
+
+// Loads the numbers beside the slices.
+fn load_counts(job: &mut Reading, context: &mut Context) {
+    context.options = job.word();
+    context.function_count = job.word();
+    context.effect_count = job.word();
+    context.key_count = job.word();
+    context.diagnostic_count = job.word();
+}
+
+// Loads a context into slices that are zero.
+fn load_context(job: &mut Reading, context: &mut Context) {
+    load_counts(job, context);
+    load(job, context.identifiers);
+    load(job, context.functions);
+    load(job, context.contexts);
+    load(job, context.links);
+    load(job, context.keys);
+    load(job, context.key_order);
+    load(job, context.effects);
+    load(job, context.effect_order);
+    load_diagnostics(job, context.diagnostics);
+}
+
+// Compares the numbers beside the slices.
+fn same_counts(job: &mut Reading, context: &Context) {
+    job.expect(context.options);
+    job.expect(context.function_count);
+    job.expect(context.effect_count);
+    job.expect(context.key_count);
+    job.expect(context.diagnostic_count);
+}
+
+// Compares a context with what a job expects, effects last.
+fn same_context(job: &mut Reading, context: &Context, identifiers: u32, next: u32) {
+    same_counts(job, context);
+    same(job, context.identifiers);
+    same(job, context.functions);
+    same(job, context.contexts);
+    same(job, context.links);
+    same(job, context.keys);
+    same(job, context.key_order);
+    same_diagnostics(job, context.diagnostics);
+    same_effects(job, context, identifiers, next);
 }
 
 // ---- an instruction
@@ -186,7 +288,7 @@ fn read_session(job: &mut Reading) -> Session {
 }
 
 // The first n of a list, and no more than it has.
-// A job says how many words are lent.
+// A job says how long each slice is.
 fn first_of<T>(list: &mut [T], n: u32) -> &mut [T] {
     let n = (n as usize).min(list.len());
     &mut list[..n]
@@ -201,8 +303,9 @@ fn check_answer(job: &mut Reading, answer: Result<Applied, Refusal>, lent: &Lent
     job.expect(refusal);
     job.expect(count);
     job.expect(entries);
-    same(job, lent.output, 109800);
-    job.check(is_zero(lent.scratch64, 0, 9280) && is_zero(lent.scratch32, 0, 25360));
+    same(job, lent.output);
+    job.check(is_zero(lent.scratch64, 0, lent.scratch64.len()));
+    job.check(is_zero(lent.scratch32, 0, lent.scratch32.len()));
 }
 
 // One instruction of a job: lvalue, own function, length and runs of its candidates, and what it must answer.
@@ -216,7 +319,7 @@ fn replay_instruction(
     let lvalue = read_place(job);
     let own = job.word();
     let n = job.word();
-    let mut candidates = [0u32; 6468];
+    let mut candidates = [0u32; CANDIDATE_WORDS + 2 * EFFECT_WORDS];
     load(job, &mut candidates);
     lent.output.fill(u32::MAX);
     lent.scratch64.fill(u64::MAX);
@@ -225,7 +328,7 @@ fn replay_instruction(
         lent.values,
         lent.sets,
         flag,
-        lent.context,
+        &mut lent.context,
         now,
         first_of(&mut candidates, n),
         lvalue,
@@ -250,50 +353,75 @@ fn check_session(job: &mut Reading, flag: bool, now: Session) {
     job.expect(now.entries);
 }
 
-// Compares the tables with what a job expects: values, sets, the context below a limit, the order of its keys, its interned effects with theirs.
+// Compares state and context with what a job expects.
 fn check_tables(job: &mut Reading, lent: &Lent, next: u32) {
-    same(job, lent.values, 1040);
-    same(job, lent.sets, 8224);
-    let limit = job.word();
-    same(job, lent.context, limit as usize);
-    same_keys(job, lent.context);
-    same_records(job, lent.context, limit);
-    job.check(left_accepted(lent.context, limit, next));
+    same(job, lent.values);
+    same(job, lent.sets);
+    let identifiers = (lent.sets.len() / 16).min(513) as u32;
+    same_context(job, &lent.context, identifiers, next);
 }
 
-// A job: the lengths of what is lent, flag, session, the count of its instructions, the tables, the instructions, one after the other over one state,
-// context and session, and what stands at the end. A refused instruction leaves all three as they were. Answers how many instructions there are.
-// The lists are zero at first, with room for a few words more than can be lent; the context's has room for a record more, which a damaged job lends.
-fn replay_job(job: &mut Reading) -> u32 {
-    let mut values = [0u64; 1040];
-    let mut sets = [0u64; 8224];
-    let mut context = [0u32; 238656];
-    let mut output = [0u32; 109800];
-    let mut scratch64 = [0u64; 9280];
-    let mut scratch32 = [0u32; 25360];
-    let mut lent = Lent {
-        values: first_of(&mut values, job.word()),
-        sets: first_of(&mut sets, job.word()),
-        context: first_of(&mut context, job.word()),
-        output: first_of(&mut output, job.word()),
-        scratch64: first_of(&mut scratch64, job.word()),
-        scratch32: first_of(&mut scratch32, job.word()),
-    };
+// What a job says after its lengths, with what it lends: flag, session, the count of its instructions, the tables, the instructions, one after the other
+// over one state, context and session, and what stands at the end. A refused instruction leaves all three as they were. Answers how many there are.
+fn replay_lent(job: &mut Reading, lent: &mut Lent) -> u32 {
     let mut flag = job.word() == 1;
     let mut now = read_session(job);
     let n = job.word();
     load(job, lent.values);
     load(job, lent.sets);
-    load(job, lent.context);
+    load_context(job, &mut lent.context);
     for _ in 0..n {
-        if let Ok(a) = replay_instruction(job, &mut lent, flag, now) {
+        if let Ok(a) = replay_instruction(job, lent, flag, now) {
             now = a.session;
             flag = a.flag;
         }
     }
     check_session(job, flag, now);
-    check_tables(job, &lent, now.next);
+    check_tables(job, lent, now.next);
     n
+}
+
+// A job: the length of each slice that is lent, then all else. Answers how many instructions it has.
+// The lists are zero at first, with room for a record more than can be lent, which a damaged job lends, or for a few words.
+fn replay_job(job: &mut Reading) -> u32 {
+    let mut values = [0u64; 1040];
+    let mut sets = [0u64; 8224];
+    let mut identifiers = [0u32; 2056];
+    let mut functions = [0u32; 10600];
+    let mut contexts = [0u32; 5200];
+    let mut links = [0u32; 1032];
+    let mut keys = [0u32; 14368];
+    let mut key_order = [0u32; 520];
+    let mut effects = [0u32; 2049 * EFFECT_WORDS];
+    let mut effect_order = [0u32; 2056];
+    let mut diagnostics = [UNUSED; 258];
+    let mut output = [0u32; OUTPUT_WORDS + EFFECT_WORDS];
+    let mut scratch64 = [0u64; 9280];
+    let mut scratch32 = [0u32; MOST_SAVED + 88];
+    let mut lent = Lent {
+        values: first_of(&mut values, job.word()),
+        sets: first_of(&mut sets, job.word()),
+        context: Context {
+            options: 0,
+            function_count: 0,
+            effect_count: 0,
+            key_count: 0,
+            diagnostic_count: 0,
+            identifiers: first_of(&mut identifiers, job.word()),
+            functions: first_of(&mut functions, job.word()),
+            contexts: first_of(&mut contexts, job.word()),
+            links: first_of(&mut links, job.word()),
+            keys: first_of(&mut keys, job.word()),
+            key_order: first_of(&mut key_order, job.word()),
+            effects: first_of(&mut effects, job.word()),
+            effect_order: first_of(&mut effect_order, job.word()),
+            diagnostics: first_of(&mut diagnostics, job.word()),
+        },
+        output: first_of(&mut output, job.word()),
+        scratch64: first_of(&mut scratch64, job.word()),
+        scratch32: first_of(&mut scratch32, job.word()),
+    };
+    replay_lent(job, &mut lent)
 }
 
 // ---- a list of jobs
