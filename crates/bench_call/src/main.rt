@@ -324,11 +324,7 @@ fn measure<
     const CANDIDATES: usize,
     const SCRATCH64: usize,
     const SCRATCH32: usize,
->(
-    kind: u32,
-    n: u32,
-    next: u32,
-) -> u64
+>(kind: u32, n: u32, next: u32) -> u64
     requires sets { SETS < 1000000 }
     requires identifiers { IDENTIFIERS < 1000000 }
     requires functions { FUNCTIONS < 1000000 }

@@ -14,8 +14,8 @@ ghost use Rattle.def_refusals.specs.Verdicts.{class_of};
 ghost use Rattle.lent_world.specs.World.{world};
 ghost use Rattle.lent_layout.specs.Context.{held, SameSlices};
 
-use call_run::run_instruction;
 use call_room::lengths_of;
+use call_run::run_instruction;
 use call_save::save;
 use call_undo::{Used, undo};
 use def_effects::{Place, Session};

@@ -7,7 +7,9 @@ ghost use Rattle.std.specs.Prelude.{◌≤◌, IfOk, length};
 use call_outcome::Applied;
 use def_effects::{Diagnostic, Place, Session, Span};
 use def_refusals::Refusal;
-use lent_layout::{CANDIDATE_WORDS, Context, EFFECT_WORDS, INTERNED, MOST_SAVED, Numbered, OUTPUT_WORDS, UNUSED};
+use lent_layout::{
+    CANDIDATE_WORDS, Context, EFFECT_WORDS, INTERNED, MOST_SAVED, Numbered, OUTPUT_WORDS, UNUSED,
+};
 use lent_slices::{get_or, set};
 use lent_tables::Table;
 use refuse_context::context_class;
