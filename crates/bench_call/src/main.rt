@@ -11,7 +11,7 @@ use def_kinds::{AbstractValue, DEFAULT, ValueKind};
 use lent_layout::{Context, Numbered, UNUSED};
 use lent_slices::set;
 use std::io;
-use test_bytes::{argument, fill_state, number, session};
+use test_bytes::{digit, fill_state, session};
 
 // Repetitions: a power of ten, up to a million; 9 is none.
 fn power(e: u32) -> u32 {
@@ -403,9 +403,8 @@ fn measure<
 // The tables of case 1 have room for 8 interned effects; the first call needs 3, and the others, which find three, 6.
 // Middling ones have room for 144: 136, the 7 that the candidates need, and one more. The others' context has the largest lengths.
 fn main(rt: HostRuntime) -> io::Result<()> {
-    let mut text = [0u8; 16];
-    let kind = number(argument(&rt, 1, &mut text));
-    let n = power(number(argument(&rt, 2, &mut text)));
+    let kind = digit(&rt, 1);
+    let n = power(digit(&rt, 2));
     let last = match kind {
         1 => measure::<32, 8, 0, 0, 784, 8, 196, 1056, 15880>(kind, n, 1),
         2 => measure::<8192, 2048, 10432, 5120, 200704, 2048, 98, 9216, 23040>(kind, n, 512),

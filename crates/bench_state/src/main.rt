@@ -5,7 +5,7 @@
 use def_kinds::DEFAULT;
 use def_refusals::class_of;
 use std::io;
-use test_bytes::{argument, fill_state, number, session};
+use test_bytes::{digit, fill_state, session};
 
 // Repetitions: a power of ten, up to a million.
 fn power(e: u32) -> u32 {
@@ -78,10 +78,9 @@ fn once(op: u32, values: &mut [u64], sets: &mut [u64], values2: &[u64], sets2: &
 }
 
 fn main(rt: HostRuntime) -> io::Result<()> {
-    let mut text = [0u8; 16];
-    let op = number(argument(&rt, 1, &mut text));
-    let is_full = number(argument(&rt, 2, &mut text)) == 1;
-    let times = power(number(argument(&rt, 3, &mut text)));
+    let op = digit(&rt, 1);
+    let is_full = digit(&rt, 2) == 1;
+    let times = power(digit(&rt, 3));
     let mut values = [0u64; 1024];
     let mut sets = [0u64; 8192];
     let mut values2 = [0u64; 1024];

@@ -114,6 +114,19 @@ pub fn argument<'a>(rt: &impl Env, i: usize, buffer: &'a mut [u8]) -> &'a str
     }
 }
 
+// The digit that argument i begins with, or 0 where it begins with none. A longer argument counts by its first byte.
+pub fn digit(rt: &impl Env, i: usize) -> u32
+    ensures { result < 10 }
+{
+    let mut text = [0u8; 2];
+    // A missing argument leaves the zeros, and one that is too long its first bytes.
+    let _ = rt.arg(i, &mut text);
+    match text[0] {
+        c @ b'0'..=b'9' => u32::from(c - b'0'),
+        _ => 0,
+    }
+}
+
 // The number that a text writes, or 0 where it writes none that a word holds.
 pub fn number(text: &str) -> u32
     ensures { Written text.now result }

@@ -2,8 +2,6 @@
 // The lists are docs/VECTORS.md's, part 5; their names are the arguments. Prints each job that failed, then how many were replayed.
 #![tactic(auto)]
 
-ghost use Rattle.std.specs.Prelude.{◌≤◌, IfOk, length};
-
 use call_outcome::Applied;
 use def_effects::{Diagnostic, Place, Session, Span};
 use def_refusals::Refusal;
@@ -29,17 +27,73 @@ struct Lent<'a> {
     scratch32: &'a mut [u32],
 }
 
+// The words of a job, one after the other; those that there is no room for are zeros.
+// How many of these there are, by the count of words that the job says, and how many are read.
+#[derive(Drop)]
+struct Job<'a> {
+    reading: Reading<'a>,
+    behind: u64,
+    read: u64,
+}
+
+// How many are behind where a job says 2^32 - 1 words. A place is counted up to that, and stays there.
+const UNBOUNDED: u64 = 4294868991;
+
+impl<'a> Job<'a> {
+    // The next word; past the end it is 0, and that is a difference.
+    fn word(&mut self) -> u32 {
+        if self.reading.rest.is_empty() {
+            if self.read < self.behind {
+                self.read += 1;
+                return 0;
+            }
+            if self.behind == UNBOUNDED {
+                return 0;
+            }
+        }
+        self.reading.word()
+    }
+
+    // Passes over n words, after a difference.
+    fn skip(&mut self, n: u64) {
+        let rest = self.reading.rest;
+        let k = (rest.len() / 4).min(n as usize);
+        self.reading.rest = &rest[k * 4..];
+        self.read = self.read.saturating_add(n - k as u64);
+    }
+
+    // Counts a difference where a test fails.
+    fn check(&mut self, ok: bool) {
+        self.reading.check(ok);
+    }
+
+    // Counts a difference where the next word is not x.
+    fn expect(&mut self, x: u32) {
+        let y = self.word();
+        self.check(x == y);
+    }
+
+    // Whether all of its words were read, without a difference.
+    fn passes(&self) -> bool {
+        self.reading.faults == 0 && self.reading.rest.is_empty() && self.read == self.behind
+    }
+}
+
 // A word of a table, as a job writes it.
 trait Word: Copy + PartialEq {
     const ZERO: Self;
+    // How many words of a job it takes.
+    const WORDS: u64;
 
-    fn read(job: &mut Reading) -> Self;
+    fn read(job: &mut Job) -> Self;
 }
 
 impl Word for u32 {
     const ZERO: u32 = 0;
 
-    fn read(job: &mut Reading) -> u32 {
+    const WORDS: u64 = 1;
+
+    fn read(job: &mut Job) -> u32 {
         job.word()
     }
 }
@@ -48,8 +102,11 @@ impl Word for u32 {
 impl Word for u64 {
     const ZERO: u64 = 0;
 
-    fn read(job: &mut Reading) -> u64 {
-        u64::from_le_bytes(job.bytes())
+    const WORDS: u64 = 2;
+
+    fn read(job: &mut Job) -> u64 {
+        let low = job.word();
+        u64::from(job.word()) << 32 | u64::from(low)
     }
 }
 
@@ -57,7 +114,7 @@ impl Word for u64 {
 
 // Loads a table into a list that is zero.
 // What passes the end of the list is left.
-fn load<T: Word>(job: &mut Reading, list: &mut [T]) {
+fn load<T: Word>(job: &mut Job, list: &mut [T]) {
     for _ in 0..job.word() {
         let first = job.word() as usize;
         for k in 0..job.word() as usize {
@@ -78,20 +135,24 @@ fn is_zero<T: Word>(list: &[T], from: usize, to: usize) -> bool {
 
 // Compares a list with the next run, and with zero from where all is compared up to the run; where all is compared after it.
 // Runs stand in the order of their indices.
-fn same_run<T: Word>(job: &mut Reading, list: &[T], done: usize) -> usize {
+fn same_run<T: Word>(job: &mut Job, list: &[T], done: usize) -> usize {
     let first = job.word() as usize;
     let n = job.word() as usize;
     job.check(is_zero(list, done, first));
     for k in 0..n {
         let x = T::read(job);
-        job.check(list.get(first + k).copied().unwrap_or(T::ZERO) == x);
+        if list.get(first + k).copied().unwrap_or(T::ZERO) != x {
+            job.check(false);
+            job.skip(((n - k - 1) as u64).saturating_mul(T::WORDS));
+            break;
+        }
     }
     first + n
 }
 
 // Compares a list with a table.
 // So nothing stands there but what is expected.
-fn same<T: Word>(job: &mut Reading, list: &[T]) {
+fn same<T: Word>(job: &mut Job, list: &[T]) {
     let mut done = 0;
     for _ in 0..job.word() {
         done = same_run(job, list, done);
@@ -150,7 +211,7 @@ fn numbers(x: Numbered) -> [u32; 9] {
 
 // Loads diagnostics.
 // Each record of the slice, also one that is zero.
-fn load_diagnostics(job: &mut Reading, diagnostics: &mut [Numbered]) {
+fn load_diagnostics(job: &mut Job, diagnostics: &mut [Numbered]) {
     let mut words = [0u32; 2322];
     load(job, &mut words);
     for k in 0..258 {
@@ -159,7 +220,7 @@ fn load_diagnostics(job: &mut Reading, diagnostics: &mut [Numbered]) {
 }
 
 // Compares diagnostics with a table.
-fn same_diagnostics(job: &mut Reading, diagnostics: &[Numbered]) {
+fn same_diagnostics(job: &mut Job, diagnostics: &[Numbered]) {
     let mut words = [0u32; 2322];
     for k in 0..258 {
         let record = numbers(get_or(diagnostics, k, UNUSED));
@@ -188,13 +249,14 @@ fn comes(context: &Context, n: u32, j: u32, record: &[u32; EFFECT_WORDS]) -> boo
 
 // Compares as many records of a job as it says along the order, and nothing stands after as many places and effects.
 // Recorded effects ascend by their keys and differ from each other, so these are all of them, and the order is the one of their keys.
-fn same_records(job: &mut Reading, context: &Context) {
+fn same_records(job: &mut Job, context: &Context) {
     let n = job.word();
     for j in 0..n {
         let mut record = [0u32; EFFECT_WORDS];
         load(job, &mut record);
         job.check(comes(context, n, j, &record));
     }
+    job.check(n <= 2048);
     let n = n as usize;
     job.check(is_zero(context.effects, n * EFFECT_WORDS, context.effects.len()));
     job.check(is_zero(context.effect_order, n, context.effect_order.len()));
@@ -202,7 +264,7 @@ fn same_records(job: &mut Reading, context: &Context) {
 
 // Compares the interned effects and their order: word by word after a 1, else by their keys; then another call has to accept the context.
 // What a refused call leaves may be as wrong as it was lent.
-fn same_effects(job: &mut Reading, context: &Context, identifiers: u32, next: u32) {
+fn same_effects(job: &mut Job, context: &Context, identifiers: u32, next: u32) {
     if job.word() == 1 {
         same(job, context.effects);
         same(job, context.effect_order);
@@ -215,7 +277,7 @@ fn same_effects(job: &mut Reading, context: &Context, identifiers: u32, next: u3
 // ---- a context
 
 // Loads the numbers beside the slices.
-fn load_counts(job: &mut Reading, context: &mut Context) {
+fn load_counts(job: &mut Job, context: &mut Context) {
     context.options = job.word();
     context.function_count = job.word();
     context.effect_count = job.word();
@@ -224,7 +286,7 @@ fn load_counts(job: &mut Reading, context: &mut Context) {
 }
 
 // Loads a context into slices that are zero.
-fn load_context(job: &mut Reading, context: &mut Context) {
+fn load_context(job: &mut Job, context: &mut Context) {
     load_counts(job, context);
     load(job, context.identifiers);
     load(job, context.functions);
@@ -238,7 +300,7 @@ fn load_context(job: &mut Reading, context: &mut Context) {
 }
 
 // Compares the numbers beside the slices.
-fn same_counts(job: &mut Reading, context: &Context) {
+fn same_counts(job: &mut Job, context: &Context) {
     job.expect(context.options);
     job.expect(context.function_count);
     job.expect(context.effect_count);
@@ -247,7 +309,7 @@ fn same_counts(job: &mut Reading, context: &Context) {
 }
 
 // Compares a context with what a job expects, effects last.
-fn same_context(job: &mut Reading, context: &Context, identifiers: u32, next: u32) {
+fn same_context(job: &mut Job, context: &Context, identifiers: u32, next: u32) {
     same_counts(job, context);
     same(job, context.identifiers);
     same(job, context.functions);
@@ -262,7 +324,7 @@ fn same_context(job: &mut Reading, context: &Context, identifiers: u32, next: u3
 // ---- an instruction
 
 // A span: start, end.
-fn read_span(job: &mut Reading) -> Span {
+fn read_span(job: &mut Job) -> Span {
     Span {
         start: job.word(),
         end: job.word(),
@@ -270,7 +332,7 @@ fn read_span(job: &mut Reading) -> Span {
 }
 
 // A place: identifier, effect, reactive, span.
-fn read_place(job: &mut Reading) -> Place {
+fn read_place(job: &mut Job) -> Place {
     Place {
         identifier: job.word(),
         effect: job.word(),
@@ -280,7 +342,7 @@ fn read_place(job: &mut Reading) -> Place {
 }
 
 // A session: next number, first access and its span, walk entries.
-fn read_session(job: &mut Reading) -> Session {
+fn read_session(job: &mut Job) -> Session {
     Session {
         next: job.word(),
         access: job.word(),
@@ -297,7 +359,7 @@ fn first_of<T>(list: &mut [T], n: u32) -> &mut [T] {
 }
 
 // Compares what a call answered: refusal, count and entries, every word of the output list, and scratch, which is zero after each call.
-fn check_answer(job: &mut Reading, answer: Result<Applied, Refusal>, lent: &Lent) {
+fn check_answer(job: &mut Job, answer: Result<Applied, Refusal>, lent: &Lent) {
     let (refusal, count, entries) = match answer {
         Ok(a) => (0, a.count, a.entries),
         Err(refusal) => (refusal.number(), 0, 0),
@@ -313,7 +375,7 @@ fn check_answer(job: &mut Reading, answer: Result<Applied, Refusal>, lent: &Lent
 // One instruction of a job: lvalue, own function, length and runs of its candidates, and what it must answer.
 // Output list and scratch may be lent with any numbers in them, so they get some that are not zero.
 fn replay_instruction(
-    job: &mut Reading,
+    job: &mut Job,
     lent: &mut Lent,
     flag: bool,
     now: Session,
@@ -346,7 +408,7 @@ fn replay_instruction(
 // ---- a job
 
 // Compares the flag and the session with what a job expects.
-fn check_session(job: &mut Reading, flag: bool, now: Session) {
+fn check_session(job: &mut Job, flag: bool, now: Session) {
     job.expect(u32::from(flag));
     job.expect(now.next);
     job.expect(now.access);
@@ -356,7 +418,7 @@ fn check_session(job: &mut Reading, flag: bool, now: Session) {
 }
 
 // Compares state and context with what a job expects.
-fn check_tables(job: &mut Reading, lent: &Lent, next: u32) {
+fn check_tables(job: &mut Job, lent: &Lent, next: u32) {
     same(job, lent.values);
     same(job, lent.sets);
     let identifiers = (lent.sets.len() / 16).min(513) as u32;
@@ -365,7 +427,7 @@ fn check_tables(job: &mut Reading, lent: &Lent, next: u32) {
 
 // What a job says after its lengths, with what it lends: flag, session, the count of its instructions, the tables, the instructions, one after the other
 // over one state, context and session, and what stands at the end. A refused instruction leaves all three as they were. Answers how many there are.
-fn replay_lent(job: &mut Reading, lent: &mut Lent) -> u32 {
+fn replay_lent(job: &mut Job, lent: &mut Lent) -> u32 {
     let mut flag = job.word() == 1;
     let mut now = read_session(job);
     let n = job.word();
@@ -385,7 +447,7 @@ fn replay_lent(job: &mut Reading, lent: &mut Lent) -> u32 {
 
 // A job: the length of each slice that is lent, then all else. Answers how many instructions it has.
 // The lists are zero at first, with room for a record more than can be lent, which a damaged job lends, or for a few words.
-fn replay_job(job: &mut Reading) -> u32 {
+fn replay_job(job: &mut Job) -> u32 {
     let mut values = [0u64; 1040];
     let mut sets = [0u64; 8224];
     let mut identifiers = [0u32; 2056];
@@ -435,15 +497,17 @@ fn read_word(file: &mut impl Read) -> io::Result<u32> {
     Ok(u32::from_le_bytes(bytes))
 }
 
-// Reads the next job, its length in words before it, and answers how many bytes it has.
-// The largest recorded job fits 393,216 bytes; what there is no room for is not read, so that such a job fails.
-fn read_job(file: &mut impl Read, bytes: &mut [u8]) -> io::Result<usize>
-    ensures { IfOk result (λ n. n ≤ length bytes.new) }
-{
+// Reads the next job, its length in words before it.
+// The largest recorded job fits 393,216 bytes; what there is no room for is not read.
+fn read_job<'a>(file: &mut impl Read, bytes: &'a mut [u8]) -> io::Result<Job<'a>> {
     let size = read_word(file)? as usize * 4;
     let end = size.min(bytes.len());
     read_full(file, &mut bytes[..end])?;
-    Ok(end)
+    Ok(Job {
+        reading: Reading::new(&bytes[..end]),
+        behind: ((size - end) / 4) as u64,
+        read: 0,
+    })
 }
 
 // Replays a list, names the jobs that failed, and says how it went. A job passes that was read to its end without a difference.
@@ -453,10 +517,9 @@ fn replay_list(rt: &impl Print, file: &mut impl Read) -> io::Result<()> {
     let mut failed: u32 = 0;
     for k in 0..n {
         let mut bytes = [0u8; 393216];
-        let size = read_job(file, &mut bytes)?;
-        let mut job = Reading::new(&bytes[..size]);
+        let mut job = read_job(file, &mut bytes)?;
         instructions = instructions.saturating_add(replay_job(&mut job));
-        if job.faults != 0 || !job.rest.is_empty() {
+        if !job.passes() {
             println!(rt; "failed: job {k}")?;
             failed = failed.saturating_add(1);
         }

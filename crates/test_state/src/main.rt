@@ -12,56 +12,65 @@ use std::io::Read;
 use std::{fs, io};
 use test_bytes::{Reading, argument, read_full};
 
-// A state in lent tables, with its flag.
+// A state in lent tables, with its flag as the list has it.
 #[derive(Drop)]
 struct State {
     values: [u64; 1024],
     sets: [u64; 8192],
-    flag: bool,
+    flag: u32,
+}
+
+// ---- words of the list
+
+// The next word; past the end of the list it is zero, and that is no difference.
+fn next(record: &mut Reading) -> u32 {
+    let faults = record.faults;
+    let word = record.word();
+    record.faults = faults;
+    word
+}
+
+// Counts a difference where the next word is not x.
+fn expect(record: &mut Reading, x: u32) {
+    let y = next(record);
+    record.check(x == y);
 }
 
 // ---- loading
 
 // An entry of a state: value number, kind, reasons.
 fn load_value(record: &mut Reading, values: &mut [u64]) {
-    let v = record.word();
-    let kind = ValueKind::of_code(record.word() % 256);
-    let reason = record.word();
+    let v = next(record);
+    let kind = ValueKind::of_code(next(record) % 256);
+    let reason = next(record);
     put_value(values, v as usize, AbstractValue { kind, reason });
 }
 
 // A pair of a state: identifier and one of its values, or 0 for an empty set.
 // The bit of value 0 says that the identifier is defined, and so it is in either case.
 fn load_pair(record: &mut Reading, sets: &mut [u64]) {
-    let i = record.word();
-    let v = record.word();
+    let i = next(record);
+    let v = next(record);
     let mut row = [0u64; 16];
     lent_set_writes::add_set(&mut row, sets, i);
     lent_sets::add_value(&mut row, v);
     lent_set_writes::put_set(sets, i, &row);
 }
 
-// A state with its flag and so many entries and pairs.
-fn load_state(record: &mut Reading, flag: u32, entries: u32, pairs: u32) -> State {
-    let mut values = [0u64; 1024];
-    let mut sets = [0u64; 8192];
+// So many entries and pairs into a state. It is 72 KB, and so lent and not answered.
+fn load_state(record: &mut Reading, state: &mut State, entries: u32, pairs: u32) {
     for _ in 0..entries {
-        load_value(record, &mut values);
+        load_value(record, &mut state.values);
     }
     for _ in 0..pairs {
-        load_pair(record, &mut sets);
-    }
-    State {
-        values,
-        sets,
-        flag: flag == 1,
+        load_pair(record, &mut state.sets);
     }
 }
 
 // Some words into a list, from its first place on; what passes its end is read and left.
 fn load_words(record: &mut Reading, list: &mut [u32], n: u32) {
     for k in 0..n {
-        set(list, k as usize, record.word());
+        set(list, k as usize, next(record));
     }
 }
 
@@ -69,13 +78,13 @@ fn load_words(record: &mut Reading, list: &mut [u32], n: u32) {
 
 // Compares the answer's next words with the entries of a state, ascending.
 fn check_values(record: &mut Reading, values: &[u64]) {
-    let n = record.word();
+    let n = next(record);
     let mut found = 0;
     for v in 0..1024 {
         if let Some(a) = value_at(values, v as usize) {
-            record.expect(v);
-            record.expect(a.kind as u32);
-            record.expect(a.reason);
+            expect(record, v);
+            expect(record, a.kind as u32);
+            expect(record, a.reason);
             found += 1;
         }
     }
@@ -84,18 +93,18 @@ fn check_values(record: &mut Reading, values: &[u64]) {
 
 // Compares the answer's next words with the set of identifier i, ascending.
 fn check_set(record: &mut Reading, sets: &[u64], i: u32) {
-    record.expect(i);
-    record.expect(lent_members::size(sets, i));
+    expect(record, i);
+    expect(record, lent_members::size(sets, i));
     for v in 1..1024 {
         if lent_members::next_member(sets, i, v) == Some(v) {
-            record.expect(v);
+            expect(record, v);
         }
     }
 }
 
 // Compares the answer's next words with the sets of a state, ascending.
 fn check_sets(record: &mut Reading, sets: &[u64]) {
-    let n = record.word();
+    let n = next(record);
     let mut found = 0;
     for i in 0..512 {
         if lent_sets::is_defined(sets, i) {
@@ -109,10 +118,10 @@ fn check_sets(record: &mut Reading, sets: &[u64]) {
 // Compares what follows in the answer with a session's first access and a state.
 fn check_rest(record: &mut Reading, now: Session, state: &State) {
     record.check(state_read_sets::accepted(&state.values, &state.sets, now).is_ok());
-    record.expect(now.access);
-    record.expect(now.span.start);
-    record.expect(now.span.end);
-    record.expect(u32::from(state.flag));
+    expect(record, now.access);
+    expect(record, now.span.start);
+    expect(record, now.span.end);
+    expect(record, state.flag);
     check_values(record, &state.values);
     check_sets(record, &state.sets);
 }
@@ -120,10 +129,10 @@ fn check_rest(record: &mut Reading, now: Session, state: &State) {
 // Compares the answer with some words, that were computed by a call that was not refused: no recorded operation is refused.
 fn expect_words(record: &mut Reading, is_answered: bool, words: &[u32]) {
     record.check(is_answered);
-    let n = record.word();
+    let n = next(record);
     record.check(n as usize == words.len());
     for x in words {
-        record.expect(*x);
+        expect(record, *x);
     }
 }
 
@@ -269,21 +278,21 @@ fn run_merge(record: &mut Reading, one: &State, other: &State, now: Session) {
     let mut merged = State {
         values: [0; 1024],
         sets: [0; 8192],
-        flag: false,
+        flag: 0,
     };
     let a = state_merge_calls::merge(
         &one.values,
         &one.sets,
-        one.flag,
+        one.flag == 1,
         &other.values,
         &other.sets,
-        other.flag,
+        other.flag == 1,
         now,
         &mut merged.values,
         &mut merged.sets,
     );
     let flag = a.unwrap_or(None);
-    merged.flag = flag.unwrap_or(false);
+    merged.flag = u32::from(flag.unwrap_or(false));
     expect_words(record, a.is_ok(), &[u32::from(flag.is_some())]);
     let above = state_merge_calls::is_above(
         &one.values,
@@ -299,23 +308,23 @@ fn run_merge(record: &mut Reading, one: &State, other: &State, now: Session) {
 
 // 13: merge_from, by the flags of both; the flag after it is compared too.
 fn run_merge_from(record: &mut Reading, one: &mut State, other: &State, now: Session) {
+    let flag = one.flag == 1;
     let a = state_merge_calls::merge_from(
         &mut one.values,
         &mut one.sets,
-        one.flag,
+        flag,
         &other.values,
         &other.sets,
-        other.flag,
+        other.flag == 1,
         now,
     );
     expect_words(record, a.is_ok(), &[]);
-    match a {
-        Ok(a) => {
-            one.flag = a.flag;
-            check_rest(record, a.session, one);
-        }
-        Err(_) => check_rest(record, now, one),
-    }
+    let (after, flag) = match a {
+        Ok(a) => (a.session, a.flag),
+        Err(_) => (now, flag),
+    };
+    one.flag = u32::from(flag);
+    check_rest(record, after, one);
 }
 
 // ---- a list
@@ -337,44 +346,56 @@ fn replay_record(record: &mut Reading) {
     };
     let mut refs = [0u32; 512];
     load_words(record, &mut refs, head[8]);
-    let mut one = load_state(record, head[6], head[9], head[10]);
-    let other = load_state(record, head[7], head[11], head[12]);
+    let mut one = State {
+        values: [0; 1024],
+        sets: [0; 8192],
+        flag: head[6],
+    };
+    load_state(record, &mut one, head[9], head[10]);
+    let mut other = State {
+        values: [0; 1024],
+        sets: [0; 8192],
+        flag: head[7],
+    };
+    load_state(record, &mut other, head[11], head[12]);
     let mut list = [0u32; 1025];
-    load_words(record, &mut list, head[13]);
+    load_words(record, &mut list[..1024], head[13]);
     let arguments = [list[0], list[1], list[2], list[3]];
     let operands = &list[1..(head[13] as usize).clamp(1, 1025)];
-    record.word();
+    next(record);
     match head[2] {
         12 => run_merge(record, &one, &other, now),
         13 => run_merge_from(record, &mut one, &other, now),
-        operation => {
+        operation @ 1..=11 => {
             let after = run(record, operation, &mut one, now, &refs, arguments, operands);
             check_rest(record, after, &one);
         }
+        _ => record.check(false),
     }
 }
 
 // Replays a list, names the records that failed, and says how it went.
 fn replay_list(rt: &impl Print, bytes: &[u8]) -> io::Result<()> {
     let mut record = Reading::new(bytes);
-    let n = record.word();
+    let n = next(&mut record);
     let mut failed: u32 = 0;
     for k in 0..n {
         record.faults = 0;
         replay_record(&mut record);
         if record.faults != 0 {
             println!(rt; "failed: operation {k}")?;
-            failed = failed.saturating_add(1);
+            failed = failed.saturating_add(1).min(1000000);
         }
     }
     println!(rt; "{n} operations replayed, {failed} failed")
 }
 
 // Reads the list into 262,144 bytes and replays it.
+// A list that is cut goes on with zeros.
 fn replay_file(rt: &impl Print, file: &mut impl Read) -> io::Result<()> {
     let mut bytes = [0u8; 262144];
-    let n = read_full(file, &mut bytes)?;
-    replay_list(rt, &bytes[..n])
+    read_full(file, &mut bytes)?;
+    replay_list(rt, &bytes)
 }
 
 fn main(rt: HostRuntime) -> io::Result<()> {
