@@ -16,7 +16,7 @@ use image_text::{Text, mutation_reason, undefined_identifier};
 use lent_effect_read::effect_in;
 use lent_effects::{AliasingEffect, kind_word};
 use lent_layout::OUTPUT;
-use lent_members::{members, size};
+use lent_members::members;
 use lent_sets::is_defined;
 use lent_values::value_at;
 
@@ -151,11 +151,15 @@ fn put_members(text: &mut Text, sets: &[u64], i: u32)
     ensures written { cursor_of text.new
         ≡ put_all (columns (or_absent (values_of (set_at sets.now i)))) (cursor_of text.old) }
 {
-    if size(sets, i) == 0 {
-        text.put_absent();
-    }
-    for m in members(sets, i) {
-        text.put_number(m);
+    let mut values = members(sets, i);
+    match values.next() {
+        None => text.put_absent(),
+        Some(first) => {
+            text.put_number(first);
+            for m in values {
+                text.put_number(m);
+            }
+        }
     }
 }
 
