@@ -1,3 +1,4 @@
 pub mod Code
 pub mod MergeList
 pub mod Any
+pub mod Down

@@ -50,10 +50,11 @@ pub fn adds_set(sets: &[u64], other: &[u64], i: u32) -> bool
 }
 
 // Whether the second state adds to the entry of some value.
+// It goes down from 1,023, as the definition does.
 fn adds_values(values: &[u64], other: &[u64]) -> bool
     ensures { result ≡ any_below 1024 (value_adds values.now other.now) }
 {
-    (0..1024).any(|v| adds_value(values, other, v))
+    (0..1024).rev().any(|v| adds_value(values, other, v))
 }
 
 // How many rows a list of that many words has, of the 512 that there are identifiers.
@@ -65,11 +66,13 @@ pub fn row_count(words: usize) -> u32
 }
 
 // Whether the second state adds to the set of some identifier.
-// Rows past the end of the second list are not defined and add nothing.
+// It goes down from the last row of the second list: rows past its end are not defined and add nothing.
 fn adds_sets(sets: &[u64], other: &[u64]) -> bool
     ensures { result ≡ any_below 512 (set_adds sets.now other.now) }
 {
-    (0..row_count(other.len() + 15)).any(|i| adds_set(sets, other, i))
+    (0..row_count(other.len() + 15))
+        .rev()
+        .any(|i| adds_set(sets, other, i))
 }
 
 // Whether the second state adds anything to the first.
