@@ -1,14 +1,16 @@
 // Assign and ImmutableCapture: what is frozen or copied gets a number of its own under a key, anything else the source's set.
 #![tactic(auto)]
 
-ghost use Rattle.std.specs.Prelude.{◌≡◌};
+ghost use Rattle.std.specs.Prelude.{◌≡◌, List, ℕ};
 ghost use Rattle.def_effects.specs.Effects.{AliasingEffect as Effect};
 ghost use Rattle.def_transfer.specs.Monad.{ok, M, Done};
 ghost use Rattle.def_transfer.specs.Tables.{World as Worlds};
 ghost use Rattle.def_transfer.specs.Step as Step;
 ghost use Rattle.laws_monad.specs.Answers.{answers};
+ghost use Rattle.lent_layout.specs.Context.{ContextWords};
 ghost use Rattle.lent_world.specs.World.{lent};
 ghost use Rattle.effect_create.specs.Creations.{numbered, assigned, assigning};
+ghost use Rattle.effect_parts.specs.Parts.{beside};
 ghost use Rattle.lent_world.specs.Promise.{seen, Kept, Does, Untouched};
 
 use def_effects::Place;
@@ -67,13 +69,16 @@ pub fn assign_rest(world: &mut World, from: Place, into: Place, a: AbstractValue
 }
 
 // An Assign begins: its destination is initialized, and the source's kind is looked at, with its span.
-// 6 refuses a destination that already began.
+// 6 refuses a destination that already began. Context and output list are not looked at: it is the same beside any others.
 pub fn begin_assign(world: &mut World, from: Place, into: Place) -> Result<AbstractValue, Refusal>
     ensures kept { Kept world.old world.new }
     ensures untouched { Untouched world.old world.new }
     ensures does { (again : Effect → M (Worlds lent) Done)
         → Step.assigning again from into (seen world.old)
         ≡ answers result (λ a. assigning again from into a (seen world.new)) (seen world.new) }
+    ensures elsewhere { (again : Effect → M (Worlds lent) Done) (c : ContextWords) (os : List ℕ)
+        → Step.assigning again from into (beside c os world.old)
+        ≡ answers result (λ a. assigning again from into a (beside c os world.new)) (beside c os world.new) }
 {
     begin(world, into.identifier)?;
     Ok(kind_with_span(world, from.identifier, from.span))

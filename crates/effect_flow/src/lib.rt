@@ -1,7 +1,7 @@
 // Capture, Alias and MaybeAlias: what comes next, by the kinds of destination and source. After the arms for them of the Rust.
 #![tactic(auto)]
 
-ghost use Rattle.std.specs.Prelude.{◌≡◌, List};
+ghost use Rattle.std.specs.Prelude.{◌≡◌, List, ℕ};
 ghost use Rattle.def_effects.specs.declared.Place.{Place as APlace};
 ghost use Rattle.def_effects.specs.Effects.{AliasingEffect as Effect, ImmutableCapture, MaybeAlias};
 ghost use Rattle.def_transfer.specs.Monad.{M, Done};
@@ -11,7 +11,9 @@ ghost use Rattle.def_transfer.specs.Step as Step;
 ghost use Rattle.def_transfer.specs.Step.{by_flow, flow_of, destination_of, source_of};
 ghost use Rattle.effect_acts.specs.Acts.{follow};
 ghost use Rattle.effect_flow.specs.Flows.{flows};
+ghost use Rattle.effect_parts.specs.Parts.{beside};
 ghost use Rattle.laws_monad.specs.Answers.{answers};
+ghost use Rattle.lent_layout.specs.Context.{ContextWords};
 ghost use Rattle.lent_world.specs.Promise.{seen, Kept, Untouched};
 ghost use Rattle.lent_world.specs.World.{lent};
 
@@ -61,12 +63,16 @@ pub fn flow_next(
 }
 
 // The destination's kind, then the source's, each with its span; what comes next.
+// Context and output list are not looked at: it is the same beside any others.
 fn flowing(world: &mut World, maybe: bool, from: Place, into: Place) -> Next
     ensures kept { Kept world.old world.new }
     ensures untouched { Untouched world.old world.new }
     ensures does { (again : Effect → M (AWorld lent) Done) (e : Effect) (cs : List APlace)
         → Step.flowing again maybe e from into (seen world.old)
         ≡ follow again e cs result (seen world.new) }
+    ensures elsewhere { (again : Effect → M (AWorld lent) Done) (e : Effect) (cs : List APlace) (c : ContextWords)
+        (os : List ℕ) → Step.flowing again maybe e from into (beside c os world.old)
+        ≡ follow again e cs result (beside c os world.new) }
 {
     let destination = kind_with_span(world, into.identifier, into.span);
     let source = kind_with_span(world, from.identifier, from.span);
@@ -75,12 +81,16 @@ fn flowing(world: &mut World, maybe: bool, from: Place, into: Place) -> Next
 
 // A flow between two places.
 // An Alias into a place that was not initialized in this instruction is refused with 7; Capture and MaybeAlias ask nothing.
+// Context and output list are not looked at: it is the same beside any others.
 pub fn flow(world: &mut World, kind: FlowKind, from: Place, into: Place) -> Result<Next, Refusal>
     ensures kept { Kept world.old world.new }
     ensures untouched { Untouched world.old world.new }
     ensures does { (again : Effect → M (AWorld lent) Done) (e : Effect) (cs : List APlace)
         → flows again kind e from into (seen world.old)
         ≡ answers result (λ next. follow again e cs next (seen world.new)) (seen world.new) }
+    ensures elsewhere { (again : Effect → M (AWorld lent) Done) (e : Effect) (cs : List APlace) (c : ContextWords)
+        (os : List ℕ) → flows again kind e from into (beside c os world.old)
+        ≡ answers result (λ next. follow again e cs next (beside c os world.new)) (beside c os world.new) }
 {
     match kind {
         FlowKind::Capture => Ok(flowing(world, false, from, into)),

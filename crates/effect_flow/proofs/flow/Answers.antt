@@ -12,3 +12,15 @@ returns-then-not-is_marked-clause-does c = λ again e cs. alias_refused again e 
 
 pub returns-else-not-is_marked-clause-does : goal.returns-else-not-is_marked-clause-does
 returns-else-not-is_marked-clause-does c = λ again e cs. alias_goes again e cs _ _ _ _ _ c.in-Alias.is _ c.is_marked.ensures c.if-not-is_marked.false (c.flowing-in-Alias.ensures.does again e cs)
+
+pub returns-in-Capture-clause-elsewhere : goal.returns-in-Capture-clause-elsewhere
+returns-in-Capture-clause-elsewhere c = λ again e cs o os. capture_goes again e cs _ _ _ _ _ c.in-Capture.is (c.flowing.ensures.elsewhere again e cs o os)
+
+pub returns-in-MaybeAlias-clause-elsewhere : goal.returns-in-MaybeAlias-clause-elsewhere
+returns-in-MaybeAlias-clause-elsewhere c = λ again e cs o os. maybe_goes again e cs _ _ _ _ _ c.in-MaybeAlias.is (c.flowing-in-MaybeAlias.ensures.elsewhere again e cs o os)
+
+pub returns-then-not-is_marked-clause-elsewhere : goal.returns-then-not-is_marked-clause-elsewhere
+returns-then-not-is_marked-clause-elsewhere c = λ again e cs o os. alias_refused again e cs _ _ _ _ c.in-Alias.is _ c.is_marked.ensures c.if-not-is_marked.true
+
+pub returns-else-not-is_marked-clause-elsewhere : goal.returns-else-not-is_marked-clause-elsewhere
+returns-else-not-is_marked-clause-elsewhere c = λ again e cs o os. alias_goes again e cs _ _ _ _ _ c.in-Alias.is _ c.is_marked.ensures c.if-not-is_marked.false (c.flowing-in-Alias.ensures.elsewhere again e cs o os)
