@@ -9,11 +9,13 @@ use def_effects::{MutateVariant, Place};
 use lent_effects::AliasingEffect;
 
 // The flows between two places: Capture, Alias, which asks that its destination was initialized, and MaybeAlias.
+// AliasAsMaybe asks what an Alias does and flows like a MaybeAlias; no effect is one.
 #[derive(Clone, Copy)]
 pub enum FlowKind {
     Capture,
     Alias,
     MaybeAlias,
+    AliasAsMaybe,
 }
 
 // What an effect does, by its kind: a mutation, a flow between two places, what derives others, or none of these.

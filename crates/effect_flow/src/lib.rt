@@ -80,7 +80,8 @@ fn flowing(world: &mut World, maybe: bool, from: Place, into: Place) -> Next
 }
 
 // A flow between two places.
-// An Alias into a place that was not initialized in this instruction is refused with 7; Capture and MaybeAlias ask nothing.
+// An Alias into a place that was not initialized in this instruction is refused with 7, also one that flows like a MaybeAlias.
+// Capture and MaybeAlias ask nothing.
 // Context and output list are not looked at: it is the same beside any others.
 pub fn flow(world: &mut World, kind: FlowKind, from: Place, into: Place) -> Result<Next, Refusal>
     ensures kept { Kept world.old world.new }
@@ -100,6 +101,12 @@ pub fn flow(world: &mut World, kind: FlowKind, from: Place, into: Place) -> Resu
                 return Err(Refusal::NotBegun);
             }
             Ok(flowing(world, false, from, into))
+        }
+        FlowKind::AliasAsMaybe => {
+            if !is_marked(world.run.marks, into.identifier) {
+                return Err(Refusal::NotBegun);
+            }
+            Ok(flowing(world, true, from, into))
         }
     }
 }

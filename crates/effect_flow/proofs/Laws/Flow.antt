@@ -147,7 +147,17 @@ module _ (again : AliasingEffect → M (World lent) Done) (e : AliasingEffect) (
       unfolding flows is_initialized ask
       alias_goes t g = ap (λ (x : FlowKind). flows again x e from into w) h ∙ bind_ok _ _ _ _ _ _ refl (if_true _ _ _ _ _ (sym q ∙ t) g)
 
+    -- an Alias that flows like a MaybeAlias
+    module _ (h : k ≡ Kind.AliasAsMaybe) (b : Bool) (q : b ≡ is_marked w.rest.work.initialized into.identifier) where
+      pub as_maybe_goes : b ≡ true → flowing again true e from into w ≡ y → flows again k e from into w ≡ y
+      unfolding flows is_initialized ask
+      as_maybe_goes t g = ap (λ (x : FlowKind). flows again x e from into w) h ∙ bind_ok _ _ _ _ _ _ refl (if_true _ _ _ _ _ (sym q ∙ t) g)
+
   -- "7 Alias into one not initialized in it"
   pub alias_refused : (k : FlowKind) → k ≡ Kind.Alias → (b : Bool) → b ≡ is_marked w.rest.work.initialized into.identifier → b ≡ false → flows again k e from into w ≡ refused 7 w
   unfolding flows is_initialized ask refuse
   alias_refused k h b q t = ap (λ (x : FlowKind). flows again x e from into w) h ∙ bind_ok _ _ _ _ _ _ refl (if_false _ _ _ _ _ (sym q ∙ t) refl)
+
+  pub as_maybe_refused : (k : FlowKind) → k ≡ Kind.AliasAsMaybe → (b : Bool) → b ≡ is_marked w.rest.work.initialized into.identifier → b ≡ false → flows again k e from into w ≡ refused 7 w
+  unfolding flows is_initialized ask refuse
+  as_maybe_refused k h b q t = ap (λ (x : FlowKind). flows again x e from into w) h ∙ bind_ok _ _ _ _ _ _ refl (if_false _ _ _ _ _ (sym q ∙ t) refl)
