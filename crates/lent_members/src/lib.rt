@@ -13,14 +13,21 @@ use lent_slices::get_or;
 
 // The lowest member of row i from `from` on, if there is one.
 // A loop over the values of a set goes by it; a word without members is one step.
+// Only the word with `from` is shifted: a shift for each word would slow the search of a sparse row.
 pub fn next_member(rows: &[u64], i: u32, from: u32) -> Option<u32>
     ensures { result ≡ member_from rows.now i from }
 {
-    for w in from / 64..16 {
-        let v = from.max(w * 64);
-        let rest = row_word(rows, i, w) >> (v % 64);
-        if rest != 0 {
-            return Some(v + u64::trailing_zeros(rest));
+    if from >= 1024 {
+        return None;
+    }
+    let rest = row_word(rows, i, from / 64) >> (from % 64);
+    if rest != 0 {
+        return Some(from + u64::trailing_zeros(rest));
+    }
+    for w in from / 64 + 1..16 {
+        let word = row_word(rows, i, w);
+        if word != 0 {
+            return Some(w * 64 + u64::trailing_zeros(word));
         }
     }
     None
