@@ -1,4 +1,4 @@
--- What the decoded identifiers hold is what the image says. Assumes nothing.
+-- What a decoded context holds beside its functions' places: options, count of functions, identifiers. Assumes nothing.
 use Prim.Native.Nat.{ℕ, zero, suc, ◌+◌, ◌*◌, ◌≤◌, ◌<◌}
 use Rattle.std.specs.Prelude.{◌≡◌, List}
 use Rattle.std.proofs.Math.Path.{refl}
@@ -9,11 +9,25 @@ use Rattle.lent_tables.specs.Words.{field, put_field}
 use Rattle.lent_tables.proofs.Laws.Word.{put_length, put_record}
 use Rattle.lent_layout.specs.Layout as Lent
 use Rattle.lent_layout.specs.Context.{ContextWords}
-use Rattle.def_image.specs.Layout.{Image, cell, identifiers, count_of, identifier_flags, identifier_name, access_start, access_end}
+use Rattle.def_image.specs.Layout.{Image, cell, identifiers, functions, count_of, identifier_flags, identifier_name, access_start, access_end, options}
 use Rattle.image_decode.specs.Decoded.{after, decoded_identifier, decoded_identifiers, decoded_context}
 use Rattle.image_decode.proofs.Laws.StateBack.{after_length}
 use Rattle.image_decode.proofs.Laws.ContextBack.{identifier_length}
 use Rattle.lent_tables.proofs.Laws.Back.{word_back, word_beside}
+
+-- ---- the numbers beside the tables
+
+-- the options
+-- "options (bit 0 .., bit 1 ..)"
+pub options_back : (im : Image) (c : ContextWords) → (decoded_context im c).options ≡ options im
+unfolding decoded_context
+options_back im c = refl
+
+-- the count of functions
+-- of identifiers a context has none of its own: the length of the sets that the call is lent says how many there are (`laws_image_accepted` `Laws/Lengths.antt`: `sets_identifiers`)
+pub function_count_back : (im : Image) (c : ContextWords) → (decoded_context im c).function_count ≡ count_of im functions
+unfolding decoded_context
+function_count_back im c = refl
 
 -- ---- identifiers
 

@@ -35,7 +35,7 @@ use Rattle.lent_context.specs.Lent.{effects_in, interned_count}
 use Rattle.def_image.specs.Layout.{Image, words_of, word, identifiers, values, pairs, functions, candidates, count_of, options, flag_two, captures_count, code, function_flags, identifier_flags, pair_identifier, pair_value}
 use Rattle.def_image.specs.Refusals.{refusal_of_words, refusal_of}
 use Rattle.def_image.specs.Decode.{list_from, entry_of, place_at, places_from, value_table, set_table, world_of, makers, effect_at, instruction_of, no_function, no_identifier, function_at, identifier_at, with_pair, member_of, transitive}
-use Rattle.image_decode.specs.Decoded.{after, decoded_context, decoded_candidate, decoded_candidates, decoded_sets}
+use Rattle.image_decode.specs.Decoded.{after, decoded_candidate, decoded_candidates, decoded_sets}
 use Rattle.image_decode.proofs.Laws.StateBack.{no_value, values_back, no_set, sets_back, after_length}
 use Rattle.lent_effects.proofs.Laws.Back.{capture_count, effect_back}
 use Rattle.image_decode.proofs.Laws.Candidate.{run_length}
@@ -50,7 +50,7 @@ use Rattle.lent_world.proofs.Laws.LentFaithful.{lent_faithful}
 use Rattle.laws_room.proofs.Laws.Near.{besides}
 use Rattle.laws_image_accepted.proofs.Laws.Context.{none_interned, none_told, links_zero, keys_zero, identifiers_after, functions_after}
 use Rattle.image_decode.proofs.Laws.ContextBack.{contexts_back, insides_back, flags_back}
-use Rattle.image_decode.proofs.Laws.WordsBack.{identifiers_back}
+use Rattle.image_decode.proofs.Laws.WordsBack.{options_back, identifiers_back}
 use Rattle.refuse_entries.specs.Words as Words
 use Rattle.lent_keys.specs.KeyRecords.{key_in, key_head_in, numbers_in, option_in}
 use Rattle.lent_context.specs.Lent as Lent
@@ -228,10 +228,6 @@ module _ (im : Image) (small : (i : ℕ) → word im i < 4294967296) (good : ref
   identifiers_long : 2048 ≤ length no_context.identifiers
   identifiers_long = let z = no_context_full.identifiers in omega arith
 
-  options_is : c.options ≡ options im
-  unfolding decoded_context
-  options_is = refl
-
   function_in_is : (f : ℕ) → f < count_of im functions → function_in c f ≡ function_at im f
   unfolding function_at Lent.context_of Lent.mutated_inside
   function_in_is f l = λ j. record {
@@ -282,7 +278,7 @@ module _ (im : Image) (small : (i : ℕ) → word im i < 4294967296) (good : ref
     links = fun_ext {f = λ v. option_in Layout.links c.links v 0} {g = λ v. None} (λ v. ap (λ (x : ℕ). ite (eqb x 0) None (Some (field Layout.links c.links v 1))) (links_zero im v 0)) j;
     functions = functions_is j;
     identifiers = identifiers_is j;
-    transitive = not (eqb (options_is j) 0);
+    transitive = not (eqb (options_back im no_context j) 0);
     diagnostics = Lent.diagnostics_in c.diagnostics 0 (none_told im j);
   }
 
