@@ -93,28 +93,41 @@ fn table_wrong(t: Table, n: u32, words: usize) -> bool
 pub fn context_wrong(context: &Context, identifiers: u32, room: u32) -> bool
     ensures { result ≡ context_wrong identifiers room (held context.now) }
 {
-    let functions = context.function_count.min(64);
+    let functions = context.function_count.min(FUNCTIONS.count);
     table_wrong(IDENTIFIERS, identifiers, context.identifiers.len())
         || table_wrong(FUNCTIONS, functions, context.functions.len())
         || table_wrong(CONTEXTS, functions, context.contexts.len())
-        || table_wrong(LINKS, 512, context.links.len())
-        || table_wrong(CACHED, 512, context.keys.len())
-        || table_wrong(KEY_ORDER, 512, context.key_order.len())
+        || table_wrong(LINKS, LINKS.count, context.links.len())
+        || table_wrong(CACHED, CACHED.count, context.keys.len())
+        || table_wrong(KEY_ORDER, KEY_ORDER.count, context.key_order.len())
         || table_wrong(INTERNED, room, context.effects.len())
         || table_wrong(EFFECT_ORDER, room, context.effect_order.len())
         || context.diagnostics.len() != DIAGNOSTICS
 }
+
+// ---- what is saved
+
+// How many words the tables can have that an instruction may write into: context places, links, keys, both orders.
+const CONTEXT_WORDS: usize = (CONTEXTS.count * CONTEXTS.width) as usize;
+
+const LINK_WORDS: usize = (LINKS.count * LINKS.width) as usize;
+
+const KEY_WORDS: usize = (CACHED.count * CACHED.width) as usize;
+
+const KEY_ORDER_WORDS: usize = (KEY_ORDER.count * KEY_ORDER.width) as usize;
+
+const EFFECT_ORDER_WORDS: usize = (EFFECT_ORDER.count * EFFECT_ORDER.width) as usize;
 
 // How many words are saved of each table of a context that an instruction may write into: all, but no more than it can have.
 #[tactic(auto, using(call_outcome::proofs::Laws::Class::most_past, call_outcome::proofs::Laws::Class::most_within))]
 pub fn lengths_of(context: &Context) -> Lengths
     ensures { result ≡ lengths_of (held context.now) }
 {
-    let contexts = context.contexts.len().min(5120) as u16;
-    let links = context.links.len().min(1024) as u16;
-    let keys = context.keys.len().min(14336) as u16;
-    let key_order = context.key_order.len().min(512) as u16;
-    let effect_order = context.effect_order.len().min(2048) as u16;
+    let contexts = context.contexts.len().min(CONTEXT_WORDS) as u16;
+    let links = context.links.len().min(LINK_WORDS) as u16;
+    let keys = context.keys.len().min(KEY_WORDS) as u16;
+    let key_order = context.key_order.len().min(KEY_ORDER_WORDS) as u16;
+    let effect_order = context.effect_order.len().min(EFFECT_ORDER_WORDS) as u16;
     Lengths {
         contexts,
         links,

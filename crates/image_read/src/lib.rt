@@ -18,7 +18,10 @@ use image_decode::{decode_context, decode_sets, decode_values};
 use image_decode_candidates::decode_candidates;
 use image_job::{Job, job_of};
 use image_words::{length_wrong, load_words};
-use lent_layout::{CANDIDATE_WORDS, Context, DIAGNOSTICS, UNUSED};
+use lent_layout::{
+    CACHED, CANDIDATE_WORDS, CONTEXTS, Context, DIAGNOSTICS, EFFECT_ORDER, FUNCTIONS, IDENTIFIERS,
+    INTERNED, KEY_ORDER, LINKS, UNUSED,
+};
 
 // The state of an image, in tables that may hold anything.
 // They are cleared first: a number that the image does not name has no entry, an identifier no set.
@@ -103,14 +106,14 @@ fn read_words(
 fn is_full(context: &Context) -> bool
     ensures { result ≡ is_full (held context.now) }
 {
-    context.identifiers.len() == 2048
-        && context.functions.len() == 10432
-        && context.contexts.len() == 5120
-        && context.links.len() == 1024
-        && context.keys.len() == 14336
-        && context.key_order.len() == 512
-        && context.effects.len() == 200704
-        && context.effect_order.len() == 2048
+    context.identifiers.len() == (IDENTIFIERS.count * IDENTIFIERS.width) as usize
+        && context.functions.len() == (FUNCTIONS.count * FUNCTIONS.width) as usize
+        && context.contexts.len() == (CONTEXTS.count * CONTEXTS.width) as usize
+        && context.links.len() == (LINKS.count * LINKS.width) as usize
+        && context.keys.len() == (CACHED.count * CACHED.width) as usize
+        && context.key_order.len() == (KEY_ORDER.count * KEY_ORDER.width) as usize
+        && context.effects.len() == (INTERNED.count * INTERNED.width) as usize
+        && context.effect_order.len() == (EFFECT_ORDER.count * EFFECT_ORDER.width) as usize
         && context.diagnostics.len() == DIAGNOSTICS
 }
 

@@ -3,6 +3,10 @@
 // its end is `test_bytes::read_full`, whose contract bounds only the count; that the pieces of the listing are written in their order and nothing else, these lines.
 #![tactic(auto)]
 
+use lent_layout::{
+    CACHED, CANDIDATE_WORDS, CONTEXTS, Context, DIAGNOSTICS, EFFECT_ORDER, FUNCTIONS, IDENTIFIERS,
+    INTERNED, KEY_ORDER, LINKS, MOST_SAVED, OUTPUT_WORDS, UNUSED,
+};
 use std::io;
 use test_bytes::read_full;
 
@@ -14,16 +18,16 @@ fn main(rt: HostRuntime) -> io::Result<()> {
     let mut words = [0u32; 16384];
     let mut values = [0u64; 1024];
     let mut sets = [0u64; 8192];
-    let mut identifiers = [0u32; 2048];
-    let mut functions = [0u32; 10432];
-    let mut contexts = [0u32; 5120];
-    let mut links = [0u32; 1024];
-    let mut keys = [0u32; 14336];
-    let mut key_order = [0u32; 512];
-    let mut effects = [0u32; 200704];
-    let mut effect_order = [0u32; 2048];
-    let mut diagnostics = [lent_layout::UNUSED; lent_layout::DIAGNOSTICS];
-    let mut context = lent_layout::Context {
+    let mut identifiers = [0u32; (IDENTIFIERS.count * IDENTIFIERS.width) as usize];
+    let mut functions = [0u32; (FUNCTIONS.count * FUNCTIONS.width) as usize];
+    let mut contexts = [0u32; (CONTEXTS.count * CONTEXTS.width) as usize];
+    let mut links = [0u32; (LINKS.count * LINKS.width) as usize];
+    let mut keys = [0u32; (CACHED.count * CACHED.width) as usize];
+    let mut key_order = [0u32; (KEY_ORDER.count * KEY_ORDER.width) as usize];
+    let mut effects = [0u32; (INTERNED.count * INTERNED.width) as usize];
+    let mut effect_order = [0u32; (EFFECT_ORDER.count * EFFECT_ORDER.width) as usize];
+    let mut diagnostics = [UNUSED; DIAGNOSTICS];
+    let mut context = Context {
         options: 0,
         function_count: 0,
         effect_count: 0,
@@ -39,10 +43,10 @@ fn main(rt: HostRuntime) -> io::Result<()> {
         effect_order: &mut effect_order,
         diagnostics: &mut diagnostics,
     };
-    let mut candidates = [0u32; lent_layout::CANDIDATE_WORDS];
-    let mut output = [0u32; lent_layout::OUTPUT_WORDS];
+    let mut candidates = [0u32; CANDIDATE_WORDS];
+    let mut output = [0u32; OUTPUT_WORDS];
     let mut scratch64 = [0u64; 9216];
-    let mut scratch32 = [0u32; lent_layout::MOST_SAVED];
+    let mut scratch32 = [0u32; MOST_SAVED];
     let shown = image_infer::infer_image(
         &input[..n],
         &mut words,
