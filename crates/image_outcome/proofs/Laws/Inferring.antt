@@ -336,8 +336,8 @@ module _ (bs : List ℕ) (w : ℕ) (vs ss : List ℕ) (cs : ContextWords) (xs : 
       go true h = ap empties h
       go false h = ap empties h ∙ sym (ite_ne (refusal_of bs) 0 _ _ (λ y. z (h ∙ y)))
 
-  -- a refused image: its number
-  leaves_number : (r : Read) (os : List ℕ) (s : Answer) → o ≡ length os → false ≡ memory_wrong o p q → r ≡ read_image bs w t → (r.job.refusal ≡ 0 → ⊥) → s ≡ refused_as r.job.refusal → settled (left s r.tables.values r.tables.sets os) ≡ end
+  -- a refused image: its number, of anything that was read and is refused
+  pub leaves_number : (r : Read) (os : List ℕ) (s : Answer) → o ≡ length os → false ≡ memory_wrong o p q → r ≡ read_image bs w t → (r.job.refusal ≡ 0 → ⊥) → s ≡ refused_as r.job.refusal → settled (left s r.tables.values r.tables.sets os) ≡ end
   leaves_number r os s ho m h n e =
       ap (λ (x : Tables). settled (left s x.values x.sets os)) (read_same r h n)
       ∙ cleared r.job.refusal os s e n ho
@@ -383,8 +383,8 @@ module _ (bs : List ℕ) (w : ℕ) (vs ss : List ℕ) (cs : ContextWords) (xs : 
       ∙ sym (ap (λ (x : Bool). ite x (empties 1) (ite (eqb (refusal_of bs) 0) ran (empties (refusal_of bs)))) h)
       ∙ end_read m
 
-  -- an accepted image: its call, and what that leaves
-  leaves_call : (r : Read) (os s64 s32 : List ℕ) (x : Left) → false ≡ memory_wrong o p q → o ≡ length os → p ≡ length s64 → q ≡ length s32 → r ≡ read_image bs w t → r.job.refusal ≡ 0
+  -- an accepted image: its call, and what that leaves, of anything that was read and is not refused
+  pub leaves_call : (r : Read) (os s64 s32 : List ℕ) (x : Left) → false ≡ memory_wrong o p q → o ≡ length os → p ≡ length s64 → q ≡ length s32 → r ≡ read_image bs w t → r.job.refusal ≡ 0
       → length r.tables.sets ≡ length ss → length r.tables.candidates ≡ length xs
       → (Fits r.tables.sets r.tables.candidates s64 r.job → length os ≡ Layout.output_words → length s32 ≡ Layout.most_saved → x ≡ keeps (length r.tables.sets) (outcome (job_call r.job r.tables)))
       → settled x ≡ end

@@ -89,13 +89,15 @@ module _ (vs ss : List ℕ) (s : Session) (out unfit : Bool) (z : refusal_of vs 
 -- ---- refused before anything is done, or the definition
 
 module _ {A : Type 0} (ref : Bool) (empty : A) (m : M (World Lent) A) (vs ss : List ℕ) (s : Session) where
-  pub call_refused : (r : Refusal) (k : ℕ) → number_of r ≡ k → leaving (number_of r) empty vs ss s ≡ call_with ref k empty m vs ss s
+  -- whatever the number but 0: the empty answer, and all as it was
+  pub number_refused : (n k : ℕ) → n ≡ k → (n ≡ 0 → ⊥) → leaving n empty vs ss s ≡ call_with ref k empty m vs ss s
   unfolding call_with
-  call_refused r k e = go (number_of r) k e (number_some r)
-    where
-      go : (n k : ℕ) → n ≡ k → (n ≡ 0 → ⊥) → leaving n empty vs ss s ≡ call_with ref k empty m vs ss s
-      go zero k e h = absurd (h refl)
-      go (suc n) k e h = ap (λ x. call_with ref x empty m vs ss s) e
+  number_refused zero k e h = absurd (h refl)
+  number_refused (suc n) k e h = ap (λ x. call_with ref x empty m vs ss s) e
+
+  -- the same of a refusal of the code's
+  pub call_refused : (r : Refusal) (k : ℕ) → number_of r ≡ k → leaving (number_of r) empty vs ss s ≡ call_with ref k empty m vs ss s
+  call_refused r k e = number_refused (number_of r) k e (number_some r)
 
   pub call_runs : (k : ℕ) (a : A) (w : World Lent) → 0 ≡ k → m (start ref vs ss s) ≡ ok a w
       → leaving 0 a w.state.values w.state.sets w.rest.session ≡ call_with ref k empty m vs ss s
