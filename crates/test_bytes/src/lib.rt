@@ -139,7 +139,11 @@ pub fn number(text: &str) -> u32
 // A session with a next number, no access and no entries.
 // With the next number 512 every fresh number is handed out.
 pub fn session(next: u32) -> Session
-    ensures { result.next ≡ next }
+    ensures next { result.next ≡ next }
+    ensures access { result.access ≡ 0 }
+    ensures start { result.span.start ≡ 0 }
+    ensures end { result.span.end ≡ 0 }
+    ensures entries { result.entries ≡ 0 }
 {
     Session {
         next,
