@@ -2,6 +2,8 @@
 // The lists are docs/VECTORS.md's, part 5; their names are the arguments. Prints each job that failed, then how many were replayed.
 #![tactic(auto)]
 
+ghost use Rattle.std.specs.Prelude.{◌≤◌, IfOk, length};
+
 use call_outcome::Applied;
 use def_effects::{Diagnostic, Place, Session, Span};
 use def_refusals::Refusal;
@@ -497,17 +499,15 @@ fn read_word(file: &mut impl Read) -> io::Result<u32> {
     Ok(u32::from_le_bytes(bytes))
 }
 
-// Reads the next job, its length in words before it.
+// Reads the next job, its length in words before it, and answers how many bytes of it there is room for, and how many words there are behind.
 // The largest recorded job fits 393,216 bytes; what there is no room for is not read.
-fn read_job<'a>(file: &mut impl Read, bytes: &'a mut [u8]) -> io::Result<Job<'a>> {
+fn read_job(file: &mut impl Read, bytes: &mut [u8]) -> io::Result<(usize, u64)>
+    ensures { IfOk result (λ r. r.0 ≤ length bytes.new) }
+{
     let size = read_word(file)? as usize * 4;
     let end = size.min(bytes.len());
     read_full(file, &mut bytes[..end])?;
-    Ok(Job {
-        reading: Reading::new(&bytes[..end]),
-        behind: ((size - end) / 4) as u64,
-        read: 0,
-    })
+    Ok((end, ((size - end) / 4) as u64))
 }
 
 // Replays a list, names the jobs that failed, and says how it went. A job passes that was read to its end without a difference.
@@ -517,7 +517,12 @@ fn replay_list(rt: &impl Print, file: &mut impl Read) -> io::Result<()> {
     let mut failed: u32 = 0;
     for k in 0..n {
         let mut bytes = [0u8; 393216];
-        let mut job = read_job(file, &mut bytes)?;
+        let (end, behind) = read_job(file, &mut bytes)?;
+        let mut job = Job {
+            reading: Reading::new(&bytes[..end]),
+            behind,
+            read: 0,
+        };
         instructions = instructions.saturating_add(replay_job(&mut job));
         if !job.passes() {
             println!(rt; "failed: job {k}")?;
