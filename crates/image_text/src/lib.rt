@@ -4,7 +4,7 @@
 
 ghost use Rattle.std.specs.Prelude.{None, Some, [], ◌∷◌, ◌+◌, ◌%◌, ◌≡◌};
 ghost use Rattle.def_image.specs.Listing.{decimal, line, mutation_reason, newline, undefined_identifier};
-ghost use Rattle.image_text.specs.Texts.{column, cursor_of, Kept, put_all};
+ghost use Rattle.image_text.specs.Texts.{column, cursor, cursor_of, Kept, put_all};
 
 // A text that is being written: the lent buffer, and the place in it where the next byte goes.
 #[derive(Drop)]
@@ -20,17 +20,37 @@ fn last_digit(n: u32) -> u8
     b'0' + (n % 10) as u8
 }
 
+// A byte at a place of a buffer, and the place after it; past the end nothing changes.
+// Every byte of a listing goes through it.
+fn put_at(buffer: &mut [u8], at: usize, x: u8) -> usize
+    ensures { cursor result buffer.new ≡ put_all (x ∷ []) (cursor at buffer.old) }
+{
+    if at < buffer.len() {
+        buffer[at] = x;
+        return at + 1;
+    }
+    at
+}
+
+// A number in decimal digits from a place of a buffer on, the highest first: those of its tenth come before its last one.
+// The place goes by value: in a text that is lent from digit to digit it would be read from memory and written there for each.
+fn put_digits(buffer: &mut [u8], at: usize, n: u32) -> usize
+    ensures { cursor result buffer.new ≡ put_all (decimal n) (cursor at buffer.old) }
+{
+    if n < 10 {
+        return put_at(buffer, at, last_digit(n));
+    }
+    let next = put_digits(buffer, at, n / 10);
+    put_at(buffer, next, last_digit(n))
+}
+
 impl Text<'_> {
     // One byte is written, and the place moves on; past the end nothing changes.
-    // Every byte of a listing goes through it.
     pub fn put_byte(&mut self, x: u8)
         ensures kept { Kept self.old self.new }
         ensures written { cursor_of self.new ≡ put_all (x ∷ []) (cursor_of self.old) }
     {
-        if self.at < self.buffer.len() {
-            self.buffer[self.at] = x;
-            self.at += 1;
-        }
+        self.at = put_at(self.buffer, self.at, x);
     }
 
     // Bytes are written, one after the other.
@@ -44,15 +64,11 @@ impl Text<'_> {
     }
 
     // A number in decimal digits, the highest first.
-    // Those of its tenth come before its last one.
     fn put_decimal(&mut self, n: u32)
         ensures kept { Kept self.old self.new }
         ensures written { cursor_of self.new ≡ put_all (decimal n) (cursor_of self.old) }
     {
-        if n >= 10 {
-            self.put_decimal(n / 10);
-        }
-        self.put_byte(last_digit(n));
+        self.at = put_digits(self.buffer, self.at, n);
     }
 
     // A blank and a number.
