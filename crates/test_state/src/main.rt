@@ -331,7 +331,7 @@ fn run_merge_from(record: &mut Reading, one: &mut State, other: &State, now: Ses
 
 // One record: its head of 14 words (the count of input words before VECTORS.md's 13), ref flags, two states, the arguments,
 // and the answer, after the count of its words, with which the call's is compared. All fresh numbers of its session are handed out.
-fn replay_record(record: &mut Reading) {
+fn replay_on(record: &mut Reading, one: &mut State, other: &mut State) {
     let mut head = [0u32; 14];
     load_words(record, &mut head, 14);
     let span = Span {
@@ -346,32 +346,40 @@ fn replay_record(record: &mut Reading) {
     };
     let mut refs = [0u32; 512];
     load_words(record, &mut refs, head[8]);
-    let mut one = State {
-        values: [0; 1024],
-        sets: [0; 8192],
-        flag: head[6],
-    };
-    load_state(record, &mut one, head[9], head[10]);
-    let mut other = State {
-        values: [0; 1024],
-        sets: [0; 8192],
-        flag: head[7],
-    };
-    load_state(record, &mut other, head[11], head[12]);
+    one.flag = head[6];
+    load_state(record, one, head[9], head[10]);
+    other.flag = head[7];
+    load_state(record, other, head[11], head[12]);
     let mut list = [0u32; 1025];
     load_words(record, &mut list[..1024], head[13]);
     let arguments = [list[0], list[1], list[2], list[3]];
     let operands = &list[1..(head[13] as usize).clamp(1, 1025)];
     next(record);
     match head[2] {
-        12 => run_merge(record, &one, &other, now),
-        13 => run_merge_from(record, &mut one, &other, now),
+        12 => run_merge(record, one, other, now),
+        13 => run_merge_from(record, one, other, now),
         operation @ 1..=11 => {
-            let after = run(record, operation, &mut one, now, &refs, arguments, operands);
-            check_rest(record, after, &one);
+            let after = run(record, operation, one, now, &refs, arguments, operands);
+            check_rest(record, after, one);
         }
         _ => record.check(false),
     }
+}
+
+// One record on states that are empty at first.
+// A function's memory is cleared as it begins and again where it is made; where nothing runs in between, that is one time.
+fn replay_record(record: &mut Reading) {
+    let mut one = State {
+        values: [0; 1024],
+        sets: [0; 8192],
+        flag: 0,
+    };
+    let mut other = State {
+        values: [0; 1024],
+        sets: [0; 8192],
+        flag: 0,
+    };
+    replay_on(record, &mut one, &mut other);
 }
 
 // Replays a list, names the records that failed, and says how it went.
