@@ -51,13 +51,46 @@ impl Section {
 
     // The words of a record.
     // As the six lists of the paper have them.
-    #[tactic(auto, unfolding(def_image::specs::Layout::size_of))]
     pub fn size(self) -> usize
         ensures value { result ≡ size_of (number_of self) }
         ensures most { result ≤ 8 }
     {
-        SIZES[self.number()]
+        size_of(self)
     }
+}
+
+// What a section is told by: its name, and any number in the order of the header, of which those past the sixth tell none.
+pub trait AsSection: Copy {
+    ghost number: { Self → ℕ };
+
+    fn index(self) -> u32
+        ensures { result ≡ number self };
+}
+
+impl AsSection for Section {
+    ghost number = { number_of };
+
+    fn index(self) -> u32 {
+        self.number() as u32
+    }
+}
+
+impl AsSection for u32 {
+    ghost number = { λ n. n };
+
+    fn index(self) -> u32 {
+        self
+    }
+}
+
+// The words of a record of a section.
+// As the six lists of the paper have them; a section past the sixth has none.
+#[tactic(auto, unfolding(def_image::specs::Layout::size_of))]
+pub fn size_of<S: AsSection>(section: S) -> usize
+    ensures value { result ≡ size_of (S.number section) }
+    ensures most { result ≤ 8 }
+{
+    get_or(&SIZES, section.index() as usize, 0)
 }
 
 // Word i of the image.
@@ -72,62 +105,58 @@ pub fn word(im: &[u32], i: usize) -> u32
 // How many records a section has, as the header says.
 // "then count and word offset of six sections"
 #[tactic(auto, unfolding(def_image::specs::Layout::count_of))]
-pub fn count_of(im: &[u32], section: Section) -> u32
-    ensures { result ≡ count_of im.now (number_of section) }
+pub fn count_of<S: AsSection>(im: &[u32], section: S) -> u32
+    ensures { result ≡ count_of im.now (S.number section) }
 {
-    word(im, 5 + 2 * section.number())
+    word(im, 5 + 2 * section.index() as usize)
 }
 
 // Where a section begins, as the header says.
 // "then count and word offset of six sections"
 #[tactic(auto, unfolding(def_image::specs::Layout::offset_of))]
-pub fn offset_of(im: &[u32], section: Section) -> u32
-    ensures { result ≡ offset_of im.now (number_of section) }
+pub fn offset_of<S: AsSection>(im: &[u32], section: S) -> u32
+    ensures { result ≡ offset_of im.now (S.number section) }
 {
-    word(im, 6 + 2 * section.number())
+    word(im, 6 + 2 * section.index() as usize)
 }
 
 // Where a section ends.
 // Wide: a count times a size passes 32 bits.
 #[tactic(auto, using(crate::proofs::Laws::Layout::span_fits), unfolding(def_image::specs::Layout::end_of))]
-pub fn end_of(im: &[u32], section: Section) -> usize
-    ensures { result ≡ end_of im.now (number_of section) }
+pub fn end_of<S: AsSection>(im: &[u32], section: S) -> usize
+    ensures { result ≡ end_of im.now (S.number section) }
 {
-    offset_of(im, section) as usize + count_of(im, section) as usize * section.size()
+    offset_of(im, section) as usize + count_of(im, section) as usize * size_of(section)
 }
 
 // Where a section has to begin: after the header, or where the one before it ends.
 // "which follow in order without gaps"
 #[tactic(auto, unfolding(def_image::specs::Layout::start_of))]
-pub fn start_of(im: &[u32], section: Section) -> usize
-    ensures { result ≡ start_of im.now (number_of section) }
+pub fn start_of<S: AsSection>(im: &[u32], section: S) -> usize
+    ensures { result ≡ start_of im.now (S.number section) }
 {
-    match section {
-        Section::Identifiers => 17,
-        Section::Values => end_of(im, Section::Identifiers),
-        Section::Pairs => end_of(im, Section::Values),
-        Section::Places => end_of(im, Section::Pairs),
-        Section::Functions => end_of(im, Section::Places),
-        Section::Candidates => end_of(im, Section::Functions),
+    match section.index() {
+        0 => 17,
+        i => end_of(im, i - 1),
     }
 }
 
 // Word j of a record of a section.
 // Wide: a number of a record times a size passes 32 bits; a sum of two numbers is the number of a record too.
 #[tactic(auto, using(crate::proofs::Laws::Layout::span_fits), unfolding(def_image::specs::Layout::cell))]
-fn cell_at(im: &[u32], section: Section, k: usize, j: u32) -> u32
+fn cell_at<S: AsSection>(im: &[u32], section: S, k: usize, j: u32) -> u32
     requires { k ≤ 2 ^ 33 }
-    ensures { result ≡ cell im.now (number_of section) k j }
+    ensures { result ≡ cell im.now (S.number section) k j }
 {
     word(
         im,
-        offset_of(im, section) as usize + k * section.size() + j as usize,
+        offset_of(im, section) as usize + k * size_of(section) + j as usize,
     )
 }
 
 // Word j of record k of a section.
-pub fn cell(im: &[u32], section: Section, k: u32, j: u32) -> u32
-    ensures { result ≡ cell im.now (number_of section) k j }
+pub fn cell<S: AsSection>(im: &[u32], section: S, k: u32, j: u32) -> u32
+    ensures { result ≡ cell im.now (S.number section) k j }
 {
     cell_at(im, section, k as usize, j)
 }
@@ -142,8 +171,8 @@ pub fn cell_in_run(im: &[u32], section: Section, first: u32, i: u32, j: u32) -> 
 
 // Word j of the record after record k of a section.
 // Orders are tested of each two that follow one another.
-pub fn next_cell(im: &[u32], section: Section, k: u32, j: u32) -> u32
-    ensures { result ≡ cell im.now (number_of section) (suc k) j }
+pub fn next_cell<S: AsSection>(im: &[u32], section: S, k: u32, j: u32) -> u32
+    ensures { result ≡ cell im.now (S.number section) (suc k) j }
 {
     cell_at(im, section, k as usize + 1, j)
 }
@@ -216,8 +245,8 @@ pub fn too_many_records(im: &[u32]) -> bool
 // Whether a section begins elsewhere than it has to.
 // "six sections, which follow in order without gaps"
 #[tactic(auto, unfolding(def_image::specs::Refusals::misplaced))]
-pub fn misplaced(im: &[u32], section: Section) -> bool
-    ensures { result ≡ misplaced im.now (number_of section) }
+pub fn misplaced<S: AsSection>(im: &[u32], section: S) -> bool
+    ensures { result ≡ misplaced im.now (S.number section) }
 {
     offset_of(im, section) as usize != start_of(im, section)
 }

@@ -4,9 +4,8 @@
 ghost use Rattle.std.specs.Prelude.{◌&&◌, ◌≡◌, leb};
 ghost use Rattle.def_image.specs.Refusals.{are_flags, is_in, is_number, passes_end};
 ghost use Rattle.def_image.specs.Layout.{word};
-ghost use Rattle.image_class2.specs.Sections.{number_of};
 
-use image_class2::{Section, count_of, word};
+use image_class2::{AsSection, Section, count_of, word};
 
 // Whether a word is two flags.
 // "options (bit 0 .., bit 1 ..)", "flags (1 ref, 2 hoisted)"
@@ -20,8 +19,8 @@ pub fn are_flags(w: u32) -> bool
 // Whether a section has a record i.
 // Its index is below the section's count.
 #[tactic(auto, unfolding(def_image::specs::Refusals::is_in))]
-pub fn is_in(im: &[u32], section: Section, i: u32) -> bool
-    ensures { result ≡ is_in im.now (number_of section) i }
+pub fn is_in<S: AsSection>(im: &[u32], section: S, i: u32) -> bool
+    ensures { result ≡ is_in im.now (S.number section) i }
 {
     i < count_of(im, section)
 }

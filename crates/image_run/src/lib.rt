@@ -6,8 +6,8 @@ ghost use Rattle.std.specs.Prelude.{◌≡◌, ◌-◌, ◌≤◌, ◌++◌, Boo
 ghost use Rattle.call_outcome.specs.Calls.{outcome, told};
 ghost use Rattle.def_effects.specs.declared.Session.{Session as ASession};
 ghost use Rattle.image_job.specs.Reading.{said_of, tables};
-ghost use Rattle.image_pieces.specs.Pieces.{answer_of};
-ghost use Rattle.image_outcome.specs.Inferring.{Fits, job_call, memory_wrong, answered, keeps, settled};
+ghost use Rattle.image_pieces.specs.Pieces.{answer_of, answer_told};
+ghost use Rattle.image_outcome.specs.Inferring.{Fits, job_call, memory_wrong, answered, keeps, left, settled};
 ghost use Rattle.image_outcome.specs.Promise.{left_by};
 ghost use Rattle.lent_copies.specs.Copies.{zeros};
 ghost use Rattle.lent_copies.specs.Cleared.{Cleared};
@@ -18,7 +18,7 @@ use call_apply::apply_signature;
 use call_outcome::Applied;
 use def_refusals::Refusal;
 use image_job::Job;
-use image_pieces::Shown;
+use image_pieces::{Shown, Told};
 use image_read::empty_context;
 use lent_copies::clear_scratch;
 use lent_layout::{Context, EFFECT_WORDS, MOST_SAVED, OUTPUT_WORDS};
@@ -143,17 +143,23 @@ pub fn clear_work(
 
 // After a refusal the rest becomes zero too.
 // "With a number come zero effects and count."
-pub fn settle(
-    shown: Result<Shown, Refusal>,
+pub fn settle<E: Told>(
+    shown: Result<Shown, E>,
     values: &mut [u64],
     sets: &mut [u64],
     output: &mut [u32],
 )
-    ensures { left_by shown values.new sets.new output.new ≡ settled (left_by shown values.old sets.old output.old) }
+    ensures { left (answer_told E.told_by shown) values.new sets.new output.new
+        ≡ settled (left (answer_told E.told_by shown) values.old sets.old output.old) }
 {
-    if shown.is_err() {
-        values.fill(0);
-        sets.fill(0);
-        output.fill(0);
+    match shown {
+        Ok(_) => {}
+        Err(refusal) => {
+            if refusal.told() != 0 {
+                values.fill(0);
+                sets.fill(0);
+                output.fill(0);
+            }
+        }
     }
 }

@@ -15,12 +15,48 @@ use refuse_class::lower;
 // The limit of a word that any number may stand in.
 pub const ANY: Option<u64> = Some(4294967296);
 
+// What a test earns where it holds: a refusal, and a class by its number, whatever it is, of which 0 is none.
+pub trait Earned {
+    type Class;
+
+    ghost number: { Self → ℕ };
+
+    ghost class: { Self.Class → ℕ };
+
+    fn earned(self, b: bool) -> Self::Class
+        ensures { class result ≡ Classes.earns (number self) b };
+}
+
+impl Earned for Refusal {
+    type Class = Verdict;
+
+    ghost number = { number_of };
+
+    ghost class = { class_of };
+
+    fn earned(self, b: bool) -> Verdict {
+        if b { Err(self) } else { Ok(()) }
+    }
+}
+
+impl Earned for u32 {
+    type Class = u32;
+
+    ghost number = { λ n. n };
+
+    ghost class = { λ n. n };
+
+    fn earned(self, b: bool) -> u32 {
+        if b { self } else { 0 }
+    }
+}
+
 // A refusal where a test holds.
 // Each rule of document 01 is a test with its refusal.
-pub fn earns(refusal: Refusal, b: bool) -> Verdict
-    ensures { class_of result ≡ Classes.earns (number_of refusal) b }
+pub fn earns<E: Earned>(refusal: E, b: bool) -> E::Class
+    ensures { E.class result ≡ Classes.earns (E.number refusal) b }
 {
-    if b { Err(refusal) } else { Ok(()) }
+    refusal.earned(b)
 }
 
 // What a word earns by its limit: Order where it has no use and is not zero, Range where it does not lie below.

@@ -14,11 +14,8 @@ use Rattle.def_image.specs.Listing.{ascii, line, lines_from, effect_row, value_l
 use Rattle.image_text.specs.Texts.{Cursor, cursor, put_all, head_line}
 use Rattle.image_text.proofs.Laws.Text.{put_fits}
 use Rattle.image_text.proofs.Laws.Loops.{not_shown}
-use Rattle.def_refusals.specs.declared.Refusal.{Refusal}
-use Rattle.def_refusals.specs.Verdicts.{number_of}
-use Rattle.def_refusals.proofs.Laws.Verdicts.{number_some}
 use Rattle.image_pieces.specs.declared.Shown.{Shown}
-use Rattle.image_pieces.specs.Pieces.{Answer, answer_of, piece_bytes, effect_line, effect_run, value_run, listed_piece, refused_piece, piece, Writes, puts}
+use Rattle.image_pieces.specs.Pieces.{Answer, answer_told, answer_of, piece_bytes, effect_line, effect_run, value_run, listed_piece, refused_piece, piece, Writes, puts}
 
 -- ---- the line of an effect
 
@@ -131,16 +128,24 @@ puts_shows text bs us r l e =
     ap (λ (c : Cursor). take c.at c.bytes) (e ∙ ite_ge (length bs) piece_bytes (cursor 0 bs) (cursor (length text) (text ++ drop (length text) bs)) l)
     ∙ take-append_seam text (drop (length text) bs)
 
-module _ (a : Result Shown Refusal) (vs ss os : List ℕ) (k : ℕ) (bs us : List ℕ) (r : ℕ) where
+module _ {E : Type 0} (told_by : E → ℕ) (a : Result Shown E) (vs ss os : List ℕ) (k : ℕ) (bs us : List ℕ) (r : ℕ) where
   -- a refusal
   -- one way through `put_piece`
-  pub puts_refused : (e : Refusal) (n : ℕ) → a ≡ Err e → n ≡ number_of e → piece_bytes ≤ length bs → Writes (refused_piece n k) (cursor 0 bs) (cursor r us) → cursor r us ≡ puts (piece (answer_of a) vs ss os k) bs
+  pub puts_refused : (e : E) (n : ℕ) → a ≡ Err e → n ≡ told_by e → (n ≡ 0 → ⊥) → piece_bytes ≤ length bs → Writes (refused_piece n k) (cursor 0 bs) (cursor r us) → cursor r us ≡ puts (piece (answer_told told_by a) vs ss os k) bs
   unfolding piece
-  puts_refused e n h q l w =
-      puts_whole _ bs us r l (as_text (ap (λ (m : ℕ). refused_piece m k) q ∙ sym (ite_ne (number_of e) 0 (listed_piece (answer_of (Err e)) vs ss os k) (refused_piece (number_of e) k) (number_some e))) w)
-      ∙ ap (λ (x : Result Shown Refusal). puts (piece (answer_of x) vs ss os k) bs) (sym h)
+  puts_refused e n h q p l w =
+      puts_whole _ bs us r l (as_text (ap (λ (m : ℕ). refused_piece m k) q ∙ sym (ite_ne (told_by e) 0 (listed_piece (answer_told told_by (Err e)) vs ss os k) (refused_piece (told_by e) k) (λ z. p (q ∙ z)))) w)
+      ∙ ap (λ (x : Result Shown E). puts (piece (answer_told told_by x) vs ss os k) bs) (sym h)
+
+  -- one by the number 0, which is none: a listing of nothing
+  pub puts_nothing : (s : Shown) (e : E) (n : ℕ) → a ≡ Err e → n ≡ told_by e → n ≡ 0 → answer_of (Ok s) ≡ record { refusal = 0; count = 0; entries = 0; access = 0 } → piece_bytes ≤ length bs → Writes (listed_piece (answer_of (Ok s)) vs ss os k) (cursor 0 bs) (cursor r us) → cursor r us ≡ puts (piece (answer_told told_by a) vs ss os k) bs
+  unfolding piece
+  puts_nothing s e n h q z y l w =
+      puts_whole _ bs us r l w
+      ∙ ap (λ (x : Answer). puts (piece x vs ss os k) bs) (y ∙ ap (λ (m : ℕ). record { refusal = m; count = 0; entries = 0; access = 0 }) (sym z ∙ q))
+      ∙ ap (λ (x : Result Shown E). puts (piece (answer_told told_by x) vs ss os k) bs) (sym h)
 
   -- a listing
-  pub puts_listed : (s : Shown) → a ≡ Ok s → piece_bytes ≤ length bs → Writes (listed_piece (answer_of (Ok s)) vs ss os k) (cursor 0 bs) (cursor r us) → cursor r us ≡ puts (piece (answer_of a) vs ss os k) bs
+  pub puts_listed : (s : Shown) → a ≡ Ok s → piece_bytes ≤ length bs → Writes (listed_piece (answer_of (Ok s)) vs ss os k) (cursor 0 bs) (cursor r us) → cursor r us ≡ puts (piece (answer_told told_by a) vs ss os k) bs
   unfolding piece
-  puts_listed s h l w = puts_whole _ bs us r l w ∙ ap (λ (x : Result Shown Refusal). puts (piece (answer_of x) vs ss os k) bs) (sym h)
+  puts_listed s h l w = puts_whole _ bs us r l w ∙ ap (λ (x : Result Shown E). puts (piece (answer_told told_by x) vs ss os k) bs) (sym h)

@@ -1,11 +1,11 @@
--- `refuse_class::lower` meets its contract, by its three ways. Assumes nothing.
+-- The lower of two verdicts meets its contract, by its three ways. Assumes nothing.
 use Rattle.std.proofs.Common.{ap, ap₂, sym, ◌∙◌}
 use Rattle.def_refusals.specs.Verdicts.{number_of}
 use Rattle.def_refusals.proofs.Laws.Verdicts.{class_ok, class_err, class_is}
 use Rattle.refuse_class.specs.Class.{lower}
 use Rattle.refuse_class.proofs.Laws.Class.{lower_none, lower_alone}
 use Rattle.refuse_class.proofs.Laws.Least.{least}
-use Rattle.refuse_class.proofs.lower.Goals as goal
+use Rattle.refuse_class.proofs.VerdictClass.lower_of.Goals as goal
 
 pub returns-in-Ok-default : goal.returns-in-Ok-default
 returns-in-Ok-default c = lower_none _ _ (class_ok _ _ c.in-Ok-default.is-0)
