@@ -10,7 +10,7 @@ ghost use Rattle.lent_layout.specs.Context.{held};
 
 use def_refusals::{Refusal, Verdict};
 use lent_diagnostics::diagnostic_in;
-use lent_layout::{CACHED, Context, DIAGNOSTICS, INTERNED, Numbered, UNUSED};
+use lent_layout::{CACHED, Context, DIAGNOSTICS, IDENTIFIERS, INTERNED, Numbered, UNUSED};
 use lent_slices::get_or;
 use refuse_instruction::{Counts, effect_class};
 use refuse_keys::{key_class, no_key_class};
@@ -66,10 +66,12 @@ fn interned_class(context: &Context, k: usize, counts: Counts) -> Verdict
 }
 
 // What n identifiers earn.
+// Past the last that the table has all words are 0, so that no loop runs over a number that no table has.
 pub fn identifier_records(identifiers: &[u32], n: usize) -> Verdict
     ensures { class_of result ≡ lowest_below n (identifier_class identifiers.now) }
 {
-    lowest(n, |k| identifier_class(identifiers, k))
+    let m = n.min(IDENTIFIERS.count as usize);
+    lowest(m, |k| identifier_class(identifiers, k))
 }
 
 // What n functions earn, whose context places stand in a table of their own.

@@ -1,18 +1,21 @@
 -- Laws by which the code of identifiers, functions and links meets the definitions: a law for each way through a function. Assumes nothing.
-use Rattle.std.specs.Prelude.{ℕ, zero, suc, ◌<◌, ◌≡◌, Bool, List, eqb, Option, None, Some}
+use Rattle.std.specs.Prelude.{ℕ, zero, suc, ◌≤◌, ◌<◌, ◌≡◌, Bool, ◌&&◌, List, eqb, ltb, Option, None, Some}
 use Rattle.std.proofs.Math.Path.{refl, sym, ap}
-use Rattle.std.proofs.Common.{ap₂, ◌∙◌}
+use Rattle.std.proofs.Common.{ap₂, ◌∙◌, le-ltb}
 use Rattle.std.proofs.Math.Bool.{true, false, not}
 use Rattle.std.proofs.Math.Logic.{⊎_elim}
 use native.Mathlib.Omega.{arith}
 use borrow.Author.Tests.{ne_eqb}
 use Rattle.base_tests.proofs.Laws.Order.{same_or_not}
 use Rattle.base_tests.specs.Tests.{ite}
-use Rattle.lent_tables.specs.Words.{field}
+use Rattle.lent_tables.specs.Words.{within, field}
+use Rattle.lent_tables.proofs.Laws.Word.{field_out}
 use Rattle.lent_layout.specs.Layout as Layout
 use Rattle.refuse_class.specs.Class.{lower}
-use Rattle.refuse_words.specs.Classes.{earns, used_if, any, run_limit, record_class}
-use Rattle.refuse_tables.specs.TableClasses.{identifier_limit, function_limit, needs_known, places_class, function_class}
+use Rattle.refuse_words.specs.Classes.{earns, word_class, used_if, any, run_limit, words_below, record_class}
+use Rattle.refuse_words.proofs.Laws.Class.{lowest_none}
+use Rattle.refuse_words.proofs.Laws.Stray.{lowest_rest}
+use Rattle.refuse_tables.specs.TableClasses.{identifier_limit, identifier_class, function_limit, needs_known, places_class, function_class}
 
 -- ---- limits
 
@@ -39,6 +42,27 @@ module _ (flags w : ℕ) where
   pub identifier_name_is : w ≡ 1 → Some 513 ≡ identifier_limit flags w
   unfolding identifier_limit
   identifier_name_is e = sym (ap (identifier_limit flags) e)
+
+-- one past the last that a table has: its words are 0
+module _ (c : List ℕ) (i : ℕ) (l : 512 ≤ i) where
+  past_word : (w : ℕ) → field Layout.identifiers c i w ≡ 0
+  unfolding within
+  past_word w = field_out Layout.identifiers c i w (ap (λ (b : Bool). b && ltb w 4) (le-ltb i 512 l))
+
+  past_class : (w : ℕ) → word_class (identifier_limit 0 w) 0 ≡ 0
+  unfolding word_class identifier_limit
+  past_class zero = refl
+  past_class (suc zero) = refl
+  past_class (suc (suc zero)) = refl
+  past_class (suc (suc (suc zero))) = refl
+  past_class (suc (suc (suc (suc w)))) = refl
+
+  pub identifier_past : identifier_class c i ≡ 0
+  unfolding identifier_class record_class words_below
+  identifier_past =
+      sym (lowest_rest (λ w. word_class (identifier_limit (field Layout.identifiers c i 0) w) (field Layout.identifiers c i w)) 0 4 (omega arith)
+      (λ w h k. ap₂ (λ (f x : ℕ). word_class (identifier_limit f w) x) (past_word 0) (past_word w) ∙ past_class w))
+      ∙ sym (lowest_none (λ w. word_class (identifier_limit (field Layout.identifiers c i 0) w) (field Layout.identifiers c i w)))
 
 -- ---- functions
 

@@ -19,7 +19,7 @@ use Rattle.refuse_words.proofs.Laws.Class.{word_zero, lowest_none, lowest_more}
 -- ---- the lowest class
 
 -- tests that earn nothing may be left out at the end
-lowest_rest : (f : ℕ → ℕ) (m n : ℕ) → m ≤ n → ((k : ℕ) → m ≤ k → k < n → f k ≡ 0) → lowest_below m f ≡ lowest_below n f
+pub lowest_rest : (f : ℕ → ℕ) (m n : ℕ) → m ≤ n → ((k : ℕ) → m ≤ k → k < n → f k ≡ 0) → lowest_below m f ≡ lowest_below n f
 unfolding lowest_below
 lowest_rest f m zero l h = let e : m ≡ 0 = omega arith in ap (λ (x : ℕ). lowest_below x f) e
 lowest_rest f m (suc n) l h =
