@@ -1,3 +1,4 @@
 pub mod Suffices
+pub mod Told
 pub mod Ways
 pub mod Whole

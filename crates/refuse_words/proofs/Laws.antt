@@ -1,3 +1,4 @@
 pub mod Class
-pub mod Stray
 pub mod Order
+pub mod Stray
+pub mod Told
