@@ -72,7 +72,7 @@ def declared(path):
     return found
 
 
-# The functions, methods, types and constants of a crate's code; a method as Type::method.
+# The functions, methods, types, traits and constants of a crate's code; a method as Type::method.
 def code(crate):
     found = set()
     for path in glob.glob(os.path.join(ROOT, "crates", crate, "src", "**", "*.rt"), recursive=True):
@@ -83,7 +83,7 @@ def code(crate):
                 owner = m.group(1) + "::"
             elif line == "}":
                 owner = ""
-            m = re.match(r'\s*(?:pub )?(?:extern "C" )?(fn|struct|enum|const|type) (\w+)', line)
+            m = re.match(r'\s*(?:pub )?(?:extern "C" )?(fn|struct|enum|trait|const|type) (\w+)', line)
             if m:
                 found.add((owner if m.group(1) == "fn" else "") + m.group(2))
     return found
