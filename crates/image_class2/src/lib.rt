@@ -33,7 +33,7 @@ const SECTIONS: [Section; 6] = [
 ];
 
 // The words of a record of each section.
-const SIZES: [usize; 6] = [4, 3, 2, 5, 5, 8];
+const SIZES: [u32; 6] = [4, 3, 2, 5, 5, 8];
 
 // The code of an Apply.
 const APPLY: u32 = 12;
@@ -55,7 +55,7 @@ impl Section {
         ensures value { result ≡ size_of (number_of self) }
         ensures most { result ≤ 8 }
     {
-        size_of(self)
+        size_of(self) as usize
     }
 }
 
@@ -86,7 +86,7 @@ impl AsSection for u32 {
 // The words of a record of a section.
 // As the six lists of the paper have them; a section past the sixth has none.
 #[tactic(auto, unfolding(def_image::specs::Layout::size_of))]
-pub fn size_of<S: AsSection>(section: S) -> usize
+pub fn size_of<S: AsSection>(section: S) -> u32
     ensures value { result ≡ size_of (S.number section) }
     ensures most { result ≤ 8 }
 {
@@ -126,7 +126,7 @@ pub fn offset_of<S: AsSection>(im: &[u32], section: S) -> u32
 pub fn end_of<S: AsSection>(im: &[u32], section: S) -> usize
     ensures { result ≡ end_of im.now (S.number section) }
 {
-    offset_of(im, section) as usize + count_of(im, section) as usize * size_of(section)
+    offset_of(im, section) as usize + count_of(im, section) as usize * size_of(section) as usize
 }
 
 // Where a section has to begin: after the header, or where the one before it ends.
@@ -150,7 +150,7 @@ fn cell_at<S: AsSection>(im: &[u32], section: S, k: usize, j: u32) -> u32
 {
     word(
         im,
-        offset_of(im, section) as usize + k * size_of(section) + j as usize,
+        offset_of(im, section) as usize + k * size_of(section) as usize + j as usize,
     )
 }
 

@@ -6,7 +6,7 @@ ghost use Rattle.std.specs.Prelude.{◌≡◌, Ok};
 ghost use Rattle.lent_values.specs.Cells.{value_at};
 ghost use Rattle.def_image.specs.Listing.{value_line};
 ghost use Rattle.image_text.specs.Texts.{cursor};
-ghost use Rattle.image_pieces.specs.Pieces.{answer_of, answer_told, piece_count, effect_line, listed_piece, refused_piece, piece, WritesInto, WritesLines, puts};
+ghost use Rattle.image_pieces.specs.Pieces.{answer_of, piece_count, effect_line, listed_piece, refused_piece, piece, WritesInto, WritesLines, puts};
 
 use image_lines::{
     put_effect_line, put_head, put_refusal, put_set_line, put_undefined, put_value_line,
@@ -92,23 +92,22 @@ pub fn piece_count() -> u32
 // Writes piece k of what `image_infer::infer_image` answered and left, from the first byte of the buffer on, and answers how long it is.
 // Any lists with any numbers in them may be lent. A buffer of `image_pieces::PIECE_BYTES` bytes suffices for each piece; a shorter one is left as it was.
 #[tactic(auto, using(image_pieces::proofs::Laws::Ways::puts_short))]
-pub fn put_piece<E: Told>(
-    shown: Result<Shown, E>,
+pub fn put_piece<T: Told>(
+    shown: T,
     k: u32,
     values: &[u64],
     sets: &[u64],
     output: &[u32],
     buffer: &mut [u8],
 ) -> usize
-    ensures { cursor result buffer.new ≡ puts (piece (answer_told E.told_by shown) values.now sets.now output.now k) buffer.old }
+    ensures { cursor result buffer.new ≡ puts (piece (T.answer shown) values.now sets.now output.now k) buffer.old }
 {
     if buffer.len() < PIECE_BYTES {
         return 0;
     }
-    match shown {
+    match shown.told() {
         Ok(shown) => put_listed_piece(shown, k, values, sets, output, buffer),
-        Err(refusal) => {
-            let n = refusal.told();
+        Err(n) => {
             // 0 is the number of no refusal.
             if n == 0 {
                 put_listed_piece(NOTHING, k, values, sets, output, buffer)

@@ -21,14 +21,19 @@ pub record Answer : Type 0 where
   pub entries : ℕ
   pub access : ℕ
 
--- the same of what the code answers, by what a refused job is told by: after a refusal all but the number is zero
-abbrev pub answer_told : {E : Type 0} → (E → ℕ) → Result Shown E → Answer
-answer_told told_by (Ok s) = record { refusal = 0; count = s.count; entries = s.entries; access = s.access }
-answer_told told_by (Err refusal) = record { refusal = told_by refusal; count = 0; entries = 0; access = 0 }
+-- the same of a job that is refused by a number: all but the number is zero
+abbrev pub refused_by : ℕ → Answer
+refused_by n = record { refusal = n; count = 0; entries = 0; access = 0 }
 
--- by the number of the refusal
+-- of what the code answers
 abbrev pub answer_of : Result Shown Refusal → Answer
-answer_of r = answer_told number_of r
+answer_of (Ok s) = record { refusal = 0; count = s.count; entries = s.entries; access = s.access }
+answer_of (Err refusal) = record { refusal = number_of refusal; count = 0; entries = 0; access = 0 }
+
+-- and of the same with the number in place of the refusal
+abbrev pub answer_told : Result Shown ℕ → Answer
+answer_told (Ok s) = record { refusal = 0; count = s.count; entries = s.entries; access = s.access }
+answer_told (Err n) = refused_by n
 
 -- ---- which lines make a piece
 

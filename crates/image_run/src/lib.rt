@@ -6,7 +6,7 @@ ghost use Rattle.std.specs.Prelude.{◌≡◌, ◌-◌, ◌≤◌, ◌++◌, Boo
 ghost use Rattle.call_outcome.specs.Calls.{outcome, told};
 ghost use Rattle.def_effects.specs.declared.Session.{Session as ASession};
 ghost use Rattle.image_job.specs.Reading.{said_of, tables};
-ghost use Rattle.image_pieces.specs.Pieces.{answer_of, answer_told};
+ghost use Rattle.image_pieces.specs.Pieces.{answer_of};
 ghost use Rattle.image_outcome.specs.Inferring.{Fits, job_call, memory_wrong, answered, keeps, left, settled};
 ghost use Rattle.image_outcome.specs.Promise.{left_by};
 ghost use Rattle.lent_copies.specs.Copies.{zeros};
@@ -143,19 +143,14 @@ pub fn clear_work(
 
 // After a refusal the rest becomes zero too.
 // "With a number come zero effects and count."
-pub fn settle<E: Told>(
-    shown: Result<Shown, E>,
-    values: &mut [u64],
-    sets: &mut [u64],
-    output: &mut [u32],
-)
-    ensures { left (answer_told E.told_by shown) values.new sets.new output.new
-        ≡ settled (left (answer_told E.told_by shown) values.old sets.old output.old) }
+pub fn settle<T: Told>(shown: T, values: &mut [u64], sets: &mut [u64], output: &mut [u32])
+    ensures { left (T.answer shown) values.new sets.new output.new
+        ≡ settled (left (T.answer shown) values.old sets.old output.old) }
 {
-    match shown {
+    match shown.told() {
         Ok(_) => {}
-        Err(refusal) => {
-            if refusal.told() != 0 {
+        Err(n) => {
+            if n != 0 {
                 values.fill(0);
                 sets.fill(0);
                 output.fill(0);

@@ -15,7 +15,7 @@ use Rattle.image_text.specs.Texts.{Cursor, cursor, put_all, head_line}
 use Rattle.image_text.proofs.Laws.Text.{put_fits}
 use Rattle.image_text.proofs.Laws.Loops.{not_shown}
 use Rattle.image_pieces.specs.declared.Shown.{Shown}
-use Rattle.image_pieces.specs.Pieces.{Answer, answer_told, answer_of, piece_bytes, effect_line, effect_run, value_run, listed_piece, refused_piece, piece, Writes, puts}
+use Rattle.image_pieces.specs.Pieces.{Answer, answer_of, answer_told, refused_by, piece_bytes, effect_line, effect_run, value_run, listed_piece, refused_piece, piece, Writes, puts}
 
 -- ---- the line of an effect
 
@@ -128,24 +128,23 @@ puts_shows text bs us r l e =
     ap (λ (c : Cursor). take c.at c.bytes) (e ∙ ite_ge (length bs) piece_bytes (cursor 0 bs) (cursor (length text) (text ++ drop (length text) bs)) l)
     ∙ take-append_seam text (drop (length text) bs)
 
-module _ {E : Type 0} (told_by : E → ℕ) (a : Result Shown E) (vs ss os : List ℕ) (k : ℕ) (bs us : List ℕ) (r : ℕ) where
+module _ (a : Result Shown ℕ) (b : Answer) (vs ss os : List ℕ) (k : ℕ) (bs us : List ℕ) (r : ℕ) (e : answer_told a ≡ b) where
   -- a refusal
   -- one way through `put_piece`
-  pub puts_refused : (e : E) (n : ℕ) → a ≡ Err e → n ≡ told_by e → (n ≡ 0 → ⊥) → piece_bytes ≤ length bs → Writes (refused_piece n k) (cursor 0 bs) (cursor r us) → cursor r us ≡ puts (piece (answer_told told_by a) vs ss os k) bs
+  pub puts_refused : (n : ℕ) → a ≡ Err n → (n ≡ 0 → ⊥) → piece_bytes ≤ length bs → Writes (refused_piece n k) (cursor 0 bs) (cursor r us) → cursor r us ≡ puts (piece b vs ss os k) bs
   unfolding piece
-  puts_refused e n h q p l w =
-      puts_whole _ bs us r l (as_text (ap (λ (m : ℕ). refused_piece m k) q ∙ sym (ite_ne (told_by e) 0 (listed_piece (answer_told told_by (Err e)) vs ss os k) (refused_piece (told_by e) k) (λ z. p (q ∙ z)))) w)
-      ∙ ap (λ (x : Result Shown E). puts (piece (answer_told told_by x) vs ss os k) bs) (sym h)
+  puts_refused n h p l w =
+      puts_whole _ bs us r l (as_text (sym (ite_ne n 0 (listed_piece (answer_told (Err n)) vs ss os k) (refused_piece n k) p)) w)
+      ∙ ap (λ (x : Answer). puts (piece x vs ss os k) bs) (sym (ap answer_told h) ∙ e)
 
   -- one by the number 0, which is none: a listing of nothing
-  pub puts_nothing : (s : Shown) (e : E) (n : ℕ) → a ≡ Err e → n ≡ told_by e → n ≡ 0 → answer_of (Ok s) ≡ record { refusal = 0; count = 0; entries = 0; access = 0 } → piece_bytes ≤ length bs → Writes (listed_piece (answer_of (Ok s)) vs ss os k) (cursor 0 bs) (cursor r us) → cursor r us ≡ puts (piece (answer_told told_by a) vs ss os k) bs
+  pub puts_nothing : (s : Shown) (n : ℕ) → a ≡ Err n → n ≡ 0 → answer_of (Ok s) ≡ refused_by 0 → piece_bytes ≤ length bs → Writes (listed_piece (answer_of (Ok s)) vs ss os k) (cursor 0 bs) (cursor r us) → cursor r us ≡ puts (piece b vs ss os k) bs
   unfolding piece
-  puts_nothing s e n h q z y l w =
+  puts_nothing s n h z y l w =
       puts_whole _ bs us r l w
-      ∙ ap (λ (x : Answer). puts (piece x vs ss os k) bs) (y ∙ ap (λ (m : ℕ). record { refusal = m; count = 0; entries = 0; access = 0 }) (sym z ∙ q))
-      ∙ ap (λ (x : Result Shown E). puts (piece (answer_told told_by x) vs ss os k) bs) (sym h)
+      ∙ ap (λ (x : Answer). puts (piece x vs ss os k) bs) (y ∙ ap refused_by (sym z) ∙ sym (ap answer_told h) ∙ e)
 
   -- a listing
-  pub puts_listed : (s : Shown) → a ≡ Ok s → piece_bytes ≤ length bs → Writes (listed_piece (answer_of (Ok s)) vs ss os k) (cursor 0 bs) (cursor r us) → cursor r us ≡ puts (piece (answer_told told_by a) vs ss os k) bs
+  pub puts_listed : (s : Shown) → a ≡ Ok s → piece_bytes ≤ length bs → Writes (listed_piece (answer_of (Ok s)) vs ss os k) (cursor 0 bs) (cursor r us) → cursor r us ≡ puts (piece b vs ss os k) bs
   unfolding piece
-  puts_listed s h l w = puts_whole _ bs us r l w ∙ ap (λ (x : Result Shown E). puts (piece (answer_told told_by x) vs ss os k) bs) (sym h)
+  puts_listed s h l w = puts_whole _ bs us r l w ∙ ap (λ (x : Answer). puts (piece x vs ss os k) bs) (sym (ap answer_told h) ∙ e)
