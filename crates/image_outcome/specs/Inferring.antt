@@ -12,7 +12,7 @@ use Rattle.image_job.specs.Reading.{Said, Tables, tables, job_of, filled, lent_w
 use Rattle.call_outcome.specs.Calls.{Answered}
 use Rattle.call_outcome.specs.Calls.{Call, Outcome, call, outcome}
 use Rattle.image_text.specs.Texts.{lent_listing}
-use Rattle.image_pieces.specs.Pieces.{Answer, all_pieces}
+use Rattle.image_pieces.specs.Pieces.{Answer, refused_as, all_pieces}
 
 -- tables at their full size, and nothing in them
 -- 1,024 values, 512 rows of 16 words, a context, 64 records of 98 words
@@ -82,11 +82,6 @@ pub record Left : Type 0 where
 -- the same, in the order of the function's parameters
 abbrev pub left : Answer → List ℕ → List ℕ → List ℕ → Left
 left s vs ss os = record { shown = s; values = vs; sets = ss; output = os }
-
--- a refusal shows its number
--- "With a number come zero effects and count."
-abbrev pub refused_as : ℕ → Answer
-refused_as n = record { refusal = n; count = 0; entries = 0; access = 0 }
 
 -- what is shown of what a call answers
 unfoldable pub answered : Answered → Answer

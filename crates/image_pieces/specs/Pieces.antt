@@ -21,11 +21,12 @@ pub record Answer : Type 0 where
   pub entries : ℕ
   pub access : ℕ
 
--- the same of a job that is refused by a number: all but the number is zero
-abbrev pub refused_by : ℕ → Answer
-refused_by n = record { refusal = n; count = 0; entries = 0; access = 0 }
+-- a refusal shows its number
+-- "With a number come zero effects and count."
+abbrev pub refused_as : ℕ → Answer
+refused_as n = record { refusal = n; count = 0; entries = 0; access = 0 }
 
--- of what the code answers
+-- the same of what the code answers: after a refusal all but the number is zero
 abbrev pub answer_of : Result Shown Refusal → Answer
 answer_of (Ok s) = record { refusal = 0; count = s.count; entries = s.entries; access = s.access }
 answer_of (Err refusal) = record { refusal = number_of refusal; count = 0; entries = 0; access = 0 }
@@ -33,7 +34,7 @@ answer_of (Err refusal) = record { refusal = number_of refusal; count = 0; entri
 -- and of the same with the number in place of the refusal
 abbrev pub answer_told : Result Shown ℕ → Answer
 answer_told (Ok s) = record { refusal = 0; count = s.count; entries = s.entries; access = s.access }
-answer_told (Err n) = refused_by n
+answer_told (Err n) = refused_as n
 
 -- ---- which lines make a piece
 

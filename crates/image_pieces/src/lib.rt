@@ -2,7 +2,7 @@
 #![tactic(auto)]
 
 ghost use Rattle.std.specs.Prelude.{◌≡◌};
-ghost use Rattle.image_pieces.specs.Pieces.{Answer, answer_of, answer_told, refused_by};
+ghost use Rattle.image_pieces.specs.Pieces.{Answer, answer_of, answer_told, refused_as};
 
 use def_refusals::Refusal;
 
@@ -36,7 +36,7 @@ impl Told for Result<Shown, Refusal> {
 }
 
 impl Told for u32 {
-    ghost answer = { refused_by };
+    ghost answer = { refused_as };
 
     fn told(self) -> Result<Shown, u32> {
         Err(self)

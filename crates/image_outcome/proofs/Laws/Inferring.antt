@@ -38,10 +38,10 @@ use Rattle.refuse_records.specs.Accepting.{context_class}
 use Rattle.call_undo.specs.Saves.{saved_words}
 use Rattle.call_outcome.specs.Attempts.{lengths_of}
 use Rattle.call_outcome.specs.Calls.{Call, Outcome, call, given, room_for, context_wrong, lengths_wrong, candidate_count, call_class, lent_instruction, lent_world, concluded, outcome}
-use Rattle.image_pieces.specs.Pieces.{Answer, answer_of}
+use Rattle.image_pieces.specs.Pieces.{Answer, refused_as, answer_of}
 use Rattle.image_job.specs.Reading.{Said, said_of, Tables, tables, Read, given as given_read, job_of, filled, no_job, lent_wrong, read_class, read_image}
 use Rattle.image_outcome.proofs.Laws.Full.{full_lengths, no_context_full, emptied_full}
-use Rattle.image_outcome.specs.Inferring.{empty, set_words, candidate_words, job_call, image_call, memory_wrong, any_wrong, Left, left, refused_as, answered, keeps, settled, nothing, leaves, Fits}
+use Rattle.image_outcome.specs.Inferring.{empty, set_words, candidate_words, job_call, image_call, memory_wrong, any_wrong, Left, left, answered, keeps, settled, nothing, leaves, Fits}
 
 -- ---- what is shown of a call
 

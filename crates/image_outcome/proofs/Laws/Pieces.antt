@@ -18,9 +18,9 @@ use Rattle.call_outcome.specs.Calls.{Call, Outcome, call_class, lent_instruction
 use Rattle.laws_suffices.proofs.Laws.Whole.{nothing_lost}
 use Rattle.image_job.specs.Reading.{job_of}
 use Rattle.image_text.specs.Texts.{lent_listing}
-use Rattle.image_pieces.specs.Pieces.{Answer}
+use Rattle.image_pieces.specs.Pieces.{Answer, refused_as}
 use Rattle.image_pieces.proofs.Laws.Whole.{pieces_listed, pieces_refused}
-use Rattle.image_outcome.specs.Inferring.{job_call, image_call, shown, inferred, any_wrong, written, left, refused_as, answered, keeps, settled, nothing, leaves, pieces_of}
+use Rattle.image_outcome.specs.Inferring.{job_call, image_call, shown, inferred, any_wrong, written, left, answered, keeps, settled, nothing, leaves, pieces_of}
 
 -- ---- zeros after the rows of a table
 

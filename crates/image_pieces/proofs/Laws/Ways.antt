@@ -15,7 +15,7 @@ use Rattle.image_text.specs.Texts.{Cursor, cursor, put_all, head_line}
 use Rattle.image_text.proofs.Laws.Text.{put_fits}
 use Rattle.image_text.proofs.Laws.Loops.{not_shown}
 use Rattle.image_pieces.specs.declared.Shown.{Shown}
-use Rattle.image_pieces.specs.Pieces.{Answer, answer_of, answer_told, refused_by, piece_bytes, effect_line, effect_run, value_run, listed_piece, refused_piece, piece, Writes, puts}
+use Rattle.image_pieces.specs.Pieces.{Answer, answer_of, answer_told, refused_as, piece_bytes, effect_line, effect_run, value_run, listed_piece, refused_piece, piece, Writes, puts}
 
 -- ---- the line of an effect
 
@@ -138,11 +138,11 @@ module _ (a : Result Shown ℕ) (b : Answer) (vs ss os : List ℕ) (k : ℕ) (bs
       ∙ ap (λ (x : Answer). puts (piece x vs ss os k) bs) (sym (ap answer_told h) ∙ e)
 
   -- one by the number 0, which is none: a listing of nothing
-  pub puts_nothing : (s : Shown) (n : ℕ) → a ≡ Err n → n ≡ 0 → answer_of (Ok s) ≡ refused_by 0 → piece_bytes ≤ length bs → Writes (listed_piece (answer_of (Ok s)) vs ss os k) (cursor 0 bs) (cursor r us) → cursor r us ≡ puts (piece b vs ss os k) bs
+  pub puts_nothing : (s : Shown) (n : ℕ) → a ≡ Err n → n ≡ 0 → answer_of (Ok s) ≡ refused_as 0 → piece_bytes ≤ length bs → Writes (listed_piece (answer_of (Ok s)) vs ss os k) (cursor 0 bs) (cursor r us) → cursor r us ≡ puts (piece b vs ss os k) bs
   unfolding piece
   puts_nothing s n h z y l w =
       puts_whole _ bs us r l w
-      ∙ ap (λ (x : Answer). puts (piece x vs ss os k) bs) (y ∙ ap refused_by (sym z) ∙ sym (ap answer_told h) ∙ e)
+      ∙ ap (λ (x : Answer). puts (piece x vs ss os k) bs) (y ∙ ap refused_as (sym z) ∙ sym (ap answer_told h) ∙ e)
 
   -- a listing
   pub puts_listed : (s : Shown) → a ≡ Ok s → piece_bytes ≤ length bs → Writes (listed_piece (answer_of (Ok s)) vs ss os k) (cursor 0 bs) (cursor r us) → cursor r us ≡ puts (piece b vs ss os k) bs
