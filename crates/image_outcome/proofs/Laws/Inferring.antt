@@ -1,5 +1,6 @@
 -- Laws by which the functions from the bytes of an image to what is shown of it meet their definitions, one for each way through. Assumes nothing.
 use Rattle.std.specs.Prelude.{ℕ, ◌+◌, ◌-◌, ◌%◌, ◌≤◌, ◌≡◌, Bool, not, ◌||◌, eqb, ltb, length, take, drop, Result, Ok, Err}
+use Rattle.std.specs.Result.{is_err}
 use Rattle.std.proofs.Common.{arith, ◌∙◌, length-drop, drop_of_length-le, length-take-le, take_at}
 use Rattle.std.proofs.Math.Path.{refl, sym, ap, ap₂}
 use Rattle.std.proofs.Math.Bool.{true, false}
@@ -38,6 +39,7 @@ use Rattle.refuse_records.specs.Accepting.{context_class}
 use Rattle.call_undo.specs.Saves.{saved_words}
 use Rattle.call_outcome.specs.Attempts.{lengths_of}
 use Rattle.call_outcome.specs.Calls.{Call, Outcome, call, given, room_for, context_wrong, lengths_wrong, candidate_count, call_class, lent_instruction, lent_world, concluded, outcome}
+use Rattle.image_pieces.specs.declared.Shown.{Shown}
 use Rattle.image_pieces.specs.Pieces.{Answer, refused_as, answer_of}
 use Rattle.image_job.specs.Reading.{Said, said_of, Tables, tables, Read, given as given_read, job_of, filled, no_job, lent_wrong, read_class, read_image}
 use Rattle.image_outcome.proofs.Laws.Full.{full_lengths, no_context_full, emptied_full}
@@ -68,6 +70,16 @@ module _ (s : Answer) (vs ss os : List ℕ) where
   unfolding settled
   settled_zero us ts ps h a b c =
       ap₂ (λ (x y : List ℕ). left s x y ps) a b ∙ ap (left s (zeros (length vs)) (zeros (length ss))) c ∙ sym (ite_ne s.refusal 0 _ _ h)
+
+module _ (vs ss os : List ℕ) where
+  -- the same of what the code answers
+  pub settled_shown : (a : Result Shown Refusal) → is_err a ≡ false → left (answer_of a) vs ss os ≡ settled (left (answer_of a) vs ss os)
+  settled_shown (Ok s) h = settled_same (answer_of (Ok s)) vs ss os refl
+  settled_shown (Err n) h = absurd (let z : ◌≡◌ {A = ℕ} 0 1 = cc in omega arith)
+
+  pub settled_refused : (a : Result Shown Refusal) (us ts ps : List ℕ) → is_err a ≡ true → us ≡ zeros (length vs) → ts ≡ zeros (length ss) → ps ≡ zeros (length os) → left (answer_of a) us ts ps ≡ settled (left (answer_of a) vs ss os)
+  settled_refused (Ok s) us ts ps h e f g = absurd (let z : ◌≡◌ {A = ℕ} 0 1 = cc in omega arith)
+  settled_refused (Err n) us ts ps h e f g = settled_zero (answer_of (Err n)) vs ss os us ts ps (number_some n) e f g
 
 -- ---- the memory of a call
 

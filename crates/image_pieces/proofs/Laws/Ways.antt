@@ -14,6 +14,9 @@ use Rattle.def_image.specs.Listing.{ascii, line, lines_from, effect_row, value_l
 use Rattle.image_text.specs.Texts.{Cursor, cursor, put_all, head_line}
 use Rattle.image_text.proofs.Laws.Text.{put_fits}
 use Rattle.image_text.proofs.Laws.Loops.{not_shown}
+use Rattle.def_refusals.specs.declared.Refusal.{Refusal}
+use Rattle.def_refusals.specs.Verdicts.{number_of}
+use Rattle.def_refusals.proofs.Laws.Verdicts.{number_some}
 use Rattle.image_pieces.specs.declared.Shown.{Shown}
 use Rattle.image_pieces.specs.Pieces.{Answer, answer_of, answer_told, refused_as, piece_bytes, effect_line, effect_run, value_run, listed_piece, refused_piece, piece, Writes, puts}
 
@@ -129,11 +132,11 @@ puts_shows text bs us r l e =
     ∙ take-append_seam text (drop (length text) bs)
 
 module _ (a : Result Shown ℕ) (b : Answer) (vs ss os : List ℕ) (k : ℕ) (bs us : List ℕ) (r : ℕ) (e : answer_told a ≡ b) where
-  -- a refusal
-  -- one way through `put_piece`
-  pub puts_refused : (n : ℕ) → a ≡ Err n → (n ≡ 0 → ⊥) → piece_bytes ≤ length bs → Writes (refused_piece n k) (cursor 0 bs) (cursor r us) → cursor r us ≡ puts (piece b vs ss os k) bs
+  -- a number by which a job is refused
+  -- one way through `put_piece` each
+  pub puts_number : (n : ℕ) → a ≡ Err n → (n ≡ 0 → ⊥) → piece_bytes ≤ length bs → Writes (refused_piece n k) (cursor 0 bs) (cursor r us) → cursor r us ≡ puts (piece b vs ss os k) bs
   unfolding piece
-  puts_refused n h p l w =
+  puts_number n h p l w =
       puts_whole _ bs us r l (as_text (sym (ite_ne n 0 (listed_piece (answer_told (Err n)) vs ss os k) (refused_piece n k) p)) w)
       ∙ ap (λ (x : Answer). puts (piece x vs ss os k) bs) (sym (ap answer_told h) ∙ e)
 
@@ -145,6 +148,16 @@ module _ (a : Result Shown ℕ) (b : Answer) (vs ss os : List ℕ) (k : ℕ) (bs
       ∙ ap (λ (x : Answer). puts (piece x vs ss os k) bs) (y ∙ ap refused_as (sym z) ∙ sym (ap answer_told h) ∙ e)
 
   -- a listing
-  pub puts_listed : (s : Shown) → a ≡ Ok s → piece_bytes ≤ length bs → Writes (listed_piece (answer_of (Ok s)) vs ss os k) (cursor 0 bs) (cursor r us) → cursor r us ≡ puts (piece b vs ss os k) bs
+  pub puts_told : (s : Shown) → a ≡ Ok s → piece_bytes ≤ length bs → Writes (listed_piece (answer_of (Ok s)) vs ss os k) (cursor 0 bs) (cursor r us) → cursor r us ≡ puts (piece b vs ss os k) bs
   unfolding piece
-  puts_listed s h l w = puts_whole _ bs us r l w ∙ ap (λ (x : Answer). puts (piece x vs ss os k) bs) (sym (ap answer_told h) ∙ e)
+  puts_told s h l w = puts_whole _ bs us r l w ∙ ap (λ (x : Answer). puts (piece x vs ss os k) bs) (sym (ap answer_told h) ∙ e)
+
+-- the same of what the code answers
+module _ (a : Result Shown Refusal) (vs ss os : List ℕ) (k : ℕ) (bs us : List ℕ) (r : ℕ) where
+  -- a refusal
+  pub puts_refused : (e : Refusal) (n : ℕ) → a ≡ Err e → n ≡ number_of e → piece_bytes ≤ length bs → Writes (refused_piece n k) (cursor 0 bs) (cursor r us) → cursor r us ≡ puts (piece (answer_of a) vs ss os k) bs
+  puts_refused e n h q = puts_number (Err n) (answer_of a) vs ss os k bs us r (ap refused_as q ∙ sym (ap answer_of h)) n refl (λ z. number_some e (sym q ∙ z))
+
+  -- a listing
+  pub puts_listed : (s : Shown) → a ≡ Ok s → piece_bytes ≤ length bs → Writes (listed_piece (answer_of (Ok s)) vs ss os k) (cursor 0 bs) (cursor r us) → cursor r us ≡ puts (piece (answer_of a) vs ss os k) bs
+  puts_listed s h = puts_told (Ok s) (answer_of a) vs ss os k bs us r (sym (ap answer_of h)) s refl
